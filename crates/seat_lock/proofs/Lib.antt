@@ -1,0 +1,11 @@
+mod ViewLemmas
+mod EntryLemmas
+mod DrawLemmas
+mod LookLemmas
+mod LeaveLemmas
+mod IdleLemmas
+mod MakingLemmas
+mod TurnLemmas
+mod CloseLemmas
+mod NewLemmas
+mod RowLemmas

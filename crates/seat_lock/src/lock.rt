@@ -1,0 +1,78 @@
+//! The lock: turns, joined seats, and the state back at the end.
+ghost use Rattle.std.specs.Prelude.{◌≡◌, Some};
+ghost use Rattle.seat_lock.specs.History.{IsTurn, IsJoin, HasAll, IsWhole};
+
+use crate::kept::{Kept, Op};
+use crate::rule::LockTable;
+use crate::seat::Seat;
+use crate::steps::{catch_up, draw, give, merge, take};
+use std::marker::Model;
+use std::sync::Wait;
+
+/// A state that is changed by one operation at a time, in the order of tickets. Contracts see which lock it is.
+#[derive(Drop)]
+pub struct SeatLock<S: Kept> {
+    pub(crate) table: LockTable<S>,
+}
+
+impl<S: Kept> Model for SeatLock<S> {
+    ghost use Rattle.std.specs.Prelude.{◌≡◌};
+    ghost use Rattle.atomic_table.specs.Seated.{TableId, table_id_coded};
+
+    ghost Value = { TableId };
+
+    ghost coded = { table_id_coded };
+
+    ghost view = { λ l. l.table.shared.table_id };
+
+    ghost invariant = { λ l. (l.table.shared.table_id.words ≡ 2) × (l.table.shared.table_id.slots ≡ 1) };
+}
+
+impl<S: Kept> SeatLock<S> {
+    /// Waits for the seat's turn, and runs the operation once, alone.
+    pub fn turn<R: Wait, O: Op<S>>(&self, rt: &R, seat: &mut Seat<S>, op: O) -> O::Reply
+        requires { seat.old.lock ≡ self.now }
+        ensures { IsTurn S.maker (O.means op) seat.old result seat.new }
+    {
+        let desk = &self.table.shared;
+        let ticket = draw(desk, &mut seat.token);
+        let mut state = take(rt, desk, &mut seat.token, ticket);
+        let reply = op.run(&mut state, seat.number);
+        give(desk, &mut seat.token, state);
+        reply
+    }
+
+    /// Joins the right seat into the left one, which then knows what both have seen.
+    pub fn join(&self, left: Seat<S>, right: Seat<S>) -> Seat<S>
+        requires left { left.lock ≡ self.now }
+        requires right { right.lock ≡ self.now }
+        ensures { IsJoin left right result }
+    {
+        let Seat { number, mut token } = left;
+        let Seat {
+            number: _,
+            token: other,
+        } = right;
+        merge(&self.table.shared, &mut token, other);
+        catch_up(&self.table.shared, &mut token);
+        Seat { number, token }
+    }
+
+    /// Takes the lock apart, and gives back the state. The seat is the lock's only one, or has all others.
+    pub fn close(self, seat: Seat<S>) -> S
+        requires lock { seat.lock ≡ self }
+        requires all { HasAll seat }
+        ensures history { IsWhole S.maker seat (S.stands result) }
+        ensures setting { seat.setting ≡ Some (S.setting result) }
+    {
+        let SeatLock { table } = self;
+        let Seat { number: _, token } = seat;
+        let mut closed = table.close_with(token);
+        let found = closed.take(0);
+        closed.free();
+        match found {
+            Some(state) => state,
+            None => unreachable!(),
+        }
+    }
+}
