@@ -1,0 +1,10 @@
+//! The queue of deadlines: a finite map from keys to due moments that also knows which comes first.
+#![tactic(auto)]
+
+mod key;
+mod queue;
+#[cfg(test)]
+mod tests;
+
+pub use key::Key;
+pub use queue::Queue;
