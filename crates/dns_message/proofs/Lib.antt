@@ -1,0 +1,9 @@
+pub mod NameLemmas
+pub mod UnitLemmas
+pub mod PieceLemmas
+pub mod FaultLemmas
+pub mod SpellingLemmas
+pub mod PrintingLemmas
+pub mod RunLemmas
+pub mod ItemLemmas
+pub mod StringLemmas

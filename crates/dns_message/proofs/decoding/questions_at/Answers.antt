@@ -1,0 +1,23 @@
+use Rattle.std.proofs.Common.{◌∙◌, sym, arith}
+use Rattle.std.proofs.lemmas.Grind.{common_steps}
+use Rattle.std.proofs.lemmas.Result.{err_from_is_err_and}
+use Rattle.dns_message.specs.Reading.{question_of}
+use Rattle.dns_message.proofs.ItemLemmas.{items_more, items_stop, items_end}
+use Rattle.dns_message.proofs.decoding.questions_at.Goals as goal
+
+pub loop-preserved : goal.loop-preserved
+loop-preserved c = record {
+  within = c.in_ok-question.ensures.end;
+  counted = grind (arith, common_steps);
+  read = rw c.in_ok-push.ensures.items (sym (items_more (question_of c.args.bytes.now) c.loop.questions.items c.args.count c.loop.counter c.loop.next c.in_ok-question.question c.in_ok-question.after c.loop-test.true c.in_ok-question.ensures.read) ∙ c.loop.invariant.read);
+}
+
+pub returns-in_err-question-clause-read : goal.returns-in_err-question-clause-read
+returns-in_err-question-clause-read c =
+    let p = err_from_is_err_and c.from_residual-in_err-question.result c.from_residual-in_err-question.ensures.1 in
+    rw (p.1, p.2) (λ ne. sym c.loop.invariant.read
+    ∙ items_stop (question_of c.args.bytes.now) c.loop.questions.items c.args.count c.loop.counter c.loop.next c.in_err-question.field-0.0 c.loop-test.true (c.in_err-question.ensures.read ne))
+
+pub returns-clause-read : goal.returns-clause-read
+returns-clause-read c =
+    rw c.from_vec.ensures (sym c.loop.invariant.read ∙ items_end (question_of c.args.bytes.now) c.loop.questions.items c.args.count c.loop.counter c.loop.next c.loop-test.false)

@@ -1,0 +1,82 @@
+//! Names made of labels, and names made of names.
+
+ghost use Rattle.std.specs.Prelude.{◌≡◌, ◌+◌, ◌<◌, ◌≤◌, ◌⊎◌, ◌∷◌, ◌++◌, [], length, map, IfOk, IfErr, OnOk};
+ghost use Rattle.std.specs.List.{AllByRecursion};
+ghost use Rattle.dns_message.specs.Name.{IsLabel, IsName, wire_length, joined_name};
+ghost use Rattle.dns_message.specs.Faults.{HasNameCause};
+
+use crate::fault::NameFault;
+use crate::name::{LABEL_MOST, NAME_MOST, Name};
+use item_list::{Bytes, NoMemory};
+use std::alloc::Global;
+
+/// Adds a label that a text or a list of labels has at `end` and begins at `start`.
+pub(crate) fn add_label(
+    name: &mut Name,
+    label: Bytes,
+    start: u64,
+    end: u64,
+) -> Result<(), NameFault>
+    requires { length label ≤ 63 }
+    ensures ok { OnOk result (name.new ≡ name.old ++ label ∷ []) }
+    ensures refused { IfErr result (HasNameCause ((length label ≡ 0) ⊎ (255 < wire_length name.old + length label + 1))) }
+{
+    if label.is_empty() {
+        return Err(NameFault::EmptyLabel(end));
+    }
+    if name.wire_len() + label.len() + 1 > NAME_MOST {
+        return Err(NameFault::LongName(start));
+    }
+    name.push_label(label)?;
+    Ok(())
+}
+
+impl Name {
+    /// The name of these labels. The faults have a label's index for their offset.
+    pub fn from_labels(alloc: Global, labels: &[&[u8]]) -> Result<Name, NameFault>
+        ensures made { IfOk result (λ name. name ≡ map (λ label. label.now) labels.now) }
+        ensures refused { IfErr result (HasNameCause (¬ IsName (map (λ label. label.now) labels.now))) }
+    {
+        let mut name = Name::root(alloc);
+        for (i, label) in labels.iter().enumerate() {
+            if label.len() > LABEL_MOST {
+                return Err(NameFault::LongLabel(i as u64));
+            }
+            add_label(&mut name, Bytes::of(alloc, label)?, i as u64, i as u64)?;
+        }
+        Ok(name)
+    }
+
+    /// An equal name.
+    pub fn copy(&self, alloc: Global) -> Result<Name, NoMemory>
+        ensures { IfOk result (λ copied. copied ≡ self.now) }
+    {
+        let mut copied = Name::root(alloc);
+        copied.add_labels(alloc, self.as_labels())?;
+        Ok(copied)
+    }
+
+    /// The labels of this name and then those of a domain, or none where they take more than 255 bytes.
+    pub fn joined(&self, alloc: Global, domain: &Name) -> Result<Option<Name>, NoMemory>
+        ensures { IfOk result (λ name. name ≡ joined_name self.now domain.now) }
+    {
+        if self.wire_len() + domain.wire_len() > NAME_MOST + 1 {
+            return Ok(None);
+        }
+        let mut name = self.copy(alloc)?;
+        name.add_labels(alloc, domain.as_labels())?;
+        Ok(Some(name))
+    }
+
+    /// Adds copies of labels at the end.
+    fn add_labels(&mut self, alloc: Global, labels: &[Bytes]) -> Result<(), NoMemory>
+        requires labels { AllByRecursion IsLabel labels.now }
+        requires room { wire_length self.old + wire_length labels.now ≤ 256 }
+        ensures { OnOk result (self.new ≡ self.old ++ labels.now) }
+    {
+        for label in labels {
+            self.push_label(Bytes::of(alloc, label.as_slice())?)?;
+        }
+        Ok(())
+    }
+}

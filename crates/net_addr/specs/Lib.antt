@@ -1,0 +1,9 @@
+pub mod Addr
+pub mod Canonical
+pub mod Ip
+pub mod Mapped
+pub mod Prefix
+pub mod Reading
+pub mod Reverse
+pub mod Scope
+pub mod Text
