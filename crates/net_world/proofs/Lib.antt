@@ -1,0 +1,5 @@
+pub mod CauseLemmas
+mod ClockLemmas
+mod FirstLemmas
+mod MapLemmas
+mod ScriptLemmas

@@ -1,0 +1,72 @@
+// Output that stays in memory.
+
+ghost use Rattle.std.specs.Prelude.{◌≡◌, [], IfOk, OnErr};
+ghost use Rattle.net_world.specs.MemSink.{PutsWhole};
+
+use crate::answers::PutEnd;
+use crate::failing::{Failing, raise};
+use crate::sink::Sink;
+use dns_message::NoMemory;
+use std::marker::Model;
+
+/// A sink in memory: it keeps all bytes, and the puts that were named at its making fail.
+#[derive(Debug, Drop)]
+pub struct MemSink {
+    bytes: Vec<u8>,
+    calls: u64,
+    failing: Failing,
+}
+
+impl Model for MemSink {
+    ghost use Rattle.net_world.specs.MemSink.{SinkState};
+
+    ghost Value = { SinkState };
+
+    ghost view = { λ s. record { bytes = s.bytes.items; calls = s.calls; fails = s.failing.numbers; faults = s.failing.faults } };
+}
+
+impl MemSink {
+    /// An empty sink whose puts with these numbers, from 0, fail. It takes no memory.
+    pub fn make(fails: Vec<u64>) -> MemSink
+        ensures { result ≡ record { bytes = []; calls = 0; fails = fails.items; faults = 0 } }
+    {
+        MemSink {
+            bytes: Vec::new(*fails.allocator()),
+            calls: 0,
+            failing: Failing::new(fails),
+        }
+    }
+
+    /// All bytes that were put.
+    pub fn bytes(&self) -> &[u8]
+        ensures { result.now ≡ self.now.bytes }
+    {
+        &self.bytes
+    }
+
+    /// Adds these bytes at the end. A put that fails adds nothing.
+    pub fn put(&mut self, text: &[u8]) -> Result<PutEnd, NoMemory>
+        ensures ok { IfOk result (PutsWhole text.now self.old self.new) }
+        ensures err { OnErr result (self.new ≡ self.old) }
+    {
+        let failed = self.failing.fails(self.calls);
+        if !failed {
+            self.bytes.extend_from_slice(text)?;
+        }
+        self.calls = raise(true, self.calls);
+        self.failing.count(failed);
+        Ok(if failed { PutEnd::Failed } else { PutEnd::Done })
+    }
+}
+
+impl Sink for MemSink {
+    ghost use Rattle.std.specs.Prelude.{Some};
+
+    ghost bytes = { λ s. Some s.bytes };
+
+    ghost faults = { λ s. s.faults };
+
+    fn put(&mut self, text: &[u8]) -> Result<PutEnd, NoMemory> {
+        MemSink::put(self, text)
+    }
+}
