@@ -1,0 +1,51 @@
+ghost use Rattle.std.specs.Prelude.{◌≡◌};
+ghost use Rattle.adig_tool.specs.Steps.{IsSameSoFar};
+
+use crate::channel::Channel;
+use item_list::NoMemory;
+use net_world::{Got, World};
+
+/// The most items that one turn receives.
+const MOST: u64 = 64;
+
+/// Receives until nothing is there, or 64 items. Answers how many came.
+#[tactic(auto, using(crate::proofs::StepsLemmas::same_here, crate::proofs::StepsLemmas::same_through))]
+pub fn receive_all<W: World>(
+    channel: &mut Channel,
+    world: &mut W,
+    reading: u64,
+) -> Result<u64, NoMemory>
+    ensures same { IsSameSoFar channel.old channel.new }
+    ensures waits { W.wait_faults world.new ≡ W.wait_faults world.old }
+{
+    for received in 0..MOST {
+        if !receive_one(channel, world, reading)? {
+            return Ok(received);
+        }
+    }
+    Ok(MOST)
+}
+
+/// Receives one item and hands it to the channel, if one is there. No link is held, so what comes over one is passed over.
+#[tactic(auto, using(crate::proofs::StepsLemmas::same_here, crate::proofs::StepsLemmas::same_through))]
+fn receive_one<W: World>(
+    channel: &mut Channel,
+    world: &mut W,
+    reading: u64,
+) -> Result<bool, NoMemory>
+    ensures same { IsSameSoFar channel.old channel.new }
+    ensures waits { W.wait_faults world.new ≡ W.wait_faults world.old }
+{
+    match world.receive()? {
+        Got::Datagram(server, bytes) => {
+            channel.arrive(server, 0, bytes.as_slice())?;
+        }
+        Got::Piece(_, _) => {}
+        Got::Ended(_) => {}
+        Got::Failed(server, link) => {
+            channel.fault(server, link, reading)?;
+        }
+        Got::Nothing => return Ok(false),
+    }
+    Ok(true)
+}
