@@ -37,11 +37,13 @@ module _ {E : Type 0} (maker : E → ℕ) where
       let rest : p.0 ≡ [] = nothing seats p.0 (all_behind (λ e. maker e < seats) seen p.0 (subst (All (λ e. maker e < seats)) (sym p.1) all)) empty in
       sym p.1 ∙ (ap (λ l. seen ++ l) rest ∙ append-nil seen)
     where
+      -- the rest of the history has nothing of any seat
       empty : (n : ℕ) → n < seats → made_by maker n p.0 ≡ []
       empty n lt = append_cancel_left (made_by maker n seen) (made_by maker n p.0) [] (sym (filter-append (λ e. maker e == n) seen p.0) ∙ (ap (made_by maker n) p.1 ∙ (same n lt ∙ sym (append-nil (made_by maker n seen)))))
 
 module _ {S E T : Type 0} (stands : S → List E) (maker : E → ℕ) (setting : S → T) (key : Opened S) (lock : TableId) (s : State (std.Option S) (View E T)) (k : IsKept stands maker setting key s) (id : ℕ) (v : View E T) (c : T)
     (here : get_elem? s.views id ≡ some v) (idle : v.phase ≡ Idle) (is_set : v.setting ≡ Some c) (aware : IsAware maker v) (has : HasAll (known_by lock v)) where
+  -- the seat fits the history
   was : IsFit maker (setting key.state) key.seats k.log s.views id v
   was = fits_here v c is_set (k.fits id v here)
 
@@ -49,6 +51,7 @@ module _ {S E T : Type 0} (stands : S → List E) (maker : E → ℕ) (setting :
   each : (n : ℕ) → n < key.seats → (n ≡ v.number) ⊎ Contains (map (λ j. j.number) v.joined) n
   each n lt = has n (omega (arith, lt, was.seats_are))
 
+  -- the place of a joined seat is spent
   spent_there : (n : ℕ) → Contains (map (λ j. j.number) v.joined) n → get_elem? s.views n ≡ some spent
   spent_there n at = All-contains (λ m. get_elem? s.views m ≡ some spent) (map (λ j. j.number) v.joined) n
       (All-map (λ m. get_elem? s.views m ≡ some spent) (λ (j : Left E). j.number) v.joined (λ i d lt. (was.joined i d lt).0)) at
@@ -61,6 +64,7 @@ module _ {S E T : Type 0} (stands : S → List E) (maker : E → ℕ) (setting :
       (λ (e : Contains (map (λ j. j.number) v.joined) i). let no : false ≡ true = ap (λ z. has_turn z.phase) (one_there s.views i spent u (spent_there i e) at) ∙ h in absurd (cc))
       (each i (omega (arith, within s.views i u at, k.few)))
 
+  -- the seat has seen all that each seat made
   same : (n : ℕ) → n < key.seats → made_by maker n k.log ≡ made_by maker n v.seen
   same n lt =
       ⊎_elim
@@ -70,9 +74,11 @@ module _ {S E T : Type 0} (stands : S → List E) (maker : E → ℕ) (setting :
       (All-map (λ m. made_by maker m k.log ≡ made_by maker m v.seen) (λ (j : Left E). j.number) v.joined (λ i d lt. sym (was.joined i d lt).1.own ∙ (aware.joined i d lt).own)) e)
       (each n lt)
 
+  -- so it has seen the whole history
   all_seen : k.log ≡ v.seen
   all_seen = whole maker key.seats v.seen k.log was.seen k.makers same
 
+  -- and accounts for it
   whole_log : IsWhole maker (known_by lock v) k.log
   whole_log =
       record {
@@ -82,6 +88,7 @@ module _ {S E T : Type 0} (stands : S → List E) (maker : E → ℕ) (setting :
         makers = subst (λ n. All (λ e. maker e < n) k.log) (sym was.seats_are) k.makers;
       }
 
+  -- the state is at home, and is what the seat knows
   pub closes : (x : S) × (s.homes ≡ some (Some x) ∷ []) × IsWhole maker (known_by lock v) (stands x) × (v.setting ≡ Some (setting x))
   closes =
       ⊎_elim

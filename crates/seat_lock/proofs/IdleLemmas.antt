@@ -29,6 +29,7 @@ module _ {S E T : Type 0} (stands : S → List E) (maker : E → ℕ) (setting :
   abbrev St : Type 0
   St = State (std.Option S) (View E T)
 
+  -- the table with another view at one place
   abbrev changed_to : St → ℕ → View E T → St
   changed_to s id w = record { words = s.words; homes = s.homes; views = set s.views id w }
 
@@ -71,17 +72,20 @@ module _ {S E T : Type 0} (stands : S → List E) (maker : E → ℕ) (setting :
     was : IsFit maker (setting key.state) key.seats k.log s.views id v
     was = fits_here v c is_set (k.fits id v here)
 
+    -- the seat, with all of the history seen
     abbrev aware : View E T
     aware = record v { seen = k.log }
 
     fit : IsFit maker (setting key.state) key.seats k.log (set s.views id aware) id aware
     fit = record { number = was.number; seats_are = was.seats_are; is_set = was.is_set; own = was.own; seen = prefix_self k.log; joined = left_after maker (setting key.state) key.seats s.views id v aware c here is_set k.log k.log (prefix_self k.log) (λ n ne. refl) v.joined was.joined }
 
+    -- what the step owes, where the words are these
     abbrev Outcome : List ℕ → Type 0
     Outcome ws = (w : View E T) × (a : Act (std.Option S)) × Valid s.homes [] a
         × IsKept stands maker setting key (record { words = ws; homes = homes_after s.homes [] a; views = set s.views id w })
         × CatchesUp {S = S} maker (v, []) (w, carried_after [] a)
 
+    -- whatever the table is, learning the history keeps the rule
     pub catch_up_allows : Outcome (set s.words 0 (slice_index s.words 0))
     catch_up_allows =
         subst Outcome same_words (
@@ -104,23 +108,28 @@ module _ {S E T : Type 0} (stands : S → List E) (maker : E → ℕ) (setting :
       was_too : IsFit maker (setting key.state) key.seats k.log s.views other w
       was_too = fits_here w d is_set_too (k.fits other w there)
 
+      -- the table once the other seat is spent
       abbrev first : St
       first = changed_to s other spent
 
       first_kept : IsKept stands maker setting key first
       first_kept = rests s k other w spent d idle_too refl is_set_too there (inl refl)
 
+      -- this seat is as before
       still : get_elem? (set s.views other spent) id ≡ some v
       still = set_else s.views other id spent (λ e. ne (sym e)) ∙ here
 
+      -- the views once this seat has what the other leaves
       abbrev last : List (View E T)
       last = set (set s.views other spent) id (both v w)
 
+      -- what earlier joined seats left stays
       lefts : (js : List (Left E)) → All (IsLeft maker (setting key.state) key.seats k.log s.views) js → All (IsLeft maker (setting key.state) key.seats k.log last) js
       lefts js all =
           left_after maker (setting key.state) key.seats (set s.views other spent) id v (both v w) c still is_set k.log k.log (prefix_self k.log) (λ n no. refl) js
           (left_after maker (setting key.state) key.seats s.views other w spent d there is_set_too k.log k.log (prefix_self k.log) (λ n no. refl) js all)
 
+      -- what the other leaves is in order
       its : IsLeft maker (setting key.state) key.seats k.log last (joined_by w)
       its = (
         subst (λ n. get_elem? last n ≡ some spent) (sym was_too.number) (set_else (set s.views other spent) id other (both v w) ne ∙ set_here s.views other spent (within s.views other w there)),
@@ -138,6 +147,7 @@ module _ {S E T : Type 0} (stands : S → List E) (maker : E → ℕ) (setting :
             joined = All-append (IsLeft maker (setting key.state) key.seats k.log last) v.joined (joined_by w ∷ w.joined) (lefts v.joined was.joined) (All-cons (IsLeft maker (setting key.state) key.seats k.log last) (joined_by w) w.joined its (lefts w.joined was_too.joined));
           }
 
+      -- whatever the table is, the join keeps the rule
       pub merged : IsKept stands maker setting key (record { words = s.words; homes = s.homes; views = set (set s.views id (both v w)) other spent })
       unfolding first_kept rests
       merged = subst (λ vs. IsKept stands maker setting key (record { words = s.words; homes = s.homes; views = vs })) (sym (set_swap s.views id other (both v w) spent (λ e. ne (sym e)))) (rests first first_kept id v (both v w) c idle idle is_set still (inr fit_both))

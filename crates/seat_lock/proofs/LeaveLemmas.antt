@@ -19,15 +19,18 @@ use Rattle.seat_lock.specs.Steps.{Leaves, IsAware}
 use Rattle.seat_lock.proofs.ViewLemmas.{changed, within, apart_after, tickets_after, fits_here, fits_after, left_after}
 use Rattle.seat_lock.proofs.EntryLemmas.{else_after, mine_after, makers_after, behind}
 
+-- a table of one slot has what was put there
 pub one_home : {A : Type 0} (hs : List A) (y : A) → length hs ≡ 1 → set hs 0 y ≡ y ∷ []
 one_home [] y len = absurd (omega (arith, len))
 one_home (h ∷ []) y len = refl
 one_home (h ∷ i ∷ hs) y len = absurd (omega (arith, len))
 
+-- the value of an option
 of_some : {A : Type 0} → std.Option A → A → A
 of_some None d = d
 of_some (Some a) d = a
 
+-- two options that are there and equal have one value
 pub same_some : {A : Type 0} (a b : A) → ◌≡◌ {A = std.Option A} (Some a) (Some b) → a ≡ b
 unfolding of_some
 same_some a b e = ap (λ o. of_some o a) e
@@ -37,12 +40,15 @@ module _ {S E T : Type 0} (stands : S → List E) (maker : E → ℕ) (setting :
   was : IsFit maker (setting key.state) key.seats k.log s.views id v
   was = fits_here v (setting x) is_set (k.fits id v here)
 
+  -- the seat has the ticket that is served, and has seen all
   turn : (ticket_of v.phase ≡ k.serving ∷ []) × (v.seen ≡ k.log)
   turn = (k.queued id v here).turn has
 
+  -- the entry that came to the state, or none
   abbrev made : List E
   made = option_to_list adds.0
 
+  -- the state stands for the history with it
   goes_on : stands x ≡ k.log ++ made
   goes_on = adds.1 ∙ ap (λ l. l ++ made) turn.1
 
@@ -52,9 +58,11 @@ module _ {S E T : Type 0} (stands : S → List E) (maker : E → ℕ) (setting :
   on : IsPrefix k.log (stands x)
   on = (made, sym goes_on)
 
+  -- the others made what they had
   others_made : (n : ℕ) → n ≢ id → made_by maker n (stands x) ≡ made_by maker n k.log
   others_made n ne = else_after maker k.log (stands x) id n adds.0 goes_on mine ne
 
+  -- the seat, without a ticket and with the entry
   abbrev next : View E T
   next = record v { phase = Idle; own = v.own ++ drop (length v.seen) (stands x); seen = stands x }
 
@@ -64,6 +72,7 @@ module _ {S E T : Type 0} (stands : S → List E) (maker : E → ℕ) (setting :
   same_length : length s.views ≡ length after
   same_length = sym (length-set s.views id next)
 
+  -- its own entries are its filter again
   own : v.own ++ drop (length v.seen) (stands x) ≡ made_by maker id (stands x)
   own = ap (λ l. v.own ++ l) (behind v.seen (stands x) made adds.1) ∙ (ap (λ l. l ++ made) was.own ∙ sym (mine_after maker k.log (stands x) id adds.0 goes_on mine))
 
@@ -90,6 +99,7 @@ module _ {S E T : Type 0} (stands : S → List E) (maker : E → ℕ) (setting :
   silent j u ne at true h = absurd (quiet j u ne at h)
   silent j u ne at false h = refl
 
+  -- the rule holds after the step
   left : IsKept stands maker setting key (record { words = k.drawn % 2 ^ 64 ∷ (k.serving + 1) % 2 ^ 64 ∷ []; homes = some (Some x) ∷ []; views = after })
   left =
       record {
@@ -108,6 +118,7 @@ module _ {S E T : Type 0} (stands : S → List E) (maker : E → ℕ) (setting :
         blank = changed (λ i u. u.phase ≡ Empty → some (Some x) ∷ [] ≡ some None ∷ []) s.views id next (λ e. absurd (cc)) (λ j u ne at e. absurd (quiet j u ne at (ap has_turn e)));
       }
 
+  -- the seat has seen all that it and its joined seats made
   aware : IsAware maker next
   aware =
       record {
@@ -115,6 +126,7 @@ module _ {S E T : Type 0} (stands : S → List E) (maker : E → ℕ) (setting :
         joined = All-weaker (λ j. (get_elem? after j.number ≡ some spent) × IsAccounted maker (stands x) j) (IsAccounted maker (stands x)) (λ j l. l.1) v.joined fit.joined;
       }
 
+  -- what the step owes, where the words are these
   abbrev Outcome : List ℕ → Type 0
   Outcome ws = (w : View E T) × (a : Act (std.Option S)) × Valid s.homes ((0, Some x) ∷ []) a
       × IsKept stands maker setting key (record { words = set ws 1 ((slice_index ws 1 + 1) % 2 ^ 64); homes = homes_after s.homes ((0, Some x) ∷ []) a; views = set s.views id w })
@@ -123,5 +135,6 @@ module _ {S E T : Type 0} (stands : S → List E) (maker : E → ℕ) (setting :
   leaves : length s.homes ≡ 1 → Outcome (k.drawn % 2 ^ 64 ∷ k.serving % 2 ^ 64 ∷ [])
   leaves len = (next, gives, tt, rw (mod-add-mod k.serving (2 ^ 64) 1, one_home s.homes (some (Some x)) len) left, (refl, aware))
 
+  -- whatever the table is, giving back keeps the rule
   pub leave_allows : length s.homes ≡ 1 → Outcome s.words
   leave_allows len = subst Outcome (sym k.words) (leaves len)

@@ -9,3 +9,4 @@ mod TurnLemmas
 mod CloseLemmas
 mod NewLemmas
 mod RowLemmas
+pub mod AddsLemmas

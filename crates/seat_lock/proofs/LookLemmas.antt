@@ -20,6 +20,7 @@ module _ {S E T : Type 0} (stands : S → List E) (maker : E → ℕ) (setting :
   mine : ticket_of v.phase ≡ t ∷ []
   mine = ap ticket_of waits
 
+  -- the ticket is one that is out
   out : (k.serving ≤ t) × (t < k.drawn)
   out = (k.queued id v here).out t mine
 
@@ -27,6 +28,7 @@ module _ {S E T : Type 0} (stands : S → List E) (maker : E → ℕ) (setting :
   same_ticket : k.serving % 2 ^ 64 ≡ t % 2 ^ 64 → k.serving ≡ t
   same_ticket e = one_turn k.serving t (2 ^ 64) out.0 (omega (arith, out.1, k.count, tickets_few s.views, k.few, k.most)) e
 
+  -- the seat with the turn and the state
   abbrev next : S → View E T
   next x = record v { phase = served v.phase; seen = stands x }
 
@@ -50,6 +52,7 @@ module _ {S E T : Type 0} (stands : S → List E) (maker : E → ℕ) (setting :
     queue : IsQueued k.serving k.drawn k.log (length after) (next x)
     queue = record { out = λ n q. let d : k.serving ≡ n = one_ticket k.serving n (sym its ∙ q) in (omega (arith, d), omega (arith, d, turn, out.1)); turn = λ h. (its, stands_for); makes = λ n e. absurd (let no : Holds t ≡ Makes n = sym has ∙ e in cc); first = λ e. absurd (let no : Holds t ≡ Empty = sym has ∙ e in cc) }
 
+    -- the rule holds with the state out
     took : IsKept stands maker setting key (record { words = k.drawn % 2 ^ 64 ∷ k.serving % 2 ^ 64 ∷ []; homes = none ∷ []; views = after })
     took =
         record {
@@ -68,17 +71,21 @@ module _ {S E T : Type 0} (stands : S → List E) (maker : E → ℕ) (setting :
           blank = changed (λ i u. u.phase ≡ Empty → none ∷ [] ≡ some None ∷ []) s.views id (next x) (λ e. absurd (let no : Holds t ≡ Empty = sym has ∙ e in cc)) (λ j u ne at e. absurd (let no : true ≡ false = sym (ap has_turn e) ∙ quiet j u at in cc));
         }
 
+  -- what the step owes, where the words and the slot are these
   abbrev Outcome : List ℕ → List (Option (std.Option S)) → Type 0
   Outcome ws hs = (w : View E T) × (a : Act (std.Option S)) × Valid hs [] a
       × IsKept stands maker setting key (record { words = set ws 1 (slice_index ws 1); homes = homes_after hs [] a; views = set s.views id w })
       × Looks stands setting (v, []) (slice_index ws 1) (w, carried_after [] a)
 
+  -- the words by the rule
   abbrev Words : List ℕ
   Words = k.drawn % 2 ^ 64 ∷ k.serving % 2 ^ 64 ∷ []
 
+  -- before its turn the seat changes nothing
   same : is_served v.phase (k.serving % 2 ^ 64) ≡ false → Outcome Words s.homes
   same wrong = (v, keeps, tt, subst (λ (p : List ℕ × List (View E T)). IsKept stands maker setting key (record { words = p.0; homes = s.homes; views = p.1 })) (λ i. (k.words i, sym (set_again s.views id v here) i)) k, rw wrong refl)
 
+  -- at its turn the seat finds the state at home
   my_turn : is_served v.phase (k.serving % 2 ^ 64) ≡ true → k.serving ≡ t → Outcome Words s.homes
   my_turn now turn = ⊎_elim (λ h. at_home h.0 h.1 h.2 h.3 h.4) (λ h. absurd (away h.0 h.1 h.2 h.3)) k.home
     where
@@ -103,5 +110,6 @@ module _ {S E T : Type 0} (stands : S → List E) (maker : E → ℕ) (setting :
   by_case true is = my_turn (ap (λ p. is_served p (k.serving % 2 ^ 64)) waits ∙ is) (same_ticket (eqb-true (k.serving % 2 ^ 64) (t % 2 ^ 64) is))
   by_case false is = same (ap (λ p. is_served p (k.serving % 2 ^ 64)) waits ∙ is)
 
+  -- whatever the table is, looking keeps the rule
   pub look_allows : Outcome s.words s.homes
   look_allows = subst (λ ws. Outcome ws s.homes) (sym k.words) (by_case ((k.serving % 2 ^ 64) == (t % 2 ^ 64)) refl)

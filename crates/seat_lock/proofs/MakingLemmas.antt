@@ -29,6 +29,7 @@ at_end (x ∷ xs) a b (suc j) e = ⊎_elim (λ h. inl h) (λ h. inr (ap suc h.0,
 pub grown : {A : Type 0} (P : ℕ → A → Type 0) (l : List A) (a : A) → P (length l) a → ((j : ℕ) (b : A) → get_elem? l j ≡ some b → P j b) → (j : ℕ) (b : A) → get_elem? (l ++ a ∷ []) j ≡ some b → P j b
 grown {A} P l a last before j b e = ⊎_elim (λ h. before j b h) (λ (h : (j ≡ length l) × (a ≡ b)). subst (λ (z : ℕ × A). P z.0 z.1) (λ i. (sym h.0 i, h.1 i)) last) (at_end l a b j e)
 
+-- a further view adds its ticket, if it has one
 pub tickets_grown : {E T : Type 0} (vs : List (View E T)) (w : View E T) → tickets (vs ++ w ∷ []) ≡ tickets vs + length (ticket_of w.phase)
 tickets_grown [] w = omega arith
 tickets_grown (x ∷ xs) w = let r = tickets_grown xs w in omega (arith, r)
@@ -41,6 +42,7 @@ apart_grown {E} {T} vs w idle apart i j t u x ei ej tu tx = apart i j t u x (bef
     before n y e q = ⊎_elim (λ h. h) (λ (h : (n ≡ length vs) × (w ≡ y)). absurd (let no : ◌≡◌ {A = List ℕ} [] (t ∷ []) = sym (ap ticket_of idle) ∙ (ap (λ z. ticket_of z.phase) h.1 ∙ q) in cc)) (at_end vs w y n e)
 
 module _ {S E T : Type 0} (stands : S → List E) (maker : E → ℕ) (setting : S → T) (key : Opened S) where
+  -- the rule holds at the start
   pub opened : 0 < key.seats → key.seats ≤ 64 → IsKept stands maker setting key (opening (1 ∷ 0 ∷ []) (None ∷ []) (first_view (setting key.state) key.seats))
   opened some_seats few =
       record {
@@ -80,10 +82,12 @@ module _ {S E T : Type 0} (stands : S → List E) (maker : E → ℕ) (setting :
     alone : has_turn v.phase ≡ true → (j : ℕ) (u : View E T) → j ≢ id → get_elem? s.views j ≡ some u → has_turn u.phase ≡ true → ⊥
     alone has j u ne at h = ne (k.apart j id k.serving u v at here ((k.queued j u at).turn h).0 ((k.queued id v here).turn has).0)
 
+    -- what a seat knows fits in any phase
     fit_in : (p : Phase) → IsFit maker (setting key.state) key.seats k.log (set s.views id (in_phase v p)) id (in_phase v p)
     fit_in p = record { number = was.number; seats_are = was.seats_are; is_set = was.is_set; own = was.own; seen = was.seen; joined = left_after maker (setting key.state) key.seats s.views id v (in_phase v p) c here is_set k.log k.log (prefix_self k.log) (λ n ne. refl) v.joined was.joined }
 
     module _ (empty : v.phase ≡ Empty) where
+      -- the first seat with the slot
       abbrev begun : View E T
       begun = in_phase v (Makes 1)
 
@@ -107,6 +111,7 @@ module _ {S E T : Type 0} (stands : S → List E) (maker : E → ℕ) (setting :
           made_is : (a b : ℕ) → Makes a ≡ Makes b → a ≡ b
           made_is a b e = ap made e
 
+      -- the rule holds with the slot out
       founded : IsKept stands maker setting key (record { words = s.words; homes = none ∷ []; views = begun_views })
       founded =
           record {
@@ -125,11 +130,13 @@ module _ {S E T : Type 0} (stands : S → List E) (maker : E → ℕ) (setting :
             blank = changed (λ i u. u.phase ≡ Empty → none ∷ [] ≡ some None ∷ []) s.views id begun (λ e. absurd (cc)) (λ j u ne at e. absurd (alone has j u ne at (ap has_turn e)));
           }
 
+      -- what the step owes, where the words and the slot are these
       abbrev Outcome : List ℕ → List (Option (std.Option S)) → Type 0
       Outcome ws hs = (w : View E T) × (a : Act (std.Option S)) × Valid hs [] a
           × IsKept stands maker setting key (record { words = ws; homes = homes_after hs [] a; views = set s.views id w })
           × Founds {S = S} (v, []) (w, carried_after [] a)
 
+      -- whatever the table is, taking the empty slot keeps the rule
       pub found_allows : Outcome (set s.words 0 (slice_index s.words 0)) s.homes
       found_allows = subst (λ (p : List ℕ × List (Option (std.Option S))). Outcome p.0 p.1) (λ i. (same_words i, sym (k.blank id v here empty) i)) (begun, takes 0 None, refl, founded, refl)
         where
@@ -137,9 +144,11 @@ module _ {S E T : Type 0} (stands : S → List E) (maker : E → ℕ) (setting :
           same_words = subst (λ ws. ws ≡ set ws 0 (slice_index ws 0)) (sym k.words) refl
 
     module _ (n : ℕ) (makes : v.phase ≡ Makes n) (below : n < v.seats) (unseen : v.seen ≡ []) where
+      -- the first seat, once it has made one more
       abbrev left : View E T
       left = founder v
 
+      -- the seat that it made
       abbrev right : View E T
       right = next_seat v
 
@@ -170,6 +179,7 @@ module _ {S E T : Type 0} (stands : S → List E) (maker : E → ℕ) (setting :
       all_are : length all ≡ length s.views + 1
       all_are = omega (arith, length-append firsts (right ∷ []), firsts_are)
 
+      -- there is no entry yet
       no_log : k.log ≡ []
       no_log = sym ((k.queued id v here).turn has_the).1 ∙ unseen
 
@@ -191,6 +201,7 @@ module _ {S E T : Type 0} (stands : S → List E) (maker : E → ℕ) (setting :
       queue_right : IsQueued k.serving k.drawn k.log (length all) right
       queue_right = record { out = λ t e. absurd (cc); turn = λ h. absurd (cc); makes = λ m e. absurd (cc); first = λ e. absurd (cc) }
 
+      -- what fits goes on fitting as a view is added
       longer : (j : ℕ) (u : View E T) → IsFit maker (setting key.state) key.seats k.log firsts j u → IsFit maker (setting key.state) key.seats k.log all j u
       longer j u f =
           record {
@@ -202,6 +213,7 @@ module _ {S E T : Type 0} (stands : S → List E) (maker : E → ℕ) (setting :
             joined = All-weaker (IsLeft maker (setting key.state) key.seats k.log firsts) (IsLeft maker (setting key.state) key.seats k.log all) (λ l i. (at_longer firsts (right ∷ []) l.number spent i.0, i.1)) u.joined f.joined;
           }
 
+      -- the new seat fits: it has made nothing, and there is nothing
       fit_right : IsFit maker (setting key.state) key.seats k.log all (length firsts) right
       fit_right =
           record {
@@ -213,6 +225,7 @@ module _ {S E T : Type 0} (stands : S → List E) (maker : E → ℕ) (setting :
             joined = All-nil (IsLeft maker (setting key.state) key.seats k.log all);
           }
 
+      -- whatever the table is, making a seat keeps the rule
       pub split : IsKept stands maker setting key (record { words = s.words; homes = s.homes; views = all })
       split =
           record {

@@ -13,13 +13,16 @@ use Rattle.seat_lock.specs.Steps.{in_phase, after_leave}
 use Rattle.seat_lock.specs.Making.{Founds, others}
 
 module _ {S E T : Type 0} (stands : S → List E) (lock : TableId) (c : T) (seats : ℕ) where
+  -- the first seat, before it has made any other
   abbrev begun : View E T
   begun = in_phase (first_view c seats) (Makes 1)
 
+  -- it makes as many as are asked
   pub others_length : (m : ℕ) → length (others lock begun m) ≡ m
   others_length zero = refl
   others_length (suc m) = let r = others_length m in omega (arith, r, length-append (others lock begun m) (newcomer lock c seats (m + 1) ∷ []))
 
+  -- each of them is a newcomer with its number
   pub others_at : (m k : ℕ) (d : Known E T) → k < m → get_or (others lock begun m) k d ≡ newcomer lock c seats (k + 1)
   others_at zero k d lt = absurd (omega (arith, lt))
   others_at (suc m) k d lt =
@@ -33,6 +36,7 @@ module _ {S E T : Type 0} (stands : S → List E) (lock : TableId) (c : T) (seat
     is_begun : founded.0 ≡ begun
     is_begun = ap (λ m. m.0) founds ∙ ap (λ m. in_phase m.0 (Makes 1)) firsts
 
+    -- the first seat is one too, once the state is there
     is_first : known_by lock given.0 ≡ newcomer lock c seats 0
     is_first =
         ap (λ m. known_by lock m.0) gives
@@ -43,6 +47,7 @@ module _ {S E T : Type 0} (stands : S → List E) (lock : TableId) (c : T) (seat
     items_are : items ≡ newcomer lock c seats 0 ∷ others lock begun (seats - 1)
     items_are = are ∙ (λ i. is_first i ∷ others lock (is_begun i) (seats - 1))
 
+    -- together they are the seats of a new lock
     pub new_lock : IsNewLock lock c seats items
     new_lock =
         subst (IsNewLock lock c seats) (sym items_are)

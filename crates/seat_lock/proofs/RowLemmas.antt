@@ -1,18 +1,20 @@
 -- How a row of seats is joined from its end.
-use Rattle.std.proofs.Common.{◌≡◌, ℕ, ◌+◌, ◌<◌, Bool, true, false, List, [], ◌∷◌, ◌++◌, map, length, length-append, refl, sym, ap, ◌∙◌, subst, arith, Some, None, cond, inl, inr}
-use Rattle.std.proofs.lemmas.List.{append-nil, get_or_append_left, get_or_push}
+use Rattle.std.proofs.Common.{◌≡◌, ℕ, ◌+◌, ◌<◌, List, [], ◌∷◌, ◌++◌, map, length, length-append, refl, sym, ap, ◌∙◌, subst, arith, inl, inr}
+use Rattle.std.proofs.lemmas.List.{get_or_append_left, get_or_push}
 use Rattle.std.proofs.lemmas.List.Elements.{Contains-append_right}
 use Rattle.std.specs.List.{Contains}
 use mathlib.Core.Logic.{dite}
 use native.Mathlib.Decide.{ℕ_discrete}
 use Rattle.atomic_table.specs.Seated.{TableId}
-use Rattle.seat_lock.specs.History.{Known, Adds, HasAll, IsJoin, left_by}
+use Rattle.seat_lock.specs.History.{Known, HasAll, IsJoin, left_by}
 use Rattle.seat_lock.specs.Row.{IsSeat, AreSeats, HasRest}
 
 module _ {E T : Type 0} (lock : TableId) (count : ℕ) where
+  -- the last seat of a row has the last number
   pub last_seat : (row : List (Known E T)) (k : Known E T) → AreSeats lock count (row ++ k ∷ []) → IsSeat lock count (length row) k
   last_seat row k are = subst (IsSeat lock count (length row)) (get_or_push row k k (length row) refl) (are (length row) k (omega (arith, length-append row (k ∷ []))))
 
+  -- the seats before it are a row
   pub first_seats : (row : List (Known E T)) (k : Known E T) → AreSeats lock count (row ++ k ∷ []) → AreSeats lock count row
   first_seats row k are n d lt = subst (IsSeat lock count n) (get_or_append_left row (k ∷ []) d n lt) (are n d (omega (arith, lt, length-append row (k ∷ []))))
 
@@ -48,8 +50,3 @@ module _ {E T : Type 0} (lock : TableId) (count : ℕ) where
   -- the first one has all
   pub ends : (k : Known E T) → HasRest lock count [] k → HasAll k
   ends k h n lt = dite (ℕ_discrete n 0) (λ e. inl (e ∙ sym h.number_is)) (λ ne. inr (h.has n (omega (arith, ne)) (omega (arith, lt, h.seats_are))))
-
--- one more mark, or none
-pub marks : (b : Bool) (seat : ℕ) (old new : List ℕ) → new ≡ cond b (old ++ seat ∷ []) old → Adds (λ e. e) seat old new
-marks true seat old new e = (Some seat, e, refl)
-marks false seat old new e = (None, e ∙ sym (append-nil old), tt)

@@ -23,6 +23,7 @@ module _ {S E T : Type 0} (stands : S → List E) (maker : E → ℕ) (setting :
       (number : seat ≡ v.number) (draws : drawn ≡ (in_phase v (Waits t), c)) (takes : TakesOut stands setting drawn state taken)
       (meant : means (setting state) (stands state) seat reply (stands after)) (adds : Adds maker seat (stands state) (stands after))
       (gives : given ≡ (after_leave stands taken.0 ((0, Some after) ∷ []), [])) (aware : IsAware maker given.0) where
+    -- what the seat knows after its turn
     abbrev last : View E T
     last = record v { phase = Idle; own = v.own ++ drop (length (stands state)) (stands after); seen = stands after }
 
@@ -35,9 +36,11 @@ module _ {S E T : Type 0} (stands : S → List E) (maker : E → ℕ) (setting :
     aware_last : IsAware maker last
     aware_last = subst (IsAware maker) is_last aware
 
+    -- the operation added its entry, or nothing
     added : drop (length (stands state)) (stands after) ≡ option_to_list adds.0
     added = behind (stands state) (stands after) (option_to_list adds.0) adds.1
 
+    -- that is one turn
     turn_last : IsTurn maker means (known_by lock v) reply (known_by lock last)
     turn_last =
         record {
@@ -60,6 +63,7 @@ module _ {S E T : Type 0} (stands : S → List E) (maker : E → ℕ) (setting :
         let same : now ≡ lock = gave ∙ (took ∙ drew) in subst (λ (k : Known E T). IsTurn maker means (known_by lock v) reply k) (λ i. known_by (sym same i) (sym is_last i)) turn_last
 
   module _ (w : View E T) (other : TableId) (merged caught : Me (Option S) (View E T)) (merges : merged ≡ (both v w, [])) (catches : CatchesUp maker merged caught) where
+    -- what the left seat knows after the join
     abbrev final : View E T
     final = record v { joined = v.joined ++ joined_by w ∷ w.joined; seen = caught.0.seen }
 
@@ -69,6 +73,7 @@ module _ {S E T : Type 0} (stands : S → List E) (maker : E → ℕ) (setting :
     aware_final : IsAware maker final
     aware_final = subst (IsAware maker) is_final catches.aware
 
+    -- that is one join
     join_final : IsJoin (known_by lock v) (known_by other w) (known_by lock final)
     join_final =
         record {
@@ -78,6 +83,7 @@ module _ {S E T : Type 0} (stands : S → List E) (maker : E → ℕ) (setting :
           rest = refl;
         }
 
+    -- each step keeps the lock
     pub join_is : (one now : TableId) → one ≡ lock → now ≡ one → IsJoin (known_by lock v) (known_by other w) (known_by now caught.0)
     join_is one now merging catching =
         let same : now ≡ lock = catching ∙ merging in subst (λ (k : Known E T). IsJoin (known_by lock v) (known_by other w) k) (λ i. known_by (sym same i) (sym is_final i)) join_final

@@ -30,18 +30,23 @@ within [] i a e = absurd (some-ne-none a (sym e))
 within (x ∷ xs) zero a e = omega arith
 within (x ∷ xs) (suc i) a e = let r = within xs i a e in omega (arith, r)
 
+-- one element stands at one place
 pub one_there : {A : Type 0} (l : List A) (i : ℕ) (a b : A) → get_elem? l i ≡ some a → get_elem? l i ≡ some b → a ≡ b
 one_there l i a b e f = some-injective a b (sym e ∙ f)
 
+-- one list of a ticket has one ticket
 pub one_ticket : (a b : ℕ) → ◌≡◌ {A = List ℕ} (a ∷ []) (b ∷ []) → a ≡ b
 one_ticket a b q = ap (λ l. get_or l 0 0) q
 
+-- a list begins with itself
 pub prefix_self : {A : Type 0} (xs : List A) → IsPrefix xs xs
 prefix_self xs = ([], append-nil xs)
 
+-- a beginning of a beginning is a beginning
 pub prefix_trans : {A : Type 0} (xs ys zs : List A) → IsPrefix xs ys → IsPrefix ys zs → IsPrefix xs zs
 prefix_trans xs ys zs p q = (p.0 ++ q.0, sym (append_assoc xs p.0 q.0) ∙ (ap (λ w. w ++ q.0) p.1 ∙ q.1))
 
+-- a seat has one ticket at most
 pub one_each : (p : Phase) → length (ticket_of p) ≤ 1
 one_each Empty = omega arith
 one_each (Makes n) = omega arith
@@ -85,9 +90,11 @@ module _ {E T : Type 0} where
   fits_here v c s f = ⊎_elim (λ e. absurd (not_spent v c s e)) (λ x. x) f
 
   module _ (maker : E → ℕ) (setting : T) (seats : ℕ) where
+    -- each view is spent or fits
     abbrev pub FitAll : List E → List (View E T) → Type 0
     FitAll log vs = (i : ℕ) (v : View E T) → get_elem? vs i ≡ some v → (v ≡ spent) ⊎ IsFit maker setting seats log vs i v
 
+    -- a joined seat's place is spent, and its entries are accounted for
     abbrev pub IsLeft : List E → List (View E T) → Left E → Type 0
     IsLeft log vs j = (get_elem? vs j.number ≡ some spent) × IsAccounted maker log j
 
@@ -139,6 +146,7 @@ module _ {E T : Type 0} where
   pub queued_else : (serving drawn more : ℕ) (log : List E) (n m : ℕ) (u : View E T) → n ≡ m → drawn ≤ more → IsQueued serving drawn log n u → IsQueued serving more log m u
   queued_else serving drawn more log n m u same le q = record { out = λ t e. let o = q.out t e in (o.0, omega (arith, o.1, le)); turn = q.turn; makes = λ k e. q.makes k e ∙ same; first = λ e. sym same ∙ q.first e }
 
+-- an option that is there has a value
 pub some_setting : {A : Type 0} (o : Option A) → IsSome o → (a : A) × (o ≡ Some a)
 some_setting None h = absurd (cc)
 some_setting (Some a) h = (a, refl)

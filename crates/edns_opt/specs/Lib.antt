@@ -1,0 +1,4 @@
+pub mod Options
+pub mod Opt
+pub mod Reading
+pub mod Causes
