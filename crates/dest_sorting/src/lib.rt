@@ -1,0 +1,13 @@
+//! The order in which the addresses of a name are tried, and the source address that serves each (RFC 6724).
+#![tactic(auto)]
+
+mod policy;
+mod ranks;
+mod sorting;
+mod source;
+
+pub use sorting::sort;
+pub use source::source_for;
+
+#[cfg(test)]
+mod tests;

@@ -1,0 +1,130 @@
+use super::*;
+use std::alloc::Global;
+use std::test::Fail;
+
+/// The names of these texts.
+fn names_of(alloc: Global, texts: &[&str]) -> Result<NameList, Fail> {
+    let mut names = NameList::new(alloc);
+    for text in texts {
+        names.push(Name::from_text(alloc, text.as_bytes())?.name)?;
+    }
+    Ok(names)
+}
+
+/// The texts of these names, with a blank behind each.
+fn texts_of(alloc: Global, names: &NameList) -> Result<Vec<u8>, Fail> {
+    let mut texts = Vec::new(alloc);
+    for name in names.as_slice() {
+        texts.extend_from_slice(name.to_text(alloc)?.as_slice())?;
+        texts.push(b' ')?;
+    }
+    Ok(texts)
+}
+
+/// Options with these domains and dots.
+fn searching(alloc: Global, domains: NameList, ndots: u8) -> Result<Options, Fail> {
+    let mut options = Options::plain(alloc)?;
+    if domains.len() <= 8 && ndots <= 15 {
+        options.set_search(domains, ndots, true);
+    }
+    Ok(options)
+}
+
+/// Names, the domain and the dots of the search list, and what is asked for, by hand after resolv.conf(5):
+/// a search list, a root domain, a name that ends with a dot, enough dots and too few, a repeated name, a hidden service's name.
+const SEARCHES: [(&str, &[&str], u8, &str); 8] = [
+    (
+        "www",
+        &["a.test", "b.test"],
+        1,
+        "www.a.test. www.b.test. www. ",
+    ),
+    ("www", &["."], 1, "www. "),
+    ("www.", &["a.test"], 1, "www. "),
+    ("a.b", &["c.test"], 1, "a.b. a.b.c.test. "),
+    ("a.b", &["c.test"], 2, "a.b.c.test. a.b. "),
+    ("www", &["A.test", "a.TEST"], 0, "www. www.A.test. "),
+    ("www", &["x.onion"], 1, "www. "),
+    (".", &["a.test"], 0, ". "),
+];
+
+#[test]
+fn names_are_searched_in_order(rt: HostRuntime) -> Result<(), Fail> {
+    let alloc = rt.alloc();
+    for (text, domains, ndots, asked) in SEARCHES {
+        let name = Name::from_text(alloc, text.as_bytes())?;
+        let options = searching(alloc, names_of(alloc, domains)?, ndots)?;
+        let names = candidates(alloc, &name, &options)?;
+        assert_eq!(rt;
+            texts_of(alloc, &names)?.as_slice(),
+            asked.as_bytes(),
+            "at {text}"
+        );
+    }
+    Ok(())
+}
+
+/// With a domain of 251 bytes a label of 3 bytes makes a name of 255, and one of 4 is too long (RFC 1035, section 2.3.4).
+#[test]
+fn a_name_that_is_too_long_is_passed_over(rt: HostRuntime) -> Result<(), Fail> {
+    let alloc = rt.alloc();
+    let label = [b'a'; 63];
+    let mut domains = NameList::new(alloc);
+    domains.push(Name::from_labels(alloc, &[&label, &label, &label, &label[..57]])?)?;
+    let options = searching(alloc, domains, 1)?;
+    for (text, count) in [("www", 2), ("wwww", 1)] {
+        let name = Name::from_text(alloc, text.as_bytes())?;
+        assert_eq!(rt;
+            candidates(alloc, &name, &options)?.len(),
+            count,
+            "at {text}"
+        );
+    }
+    Ok(())
+}
+
+/// The defaults of this project's profile; with the switch for it no name is searched; a copy is equal.
+#[test]
+fn options_are_made_set_and_copied(rt: HostRuntime) -> Result<(), Fail> {
+    let alloc = rt.alloc();
+    let options = Options::plain(alloc)?;
+    assert!(rt;
+        options.servers()
+            == &ServerList::of(
+                alloc,
+                &[ServerAddr {
+                    address: Addr::V4(0x7f00_0001),
+                    port: 53
+                }]
+            )?
+    );
+    assert!(rt; (options.timeout(), options.tries(), options.ndots()) == (2000, 3, 1));
+    assert!(rt; (options.max_timeout(), options.edns_size()) == (0, 1232));
+    assert!(rt; options.domains().is_empty() && options.sources().is_empty() && !options.rotate());
+    assert!(rt; options.flags().edns && options.lookups() == Lookups::FilesDns);
+    let mut options = searching(alloc, names_of(alloc, &["a.test"])?, 2)?;
+    let flags = Flags {
+        nosearch: true,
+        ..options.flags()
+    };
+    options.set_flags(flags);
+    options.set_sources(AddrList::of(alloc, &[Addr::V6(1)])?);
+    options.set_numbers(50, 7);
+    options.set_sizes(9000, 512);
+    options.set_lookups(Lookups::Dns);
+    let copied = options.copy(alloc)?;
+    assert!(rt; copied.servers() == options.servers() && copied.sources() == options.sources());
+    assert_eq!(rt;
+        texts_of(alloc, copied.domains())?.as_slice(),
+        b"a.test. ".as_slice()
+    );
+    assert!(rt; (copied.timeout(), copied.tries(), copied.ndots()) == (50, 7, 2));
+    assert!(rt; (copied.max_timeout(), copied.edns_size()) == (9000, 512));
+    assert!(rt; copied.flags() == flags && copied.rotate() && copied.lookups() == Lookups::Dns);
+    let name = Name::from_text(alloc, b"www")?;
+    assert_eq!(rt;
+        texts_of(alloc, &candidates(alloc, &name, &copied)?)?.as_slice(),
+        b"www. ".as_slice()
+    );
+    Ok(())
+}
