@@ -1,5 +1,5 @@
 -- The tests of a search say what they test, and candidates are found one after another.
-use Rattle.std.proofs.Common.{◌≡◌, ◌≢◌, ℕ, ◌+◌, ◌<◌, ◌≤◌, ◌⊎◌, inl, inr, Bool, true, false, cond, not, ◌&&◌, IsTrue, ◌↔◌, List, [], ◌∷◌, ◌++◌, length, map, take, get_or, codes, refl, ap, ◌∙◌, sym, arith, append_assoc, append-nil, ◌||◌, nat_le}
+use Rattle.std.proofs.Common.{◌≡◌, ◌≢◌, ℕ, ◌+◌, ◌<◌, ◌≤◌, ◌⊎◌, inl, inr, Bool, true, false, cond, IsTrue, ◌↔◌, List, [], ◌∷◌, ◌++◌, length, map, take, get_or, codes, refl, ap, ◌∙◌, sym, arith, append_assoc, append-nil, ◌||◌, nat_le}
 use Rattle.std.specs.List.{list_any, filter}
 use Rattle.std.specs.Char.{to_ascii_lowercase}
 use Rattle.std.specs.Cmp.Lexicographic.{pointwise_decides, bytes_decides}
@@ -46,11 +46,7 @@ pub passed_over : (names : List (List (List ℕ))) (name : List (List ℕ)) → 
 passed_over names name (inl onion) = grind (arith, onion)
 passed_over names name (inr same) = grind (arith, same)
 
--- a name is no candidate where it is too long
-pub too_long : (names : List (List (List ℕ))) (name : List (List ℕ)) → 255 < wire_length name → candidates_after names (name ∷ []) ≡ []
-too_long names name long = grind (arith, nat_tests)
-
--- any other name is one
+-- any other name is one, where it isn't too long
 pub added : (names : List (List (List ℕ))) (name : List (List ℕ)) → wire_length name ≤ 255 → last_is (codes "onion") name ≡ false → list_any (same_name name) names ≡ false → candidates_after names (name ∷ []) ≡ name ∷ []
 added names name short onion same = grind (arith, nat_tests, onion, same)
 
