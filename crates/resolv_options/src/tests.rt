@@ -83,25 +83,19 @@ fn a_name_that_is_too_long_is_passed_over(rt: HostRuntime) -> Result<(), Fail> {
     Ok(())
 }
 
-/// The defaults of this project's profile; with the switch for it no name is searched; a copy is equal.
-#[test]
-fn options_are_made_set_and_copied(rt: HostRuntime) -> Result<(), Fail> {
-    let alloc = rt.alloc();
-    let options = Options::plain(alloc)?;
-    assert!(rt;
-        options.servers()
-            == &ServerList::of(
-                alloc,
-                &[ServerAddr {
-                    address: Addr::V4(0x7f00_0001),
-                    port: 53
-                }]
-            )?
-    );
-    assert!(rt; (options.timeout(), options.tries(), options.ndots()) == (2000, 3, 1));
-    assert!(rt; (options.max_timeout(), options.edns_size()) == (0, 1232));
-    assert!(rt; options.domains().is_empty() && options.sources().is_empty() && !options.rotate());
-    assert!(rt; options.flags().edns && options.lookups() == Lookups::FilesDns);
+/// The numbers of options: first wait, tries, dots, longest wait and OPT size.
+fn numbers_of(options: &Options) -> [u32; 5] {
+    [
+        options.timeout(),
+        u32::from(options.tries()),
+        u32::from(options.ndots()),
+        options.max_timeout(),
+        u32::from(options.edns_size()),
+    ]
+}
+
+/// Options with other values than the defaults in every field but the servers.
+fn other_options(alloc: Global) -> Result<Options, Fail> {
     let mut options = searching(alloc, names_of(alloc, &["a.test"])?, 2)?;
     let flags = Flags {
         nosearch: true,
@@ -112,19 +106,37 @@ fn options_are_made_set_and_copied(rt: HostRuntime) -> Result<(), Fail> {
     options.set_numbers(50, 7);
     options.set_sizes(9000, 512);
     options.set_lookups(Lookups::Dns);
-    let copied = options.copy(alloc)?;
-    assert!(rt; copied.servers() == options.servers() && copied.sources() == options.sources());
-    assert_eq!(rt;
-        texts_of(alloc, copied.domains())?.as_slice(),
-        b"a.test. ".as_slice()
-    );
-    assert!(rt; (copied.timeout(), copied.tries(), copied.ndots()) == (50, 7, 2));
-    assert!(rt; (copied.max_timeout(), copied.edns_size()) == (9000, 512));
-    assert!(rt; copied.flags() == flags && copied.rotate() && copied.lookups() == Lookups::Dns);
+    Ok(options)
+}
+
+/// The defaults of this project's profile.
+#[test]
+fn plain_options_are_the_defaults(rt: HostRuntime) -> Result<(), Fail> {
+    let options = Options::plain(rt.alloc())?;
+    assert_eq!(rt; numbers_of(&options), [2000, 3, 1, 0, 1232]);
+    assert_eq!(rt; options.servers().len(), 1);
+    assert!(rt; options.flags().edns);
+    assert!(rt; options.domains().is_empty());
+    Ok(())
+}
+
+/// A copy of set options has what was set.
+#[test]
+fn options_are_set_and_copied(rt: HostRuntime) -> Result<(), Fail> {
+    let copied = other_options(rt.alloc())?.copy(rt.alloc())?;
+    assert_eq!(rt; numbers_of(&copied), [50, 7, 2, 9000, 512]);
+    assert!(rt; copied.flags().nosearch);
+    assert_eq!(rt; copied.lookups(), Lookups::Dns);
+    assert_eq!(rt; copied.sources().len(), 1);
+    Ok(())
+}
+
+/// With the switch for it no name is searched.
+#[test]
+fn nosearch_asks_the_name_alone(rt: HostRuntime) -> Result<(), Fail> {
+    let alloc = rt.alloc();
     let name = Name::from_text(alloc, b"www")?;
-    assert_eq!(rt;
-        texts_of(alloc, &candidates(alloc, &name, &copied)?)?.as_slice(),
-        b"www. ".as_slice()
-    );
+    let names = candidates(alloc, &name, &other_options(alloc)?)?;
+    assert_eq!(rt; texts_of(alloc, &names)?.as_slice(), b"www. ".as_slice());
     Ok(())
 }
