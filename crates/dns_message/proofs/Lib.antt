@@ -7,3 +7,16 @@ pub mod PrintingLemmas
 pub mod RunLemmas
 pub mod ItemLemmas
 pub mod StringLemmas
+pub mod PlainLemmas
+pub mod SpotLemmas
+pub mod TestLemmas
+pub mod AgreementLemmas
+pub mod ShapeLemmas
+pub mod PartLemmas
+pub mod StepLemmas
+pub mod RunGrammarLemmas
+pub mod RdataGrammarLemmas
+pub mod GrammarLemmas
+pub mod WrittenLemmas
+pub mod NameFaultLemmas
+pub mod FirstFaultLemmas

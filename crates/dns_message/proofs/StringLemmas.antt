@@ -17,7 +17,7 @@ strings_enough (suc n) (suc m) (len ∷ bytes) a b =
     ap (λ (count : Option ℕ). cond (ltb (length bytes) len) None (option_map (λ count. count + 1) count))
     (strings_enough n m (drop len bytes) (omega (arith, length-drop len bytes)) (omega (arith, length-drop len bytes)))
 
-strings_cons : (len : ℕ) (bytes : List ℕ) → strings_of (len ∷ bytes) ≡ cond (ltb (length bytes) len) None (option_map (λ count. count + 1) (strings_of (drop len bytes)))
+pub strings_cons : (len : ℕ) (bytes : List ℕ) → strings_of (len ∷ bytes) ≡ cond (ltb (length bytes) len) None (option_map (λ count. count + 1) (strings_of (drop len bytes)))
 unfolding strings_of
 strings_cons len bytes =
     ap (λ (count : Option ℕ). cond (ltb (length bytes) len) None (option_map (λ count. count + 1) count))

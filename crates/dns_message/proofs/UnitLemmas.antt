@@ -52,7 +52,7 @@ mapped_shorter text found e = mapped (escaped text) (escaped_shorter text) e whe
   mapped (Some x) h e = let same : x.1 ≡ found.1 = ap (λ (p : TextUnit × List ℕ). p.1) (same_Some (Byte x.0, x.1) found e) in rw (← same) (h x refl)
 
 -- what is behind the first unit is no longer than what is behind its first byte
-first_shorter : (c : ℕ) (text : List ℕ) (found : TextUnit × List ℕ) → first_unit c text ≡ Some found → length found.1 ≤ length text
+pub first_shorter : (c : ℕ) (text : List ℕ) (found : TextUnit × List ℕ) → first_unit c text ≡ Some found → length found.1 ≤ length text
 first_shorter c text found e =
     elim (chosen (eqb c 46) (Some (Dot, text)) (cond (eqb c 92) (option_map (λ found. (Byte found.0, found.1)) (escaped text)) (Some (Byte c, text))) (Some found) e) [
       | inl s ↦ second_is Dot text found s

@@ -1,7 +1,13 @@
 pub mod Name
+pub mod Question
 pub mod NameText
+pub mod NameFaults
 pub mod NamePrinting
 pub mod Faults
 pub mod Shapes
 pub mod Reading
 pub mod Spelling
+pub mod Validity
+pub mod Message
+pub mod Grammar
+pub mod MessageFaults

@@ -1,7 +1,9 @@
 //! Reading a message: its header, its questions and its three sections of records, once from the left
 //! (RFC 1035, section 4.1).
 
-ghost use Rattle.std.specs.Prelude.{◌≡◌, ◌+◌, ◌<◌, ◌≤◌, length, IfOk};
+ghost use Rattle.std.specs.Prelude.{◌≡◌, ◌≢◌, ◌+◌, ◌<◌, ◌≤◌, length, IfOk, IfErr};
+ghost use Rattle.dns_message.specs.Grammar.{Spells, SpellsNothing};
+ghost use Rattle.dns_message.specs.MessageFaults.{FirstFault};
 ghost use Rattle.dns_message.specs.Reading.{Gives, question_of, record_of, items_of, message_read};
 
 use crate::fault::MessageFault;
@@ -111,8 +113,23 @@ fn records_at(
 }
 
 /// The message that the bytes spell, all of the bytes; or the first fault in reading order, with its offset.
-#[tactic(auto, unfolding(crate::specs::Reading::message_read))]
+#[tactic(auto, using(crate::proofs::GrammarLemmas::given_is_spelled, crate::proofs::GrammarLemmas::refused_spells_nothing, crate::proofs::FirstFaultLemmas::given_is_first))]
 pub fn decode(alloc: Global, bytes: &[u8]) -> Result<Message, MessageFault>
+    ensures spelled { IfOk result (λ message. Spells bytes.now message) }
+    ensures refused { IfErr result (λ fault. fault ≢ MessageFault.NoMemory → SpellsNothing bytes.now) }
+    ensures first { IfErr result (λ fault. fault ≢ MessageFault.NoMemory → FirstFault bytes.now fault) }
+    ensures read { Gives result (message_read bytes.now) }
+    ensures questions { IfOk result (λ message. length message.questions < 65536) }
+    ensures answers { IfOk result (λ message. length message.answers < 65536) }
+    ensures authorities { IfOk result (λ message. length message.authorities < 65536) }
+    ensures additionals { IfOk result (λ message. length message.additionals < 65536) }
+{
+    message_in(alloc, bytes)
+}
+
+/// Reads the header and the four sections.
+#[tactic(auto, unfolding(crate::specs::Reading::message_read))]
+fn message_in(alloc: Global, bytes: &[u8]) -> Result<Message, MessageFault>
     ensures read { Gives result (message_read bytes.now) }
     ensures questions { IfOk result (λ message. length message.questions < 65536) }
     ensures answers { IfOk result (λ message. length message.answers < 65536) }

@@ -1,7 +1,10 @@
 //! Writing a message, each name without pointers (RFC 1035, section 4.1).
 
-ghost use Rattle.std.specs.Prelude.{◌≡◌, ◌+◌, ◌<◌, ◌≤◌, ◌++◌, length, IfOk, IfErr, OnOk, MatchOption};
-ghost use Rattle.std.specs.List.{flat_map};
+ghost use Rattle.std.specs.Prelude.{◌≡◌, ◌+◌, ◌<◌, ◌≤◌, ◌++◌, length, Ok, IfOk, IfErr, OnOk, MatchOption};
+ghost use Rattle.std.specs.List.{flat_map, AllByRecursion};
+ghost use Rattle.dns_message.specs.Message.{IsQuestion, IsRecord, HasTypedHeader, HasTypedSections};
+ghost use Rattle.dns_message.specs.Reading.{message_read};
+ghost use Rattle.dns_message.specs.Validity.{IsValid};
 ghost use Rattle.dns_message.specs.Spelling.{question_bytes, record_bytes, header_bytes, sections_bytes, message_bytes};
 ghost use Rattle.byteorder.specs.Endian.{big_bytes};
 
@@ -73,7 +76,8 @@ fn put_len(out: &mut Vec<u8>, len: usize) -> Result<(), NoMemory>
 
 /// Writes a question.
 fn put_question(out: &mut Vec<u8>, question: &Question) -> Result<(), NoMemory>
-    ensures { OnOk result (out.new.items ≡ out.old.items ++ question_bytes question.now) }
+    ensures put { OnOk result (out.new.items ≡ out.old.items ++ question_bytes question.now) }
+    ensures typed { OnOk result (IsQuestion question.now) }
 {
     put_name(out, &question.name)?;
     put_u16(out, question.kind)?;
@@ -83,7 +87,8 @@ fn put_question(out: &mut Vec<u8>, question: &Question) -> Result<(), NoMemory>
 /// Writes a record.
 fn put_record(out: &mut Vec<u8>, item: &Record) -> Result<(), NoMemory>
     requires { length (record_bytes item.now) ≤ 65535 }
-    ensures { OnOk result (out.new.items ≡ out.old.items ++ record_bytes item.now) }
+    ensures put { OnOk result (out.new.items ≡ out.old.items ++ record_bytes item.now) }
+    ensures typed { OnOk result (IsRecord item.now) }
 {
     put_name(out, &item.name)?;
     put_u16(out, item.kind)?;
@@ -96,7 +101,8 @@ fn put_record(out: &mut Vec<u8>, item: &Record) -> Result<(), NoMemory>
 
 /// Writes questions.
 fn put_questions(out: &mut Vec<u8>, questions: &[Question]) -> Result<(), NoMemory>
-    ensures { OnOk result (out.new.items ≡ out.old.items ++ flat_map question_bytes questions.now) }
+    ensures put { OnOk result (out.new.items ≡ out.old.items ++ flat_map question_bytes questions.now) }
+    ensures typed { OnOk result (AllByRecursion IsQuestion questions.now) }
 {
     for question in questions {
         put_question(out, question)?;
@@ -107,7 +113,8 @@ fn put_questions(out: &mut Vec<u8>, questions: &[Question]) -> Result<(), NoMemo
 /// Writes records.
 fn put_records(out: &mut Vec<u8>, records: &[Record]) -> Result<(), NoMemory>
     requires { length (flat_map record_bytes records.now) ≤ 65535 }
-    ensures { OnOk result (out.new.items ≡ out.old.items ++ flat_map record_bytes records.now) }
+    ensures put { OnOk result (out.new.items ≡ out.old.items ++ flat_map record_bytes records.now) }
+    ensures typed { OnOk result (AllByRecursion IsRecord records.now) }
 {
     for item in records {
         put_record(out, item)?;
@@ -118,7 +125,8 @@ fn put_records(out: &mut Vec<u8>, records: &[Record]) -> Result<(), NoMemory>
 /// Writes the header.
 fn put_header(out: &mut Vec<u8>, message: &Message) -> Result<(), NoMemory>
     requires { length (message_bytes message.now) ≤ 65535 }
-    ensures { OnOk result (out.new.items ≡ out.old.items ++ header_bytes message.now) }
+    ensures put { OnOk result (out.new.items ≡ out.old.items ++ header_bytes message.now) }
+    ensures typed { OnOk result (HasTypedHeader message.now) }
 {
     put_u16(out, message.id)?;
     put_u16(out, message.flags)?;
@@ -131,7 +139,8 @@ fn put_header(out: &mut Vec<u8>, message: &Message) -> Result<(), NoMemory>
 /// Writes the sections.
 fn put_sections(out: &mut Vec<u8>, message: &Message) -> Result<(), NoMemory>
     requires { length (message_bytes message.now) ≤ 65535 }
-    ensures { OnOk result (out.new.items ≡ out.old.items ++ sections_bytes message.now) }
+    ensures put { OnOk result (out.new.items ≡ out.old.items ++ sections_bytes message.now) }
+    ensures typed { OnOk result (HasTypedSections message.now) }
 {
     put_questions(out, message.questions.as_slice())?;
     put_records(out, message.answers.as_slice())?;
@@ -140,9 +149,11 @@ fn put_sections(out: &mut Vec<u8>, message: &Message) -> Result<(), NoMemory>
 }
 
 /// The bytes of the message, each name without pointers. It is TooLong exactly above 65,535 bytes.
+#[tactic(auto, using(crate::proofs::WrittenLemmas::encoded_reads))]
 pub fn encode(alloc: Global, message: &Message) -> Result<Bytes, EncodeFault>
     ensures spelled { IfOk result (λ bytes. bytes ≡ message_bytes message.now) }
     ensures short { IfOk result (λ bytes. length bytes ≤ 65535) }
+    ensures read_back { IfOk result (λ bytes. IsValid message.now → message_read bytes ≡ Ok message.now) }
     ensures too_long { IfErr result (λ fault. fault ≡ EncodeFault.TooLong → 65535 < length (message_bytes message.now)) }
 {
     let Some(size) = size_of_message(message) else {

@@ -4,6 +4,9 @@
 mod decoding;
 mod encoding;
 mod fault;
+mod grammar_laws;
+mod held_rdata;
+mod laws;
 mod message;
 mod name;
 mod name_comparing;
@@ -18,10 +21,16 @@ mod shape;
 pub use decoding::decode;
 pub use encoding::encode;
 pub use fault::{EncodeFault, MessageFault, NameFault};
+pub use grammar_laws::{
+    reading_ends_at_the_first_fault, reading_gives_what_is_spelled, written_messages_read_back,
+};
 pub use item_list::{Bytes, BytesList, ItemList, NoMemory};
+pub use laws::{readings_agree, tests_decide};
 pub use message::{Message, Question, QuestionList, Record, RecordList};
 pub use name::{Name, NameList, NameText};
 pub use name_printing::printed_names_read_back;
 
+#[cfg(test)]
+mod pointer_tests;
 #[cfg(test)]
 mod tests;

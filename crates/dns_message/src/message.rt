@@ -1,7 +1,10 @@
 //! Messages, questions and records, and which messages can be written.
 
+ghost use Rattle.std.specs.Prelude.{◌≡◌};
+ghost use Rattle.dns_message.specs.Validity.{well_formed, are_writable, is_valid};
+
+use crate::held_rdata::is_shaped;
 use crate::name::Name;
-use crate::rdata::is_shaped;
 use item_list::{Bytes, ItemList};
 
 /// A question: a name, and the kind and class that are asked for (RFC 1035, section 4.1.2).
@@ -43,10 +46,22 @@ pub struct Message {
     pub additionals: RecordList,
 }
 
+impl Record {
+    /// Whether the rdata has the shape of the record's kind and class, with its names expanded
+    /// (RFC 1035, sections 3.3 and 3.4; RFC 2782; RFC 3596).
+    pub fn is_well_formed(&self) -> bool
+        ensures { result ≡ well_formed self.now }
+    {
+        is_shaped(self.kind, self.class, self.rdata.as_slice())
+    }
+}
+
 impl Message {
-    /// Whether the message can be written: each section has at most 65,535 items, and each rdata at most 65,535 bytes
-    /// and the shape of its kind and class, with its names expanded.
-    pub fn valid(&self) -> bool {
+    /// Whether the message can be written, but for its length: each section has at most 65,535 items,
+    /// and each rdata at most 65,535 bytes and the shape of its kind and class, with its names expanded.
+    pub fn valid(&self) -> bool
+        ensures { result ≡ is_valid self.now }
+    {
         self.questions.len() <= SECTION_MOST
             && are_valid(self.answers.as_slice())
             && are_valid(self.authorities.as_slice())
@@ -58,14 +73,14 @@ impl Message {
 const SECTION_MOST: usize = 65_535;
 
 /// Whether the records can be written as one section.
-fn are_valid(records: &[Record]) -> bool {
+fn are_valid(records: &[Record]) -> bool
+    ensures { result ≡ are_writable records.now }
+{
     if records.len() > SECTION_MOST {
         return false;
     }
     for item in records {
-        if item.rdata.len() > SECTION_MOST
-            || !is_shaped(item.kind, item.class, item.rdata.as_slice())
-        {
+        if item.rdata.len() > SECTION_MOST || !item.is_well_formed() {
             return false;
         }
     }

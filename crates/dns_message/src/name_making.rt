@@ -1,9 +1,10 @@
 //! Names made of labels, and names made of names.
 
-ghost use Rattle.std.specs.Prelude.{◌≡◌, ◌+◌, ◌<◌, ◌≤◌, ◌⊎◌, ◌∷◌, ◌++◌, [], length, map, IfOk, IfErr, OnOk};
+ghost use Rattle.std.specs.Prelude.{◌≡◌, ◌≢◌, Ok, Err, MatchResult, ◌+◌, ◌<◌, ◌≤◌, ◌⊎◌, ◌∷◌, ◌++◌, [], length, map, IfOk, IfErr, OnOk};
 ghost use Rattle.std.specs.List.{AllByRecursion};
 ghost use Rattle.dns_message.specs.Name.{IsLabel, IsName, wire_length, joined_name};
 ghost use Rattle.dns_message.specs.Faults.{HasNameCause};
+ghost use Rattle.dns_message.specs.NameFaults.{with_label, labels_read};
 
 use crate::fault::NameFault;
 use crate::name::{LABEL_MOST, NAME_MOST, Name};
@@ -20,6 +21,9 @@ pub(crate) fn add_label(
     requires { length label ≤ 63 }
     ensures ok { OnOk result (name.new ≡ name.old ++ label ∷ []) }
     ensures refused { IfErr result (HasNameCause ((length label ≡ 0) ⊎ (255 < wire_length name.old + length label + 1))) }
+    ensures read { MatchResult result
+        (λ _. with_label name.old start label end ≡ Ok (name.old ++ label ∷ []))
+        (λ fault. fault ≢ NameFault.NoMemory → with_label name.old start label end ≡ Err fault) }
 {
     if label.is_empty() {
         return Err(NameFault::EmptyLabel(end));
@@ -36,6 +40,7 @@ impl Name {
     pub fn from_labels(alloc: Global, labels: &[&[u8]]) -> Result<Name, NameFault>
         ensures made { IfOk result (λ name. name ≡ map (λ label. label.now) labels.now) }
         ensures refused { IfErr result (HasNameCause (¬ IsName (map (λ label. label.now) labels.now))) }
+        ensures fault { IfErr result (λ fault. fault ≢ NameFault.NoMemory → labels_read (map (λ label. label.now) labels.now) ≡ Err fault) }
     {
         let mut name = Name::root(alloc);
         for (i, label) in labels.iter().enumerate() {

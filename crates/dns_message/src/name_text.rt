@@ -1,8 +1,9 @@
 //! Names as texts: labels with dots between them, and escapes (RFC 1035, section 5.1).
 
-ghost use Rattle.std.specs.Prelude.{◌≡◌, ◌+◌, ◌<◌, ◌≤◌, ◌⊎◌, ◌∷◌, ◌++◌, [], Some, None, length, drop, map, option_map, IfOk, IfErr, IfSome, OnOk, IsTrue, MatchOption, MatchBool};
+ghost use Rattle.std.specs.Prelude.{◌≡◌, ◌≢◌, ℕ, List, Err, MatchResult, ◌+◌, ◌<◌, ◌≤◌, ◌⊎◌, ◌∷◌, ◌++◌, [], Some, None, length, drop, map, option_map, IfOk, IfErr, IfSome, OnOk, IsTrue, MatchOption, MatchBool};
 ghost use Rattle.dns_message.specs.Name.{wire_length};
 ghost use Rattle.dns_message.specs.Faults.{HasNameCause};
+ghost use Rattle.dns_message.specs.NameFaults.{bad, spot, spots_of, behind_label, name_on, name_read};
 ghost use Rattle.dns_message.specs.NameText.{byte_of_digits, escaped, units_of, label_before, dot_before, HasNoLabel, name_text};
 
 use crate::fault::NameFault;
@@ -60,6 +61,9 @@ fn unit_at(text: &[u8], at: usize) -> Result<(TextUnit, usize), NameFault>
     ensures within { IfOk result (λ found. (at < found.1) × (found.1 ≤ length text.now)) }
     ensures dot { IfOk result (λ found. found.0 ≡ TextUnit.Dot → found.1 ≡ at + 1) }
     ensures refused { IfErr result (λ fault. units_of (drop at text.now) ≡ None) }
+    ensures placed { MatchResult result
+        (λ found. spots_of at (drop at text.now) ≡ spot at found.0 ∷ spots_of found.1 (drop found.1 text.now))
+        (λ fault. (fault ≡ NameFault.BadEscape at) × (spots_of at (drop at text.now) ≡ bad at ∷ [])) }
 {
     let byte = text[at];
     if byte == b'.' {
@@ -84,6 +88,10 @@ fn label_at(alloc: Global, text: &[u8], start: usize) -> Result<TextLabel, NameF
     ensures end { IfOk result (λ found. (start ≤ found.end) × (found.end ≤ length text.now)) }
     ensures dot { IfOk result (λ found. IsTrue found.dotted → found.end < length text.now) }
     ensures refused { IfErr result (HasNameCause (HasNoLabel (units_of (drop start text.now)))) }
+    ensures placed { MatchResult result
+        (λ found. (front : List (List ℕ)) → name_on (length text.now) front start [] (spots_of start (drop start text.now)) ≡ name_on (length text.now) front start found.label.items (behind_label text.now found.end found.dotted))
+        (λ fault. fault ≢ NameFault.NoMemory → (front : List (List ℕ)) → name_on (length text.now) front start [] (spots_of start (drop start text.now)) ≡ Err fault) }
+    ensures last { IfOk result (λ found. MatchBool found.dotted (Unit {0}) (found.end ≡ length text.now)) }
 {
     let mut label = Vec::with_capacity(alloc, LABEL_MOST.min(text.len() - start))?;
     let mut at = start;
@@ -119,6 +127,7 @@ impl Name {
     pub fn from_text(alloc: Global, text: &[u8]) -> Result<NameText, NameFault>
         ensures read { IfOk result (λ found. name_text text.now ≡ Some (found.name, found.absolute)) }
         ensures refused { IfErr result (HasNameCause (name_text text.now ≡ None)) }
+        ensures fault { IfErr result (λ fault. fault ≢ NameFault.NoMemory → name_read text.now ≡ Err fault) }
     {
         let mut name = Name::root(alloc);
         if text == b".".as_slice() {

@@ -4,6 +4,7 @@
 ghost use Rattle.std.specs.Prelude.{◌≡◌, ◌+◌, ◌≤◌, ◌++◌, length, Ok, Err, IfOk, OnOk, MatchResult};
 ghost use Rattle.byteorder.specs.Endian.{big_bytes, big_from};
 ghost use Rattle.dns_message.specs.Reading.{part_of};
+ghost use Rattle.dns_message.specs.Name.{IsName};
 ghost use Rattle.dns_message.specs.Spelling.{name_bytes};
 
 use crate::fault::MessageFault;
@@ -64,7 +65,8 @@ pub(crate) fn put_u32(out: &mut Vec<u8>, number: u32) -> Result<(), NoMemory>
 
 /// Writes a name without pointers: before each label its length, and a zero byte at the end.
 pub(crate) fn put_name(out: &mut Vec<u8>, name: &Name) -> Result<(), NoMemory>
-    ensures { OnOk result (out.new.items ≡ out.old.items ++ name_bytes name.now) }
+    ensures put { OnOk result (out.new.items ≡ out.old.items ++ name_bytes name.now) }
+    ensures name { IsName name.now }
 {
     for label in name.as_labels() {
         out.push(label.len() as u8)?;

@@ -1,13 +1,12 @@
-//! Reading rdata by its shape, with its names expanded, and testing rdata that is held.
+//! Reading rdata by its shape, with its names expanded.
 
-ghost use Rattle.std.specs.Prelude.{◌≡◌, ◌≢◌, ◌+◌, ◌<◌, ◌≤◌, ◌++◌, ℕ, List, Ok, Err, length, IfOk, IfSome, MatchResult};
+ghost use Rattle.std.specs.Prelude.{◌≡◌, ◌≢◌, ◌+◌, ◌<◌, ◌≤◌, ◌++◌, ℕ, List, Ok, Err, length, IfOk, MatchResult};
 ghost use Rattle.dns_message.specs.Reading.{Gives, or_else, expanded_name, names_rdata, rdata_of};
 
 use crate::fault::MessageFault;
-use crate::name::{LABEL_MOST, NAME_MOST};
 use crate::name_reading::name_at;
 use crate::numbers::put_name;
-use crate::shape::{NamesShape, Shape, shape_of, string_count};
+use crate::shape::{NamesShape, Shape, string_count};
 use item_list::Bytes;
 use std::alloc::Global;
 
@@ -95,49 +94,4 @@ fn bad_unless_memory(fault: MessageFault, bad: MessageFault) -> MessageFault
         MessageFault::NoMemory => MessageFault::NoMemory,
         _ => bad,
     }
-}
-
-/// Whether rdata that is held has the shape of its kind and class, without pointers.
-pub(crate) fn is_shaped(kind: u16, class: u16, rdata: &[u8]) -> bool {
-    match shape_of(kind, class) {
-        Shape::Any => true,
-        Shape::Bytes(count) => rdata.len() == count,
-        Shape::TwoStrings => string_count(rdata) == Some(2),
-        Shape::Strings => string_count(rdata).is_some(),
-        Shape::Names(shape) => has_names(rdata, shape),
-    }
-}
-
-/// Whether the bytes are so many bytes, so many plain names, and so many bytes.
-fn has_names(rdata: &[u8], shape: NamesShape) -> bool {
-    if rdata.len() < shape.front {
-        return false;
-    }
-    let mut next = shape.front;
-    for _ in 0..shape.names {
-        match plain_name_end(rdata, next) {
-            Some(end) => next = end,
-            None => return false,
-        }
-    }
-    rdata.len() - next == shape.back
-}
-
-/// The offset behind the plain name at an offset: labels and the root's byte, at most 255 bytes in all.
-fn plain_name_end(bytes: &[u8], start: usize) -> Option<usize>
-    requires { start ≤ length bytes.now }
-    ensures { IfSome result (λ end. end ≤ length bytes.now) }
-{
-    let mut at = start;
-    while at < bytes.len() && at - start < NAME_MOST {
-        let len = bytes[at] as usize;
-        if len == 0 {
-            return Some(at + 1);
-        }
-        if len > LABEL_MOST {
-            return None;
-        }
-        at += len + 1;
-    }
-    None
 }

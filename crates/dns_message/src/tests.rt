@@ -276,3 +276,72 @@ fn shapes_of_rdata(rt: HostRuntime) -> Result<(), Fail> {
     }
     Ok(())
 }
+
+/// The kind, the class, the rdata that is held, and whether it has the shape, by hand after RFC 1035, section 3.3.
+const HELD: [(u8, u8, &[u8], bool); 14] = [
+    (1, 1, b"abcd", true),
+    (1, 1, b"abc", false),
+    (1, 3, b"abc", true),
+    (2, 1, b"\x01a\0", true),
+    (2, 1, b"\xc0\x0c", false),
+    (5, 3, b"\x01b\xc0\x0c", false),
+    (12, 1, b"\x01b", false),
+    (12, 1, b"\0\0", false),
+    (6, 1, b"\x01b\0\x01a\x000123456789abcdefghij", true),
+    (6, 1, b"\x01b\0\x01a\x000123456789abcdefghi", false),
+    (13, 1, b"\x01a", false),
+    (15, 1, b"\0\x05\0", true),
+    (33, 1, b"123456", false),
+    (99, 1, b"\xc0\x0c", true),
+];
+
+/// A message whose one answer is a record of the root.
+fn answer_of(alloc: Global, kind: u8, class: u8, rdata: &[u8]) -> Result<Message, Fail> {
+    let mut answers = RecordList::new(alloc);
+    answers.push(Record {
+        name: Name::root(alloc),
+        kind: kind as u16,
+        class: class as u16,
+        ttl: 0,
+        rdata: Bytes::of(alloc, rdata)?,
+    })?;
+    Ok(Message {
+        id: 0,
+        flags: 0,
+        questions: QuestionList::new(alloc),
+        answers,
+        authorities: RecordList::new(alloc),
+        additionals: RecordList::new(alloc),
+    })
+}
+
+#[test]
+fn rdata_that_is_held(rt: HostRuntime) -> Result<(), Fail> {
+    let alloc = rt.alloc();
+    for (kind, class, rdata, fits) in HELD {
+        assert_eq!(rt; answer_of(alloc, kind, class, rdata)?.valid(), fits);
+    }
+    let mut rdata = Vec::new(alloc);
+    for _ in 0..65_535 {
+        rdata.push(0)?;
+    }
+    assert!(rt; answer_of(alloc, 99, 1, rdata.as_slice())?.valid());
+    rdata.push(0)?;
+    assert!(rt; !answer_of(alloc, 99, 1, rdata.as_slice())?.valid());
+    Ok(())
+}
+
+#[test]
+fn longest_message(rt: HostRuntime) -> Result<(), Fail> {
+    let alloc = rt.alloc();
+    let mut rdata = Vec::new(alloc);
+    for _ in 0..65_512 {
+        rdata.push(0)?;
+    }
+    let fits = answer_of(alloc, 99, 1, rdata.as_slice())?;
+    assert_eq!(rt; encode(alloc, &fits)?.len(), 65_535);
+    rdata.push(0)?;
+    let passes = answer_of(alloc, 99, 1, rdata.as_slice())?;
+    assert!(rt; encode(alloc, &passes).err() == Some(EncodeFault::TooLong));
+    Ok(())
+}

@@ -1,4 +1,5 @@
-use Rattle.std.proofs.Common.{◌≡◌, ◌≤◌, ◌-◌, drop, length}
+use Rattle.std.proofs.Common.{◌≡◌, [], ◌≤◌, ◌-◌, drop, length}
+use Rattle.dns_message.specs.NameFaults.{spots_of, name_on, name_read}
 use Rattle.dns_message.specs.NameText.{units_of, name_text}
 use Rattle.dns_message.proofs.PieceLemmas.{continued}
 use Rattle.dns_message.proofs.name.Name.from_text.Given as goal
@@ -7,6 +8,7 @@ use Rattle.dns_message.proofs.name.Name.from_text.Given as goal
 abbrev pub invariant-loop-name : goal.invariant-loop-name
 invariant-loop-name l = record {
   within : l.start ≤ length l.text;
+  placed : name_read l.text ≡ name_on (length l.text) l.name l.start [] (spots_of l.start (drop l.start l.text));
   read : name_text l.text ≡ continued l.name (units_of (drop l.start l.text));
 }
 

@@ -1,0 +1,68 @@
+//! One call, so many times. Each answers a number that all results go into.
+
+use dns_message::{Message, Name, NoMemory, Question, QuestionList, RecordList, decode, encode};
+use std::alloc::Global;
+
+/// Reads the bytes so many times.
+pub fn decode_often(alloc: Global, bytes: &[u8], times: u32) -> u64 {
+    let mut seen = 0u64;
+    for _ in 0..times {
+        if let Ok(message) = decode(alloc, bytes) {
+            let items = message.questions.len() as u64;
+            seen = seen
+                .wrapping_add(items)
+                .wrapping_add(message.answers.len() as u64);
+        }
+    }
+    seen
+}
+
+/// Reads the bytes once, and writes the message so many times.
+pub fn encode_often(alloc: Global, bytes: &[u8], times: u32) -> u64 {
+    let mut seen = 0u64;
+    if let Ok(message) = decode(alloc, bytes) {
+        for _ in 0..times {
+            if let Ok(bytes) = encode(alloc, &message) {
+                seen = seen.wrapping_add(bytes.len() as u64);
+            }
+        }
+    }
+    seen
+}
+
+/// Builds the bytes of a query for the address of `www.example.com` so many times, from a name that is there.
+pub fn query_often(alloc: Global, times: u32) -> u64 {
+    let mut seen = 0u64;
+    if let Ok(text) = Name::from_text(alloc, b"www.example.com") {
+        for _ in 0..times {
+            if let Some(len) = query_len(alloc, &text.name) {
+                seen = seen.wrapping_add(len as u64);
+            }
+        }
+    }
+    seen
+}
+
+/// Builds a query's bytes, and answers how many there are.
+fn query_len(alloc: Global, name: &Name) -> Option<usize> {
+    let query = query_of(alloc, name).ok()?;
+    Some(encode(alloc, &query).ok()?.len())
+}
+
+/// A query for an address.
+fn query_of(alloc: Global, name: &Name) -> Result<Message, NoMemory> {
+    let mut questions = QuestionList::new(alloc);
+    questions.push(Question {
+        name: name.copy(alloc)?,
+        kind: 1,
+        class: 1,
+    })?;
+    Ok(Message {
+        id: 0x1234,
+        flags: 0x0100,
+        questions,
+        answers: RecordList::new(alloc),
+        authorities: RecordList::new(alloc),
+        additionals: RecordList::new(alloc),
+    })
+}
