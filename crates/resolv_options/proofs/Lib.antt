@@ -1,1 +1,3 @@
 pub mod SearchLemmas
+pub mod OptionLemmas
+pub mod ResolvLemmas

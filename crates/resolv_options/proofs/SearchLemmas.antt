@@ -1,45 +1,19 @@
--- The tests of a search say what they test, and candidates are found one after another.
-use Rattle.std.proofs.Common.{◌≡◌, ◌≢◌, ℕ, ◌+◌, ◌<◌, ◌≤◌, ◌⊎◌, inl, inr, Bool, true, false, cond, IsTrue, ◌↔◌, List, [], ◌∷◌, ◌++◌, length, map, take, get_or, codes, refl, ap, ◌∙◌, sym, arith, append_assoc, append-nil, ◌||◌, nat_le}
+-- Candidates are found one after another.
+use Rattle.std.proofs.Common.{◌≡◌, ◌≢◌, ℕ, ◌+◌, ◌<◌, ◌≤◌, ◌⊎◌, inl, inr, Bool, true, false, cond, List, [], ◌∷◌, ◌++◌, length, take, get_or, codes, refl, ap, ◌∙◌, sym, arith, append_assoc, append-nil, ◌||◌, nat_le}
 use Rattle.std.specs.List.{list_any, filter}
-use Rattle.std.specs.Char.{to_ascii_lowercase}
-use Rattle.std.specs.Cmp.Lexicographic.{pointwise_decides, bytes_decides}
 use Rattle.std.proofs.lemmas.List.{map-append, take_more}
 use Rattle.std.proofs.lemmas.List.Elements.{filter-append}
 use Rattle.std.proofs.lemmas.Bool.Decides.{nat_tests}
-use Rattle.dns_message.specs.Name.{SameName, LastIs, wire_length}
+use Rattle.dns_message.specs.Name.{same_name, LastIs, last_is, wire_length}
+use Rattle.dns_message.proofs.TestLemmas.{last_is_says}
 use Rattle.dns_message.specs.declared.name.NameText.{NameText}
 use Rattle.resolv_options.specs.declared.options.Options.{Options}
-use Rattle.resolv_options.specs.Search.{same_name, last_is, may_be_asked, dots, with_domains, without_repeats, candidates_after, candidates}
-
--- the test of names says whether they are the same
-pub same_name_says : (labels others : List (List ℕ)) → (same_name labels others ≡ true → SameName labels others) × (SameName labels others → same_name labels others ≡ true)
-same_name_says labels others = pointwise_decides bytes_decides (map (map to_ascii_lowercase) labels) (map (map to_ascii_lowercase) others)
-
--- the test of the last label says what it is
-pub last_is_says : (label : List ℕ) (labels : List (List ℕ)) → (last_is label labels ≡ true → LastIs labels label) × (LastIs labels label → last_is label labels ≡ true)
-last_is_says label [] = (λ e. absurd cc, λ h. absurd h)
-last_is_says label (last ∷ []) = bytes_decides (map to_ascii_lowercase last) (map to_ascii_lowercase label)
-last_is_says label (first ∷ second ∷ labels) = last_is_says label (second ∷ labels)
-
--- two tests of one fact are the same
-one_test : {P : Type 0} (r s : Bool) → (IsTrue r ↔ P) → (s ≡ true → P) × (P → s ≡ true) → r ≡ s
-one_test true true r s = refl
-one_test true false r s = absurd (let t : false ≡ true = s.1 (r.0 refl) in cc)
-one_test false true r s = absurd (let t : false ≡ true = r.1 (s.0 refl) in cc)
-one_test false false r s = refl
+use Rattle.resolv_options.specs.Search.{may_be_asked, dots, with_domains, without_repeats, candidates_after, candidates}
 
 -- a test that fails is false
 is_false : (t : Bool) → ¬ (t ≡ true) → t ≡ false
 is_false true never = absurd (never refl)
 is_false false never = refl
-
--- what says whether names are the same is the test of it
-pub same_is : (r : Bool) (labels others : List (List ℕ)) → (IsTrue r ↔ SameName labels others) → r ≡ same_name labels others
-same_is r labels others says = one_test r _ says (same_name_says labels others)
-
--- what says whether the last label is that one is the test of it
-pub last_is_so : (r : Bool) (label : List ℕ) (labels : List (List ℕ)) → (IsTrue r ↔ LastIs labels label) → r ≡ last_is label labels
-last_is_so r label labels says = one_test r _ says (last_is_says label labels)
 
 -- a hidden service's name is no candidate, nor is one that is the same as an earlier one
 pub passed_over : (names : List (List (List ℕ))) (name : List (List ℕ)) → (last_is (codes "onion") name ≡ true) ⊎ (list_any (same_name name) names ≡ true) → candidates_after names (name ∷ []) ≡ []

@@ -1,22 +1,9 @@
 -- Which names a search asks for, and in which order. The order is that of the stub resolvers in use; what is passed over is this project's profile.
-use Rattle.std.specs.Prelude.{ℕ, ◌-◌, Bool, false, ◌&&◌, ◌||◌, nat_le, if◌then◌else◌, List, [], ◌∷◌, ◌++◌, length, map, filter, not, codes}
+use Rattle.std.specs.Prelude.{ℕ, ◌-◌, Bool, ◌&&◌, ◌||◌, nat_le, if◌then◌else◌, List, [], ◌∷◌, ◌++◌, length, map, filter, not, codes}
 use Rattle.std.specs.List.{list_any}
-use Rattle.std.specs.Char.{to_ascii_lowercase}
-use Rattle.std.specs.Str.{bytes_eq}
-use Rattle.std.specs.Cmp.Lexicographic.{pointwise}
-use Rattle.dns_message.specs.Name.{wire_length}
+use Rattle.dns_message.specs.Name.{wire_length, same_name, last_is}
 use Rattle.dns_message.specs.declared.name.NameText.{NameText}
 use Rattle.resolv_options.specs.declared.options.Options.{Options}
-
--- the two names are the same: they have the same labels one by one, ignoring ASCII case (RFC 4343, section 3)
-abbrev pub same_name : List (List ℕ) → List (List ℕ) → Bool
-same_name labels others = pointwise bytes_eq (map (map to_ascii_lowercase) labels) (map (map to_ascii_lowercase) others)
-
--- the last label is that one, ignoring ASCII case; the root has none
-abbrev pub last_is : List ℕ → List (List ℕ) → Bool
-last_is label [] = false
-last_is label (last ∷ []) = bytes_eq (map to_ascii_lowercase last) (map to_ascii_lowercase label)
-last_is label (first ∷ second ∷ labels) = last_is label (second ∷ labels)
 
 -- a name may be asked for: it takes at most 255 bytes, and isn't a hidden service's name (RFC 7686, section 2)
 abbrev pub may_be_asked : List (List ℕ) → Bool

@@ -13,14 +13,17 @@ use std::alloc::Global;
 use std::marker::Model;
 
 /// The port of a name server (RFC 1035, section 4.2).
-const DNS_PORT: u16 = 53;
+pub(crate) const DNS_PORT: u16 = 53;
 
 /// The bytes that an OPT record offers where nothing else is set: a datagram of that size isn't cut on its way, since any
 /// IPv6 link takes packets of 1,280 bytes (RFC 8200, section 5), of which 48 are headers.
 const PLAIN_SIZE: u16 = 1232;
 
-/// The address 127.0.0.1, of the server that is asked where none is set.
-const LOCALHOST: Addr = Addr::V4(0x7f00_0001);
+/// The server that is asked where none is set: this machine's own, at 127.0.0.1.
+pub(crate) const LOCAL_SERVER: ServerAddr = ServerAddr {
+    address: Addr::V4(0x7f00_0001),
+    port: DNS_PORT,
+};
 
 /// The options of a channel, within the limits of this project's profile. Contracts see them as a record of values.
 #[derive(Debug, Drop)]
@@ -56,13 +59,7 @@ impl Options {
         ensures { IfOk result (λ options. options ≡ plain_values) }
     {
         Ok(Options {
-            servers: ServerList::of(
-                alloc,
-                &[ServerAddr {
-                    address: LOCALHOST,
-                    port: DNS_PORT,
-                }],
-            )?,
+            servers: ServerList::of(alloc, &[LOCAL_SERVER])?,
             domains: NameList::new(alloc),
             ndots: 1,
             tries: 3,

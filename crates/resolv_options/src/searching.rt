@@ -2,7 +2,7 @@
 
 ghost use Rattle.std.specs.Prelude.{◌≡◌, ◌≢◌, ◌++◌, ◌∷◌, [], codes, IfOk, OnOk};
 ghost use Rattle.std.specs.List.{list_any};
-ghost use Rattle.dns_message.specs.Name.{LastIs};
+ghost use Rattle.dns_message.specs.Name.{LastIs, same_name, last_is};
 ghost use Rattle.resolv_options.specs.Search as search;
 
 use crate::options::Options;
@@ -15,21 +15,21 @@ const ONION: &[u8] = b"onion";
 
 /// Whether the names are the same, ignoring ASCII case.
 fn is_same(name: &Name, other: &Name) -> bool
-    ensures { result ≡ search.same_name name.now other.now }
+    ensures { result ≡ same_name name.now other.now }
 {
     name.same(other)
 }
 
 /// Whether the name's last label is `onion`.
 fn is_onion(name: &Name) -> bool
-    ensures { result ≡ search.last_is (codes "onion") name.now }
+    ensures { result ≡ last_is (codes "onion") name.now }
 {
     name.last_is(ONION)
 }
 
 /// Whether the name is the same as one of these.
 fn is_one_of(name: &Name, names: &[Name]) -> bool
-    ensures { result ≡ list_any (search.same_name name.now) names.now }
+    ensures { result ≡ list_any (same_name name.now) names.now }
 {
     names.iter().any(|other| is_same(name, other))
 }

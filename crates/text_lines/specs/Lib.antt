@@ -1,0 +1,4 @@
+pub mod Lines
+pub mod Left
+pub mod Words
+pub mod Names
