@@ -20,3 +20,5 @@ pub mod GrammarLemmas
 pub mod WrittenLemmas
 pub mod NameFaultLemmas
 pub mod FirstFaultLemmas
+pub mod WireLemmas
+pub mod SpelledLemmas

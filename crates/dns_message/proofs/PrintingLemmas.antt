@@ -1,5 +1,5 @@
 -- A printed name reads as itself.
-use Rattle.std.proofs.Common.{◌≡◌, ℕ, ◌+◌, ◌-◌, ◌*◌, ◌/◌, ◌%◌, ◌<◌, Bool, true, false, cond, eqb, leb, List, [], ◌∷◌, ◌++◌, length, Option, Some, None, inl, inr, refl, ap, ◌∙◌, append_assoc, arith}
+use Rattle.std.proofs.Common.{◌≡◌, ◌≢◌, ℕ, ◌+◌, ◌-◌, ◌*◌, ◌/◌, ◌%◌, ◌<◌, Bool, true, false, cond, eqb, leb, List, [], ◌∷◌, ◌++◌, length, Option, Some, None, inl, inr, refl, ap, sym, ◌∙◌, append_assoc, append-nil, arith}
 use Rattle.std.specs.Prelude.{option_map, ◌⊎◌, ◌&&◌, ◌||◌}
 use Rattle.std.specs.Option.{option_and_then}
 use Rattle.std.specs.List.{AllByRecursion, flat_map}
@@ -14,6 +14,8 @@ use Rattle.dns_message.specs.NameText.{byte_of_digits, numbered, escaped, units_
 use Rattle.dns_message.specs.NamePrinting.{printed_byte, printed_label, text_of, AreBytes}
 use Rattle.dns_message.specs.declared.name_text.TextUnit.{TextUnit}
 use Rattle.dns_message.specs.declared.name_text.TextUnit.TheVariants.{Byte}
+use Rattle.dns_message.specs.Wire.{labels_in}
+use Rattle.dns_message.proofs.WireLemmas.{no_labels}
 use Rattle.dns_message.proofs.UnitLemmas.{units_cons, units_end}
 use Rattle.dns_message.proofs.PieceLemmas.{continued, continued_more, continued_dot, units_some}
 
@@ -121,3 +123,20 @@ printed_back ((b ∷ label) ∷ labels) name fits =
       printed_some b,
     ) in
     rw (no_dot_alone (flat_map printed_label ((b ∷ label) ∷ labels)) long) (labels_back [] (b ∷ label) labels name fits)
+
+-- with no bytes left, the text has all labels
+pub printed_all : (text start rest : List ℕ) (labels : List (List ℕ)) → length rest ≡ 0
+    → text ++ flat_map printed_label (labels_in rest) ≡ start ++ flat_map printed_label labels → start ++ flat_map printed_label labels ≡ text_of labels → text ≡ text_of labels
+printed_all text start rest labels none all is =
+    let left : flat_map printed_label (labels_in rest) ≡ [] = ap (flat_map printed_label) (no_labels rest none) in
+    sym (append-nil text) ∙ ap (λ (behind : List ℕ). text ++ behind) (sym left) ∙ all ∙ is
+
+-- the root begins with its dot
+pub start_root : (start : List ℕ) (labels : List (List ℕ)) → length labels ≡ 0 → start ≡ 46 ∷ [] → start ++ flat_map printed_label labels ≡ text_of labels
+start_root start [] none begins = rw begins refl
+start_root start (label ∷ labels) none begins = absurd (omega arith)
+
+-- any other name with its first label
+pub start_some : (start : List ℕ) (labels : List (List ℕ)) → length labels ≢ 0 → start ≡ [] → start ++ flat_map printed_label labels ≡ text_of labels
+start_some start [] some begins = absurd (some refl)
+start_some start (label ∷ labels) some begins = rw begins refl

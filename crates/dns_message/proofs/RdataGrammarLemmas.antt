@@ -54,7 +54,7 @@ module _ (bytes : List ℕ) (bad : MessageFault) where
   names_read p [] next s = ap (λ (k : ℕ). Ok ([], k)) (sym s)
   names_read p (labels ∷ names) next s = rw (name_is_read bytes p labels s.0 s.1, names_read s.0 names next s.2) refl
 
-names_after : (bytes : List ℕ) (p : ℕ) (names : List (List (List ℕ))) (next : ℕ) → SpellsAll (SpellsName bytes) p names next → p ≤ next
+pub names_after : (bytes : List ℕ) (p : ℕ) (names : List (List (List ℕ))) (next : ℕ) → SpellsAll (SpellsName bytes) p names next → p ≤ next
 names_after bytes p [] next s = omega (arith, s)
 names_after bytes p (labels ∷ names) next s = omega (arith, (run_within_bytes bytes p p labels s.0 s.1.run).0, names_after bytes s.0 names next s.2)
 

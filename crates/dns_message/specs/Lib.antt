@@ -1,4 +1,5 @@
 pub mod Name
+pub mod Wire
 pub mod Question
 pub mod NameText
 pub mod NameFaults

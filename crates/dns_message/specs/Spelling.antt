@@ -2,13 +2,10 @@
 use Rattle.std.specs.Prelude.{ℕ, List, [], ◌∷◌, ◌++◌, length}
 use Rattle.std.specs.List.{flat_map}
 use Rattle.byteorder.specs.Endian.{big_bytes}
+pub use Rattle.dns_message.specs.Wire.{label_bytes}
 use Rattle.dns_message.specs.declared.message.Question.{Question}
 use Rattle.dns_message.specs.declared.message.Record.{Record}
 use Rattle.dns_message.specs.declared.message.Message.{Message}
-
--- a label: its length, and its bytes
-abbrev pub label_bytes : List ℕ → List ℕ
-label_bytes label = length label ∷ label
 
 -- a name: its labels, and the root's zero byte
 abbrev pub name_bytes : List (List ℕ) → List ℕ

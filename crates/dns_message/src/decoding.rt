@@ -3,7 +3,9 @@
 
 ghost use Rattle.std.specs.Prelude.{◌≡◌, ◌≢◌, ◌+◌, ◌<◌, ◌≤◌, length, IfOk, IfErr};
 ghost use Rattle.dns_message.specs.Grammar.{Spells, SpellsNothing};
+ghost use Rattle.dns_message.specs.Message.{IsMessage};
 ghost use Rattle.dns_message.specs.MessageFaults.{FirstFault};
+ghost use Rattle.dns_message.specs.Validity.{IsValid};
 ghost use Rattle.dns_message.specs.Reading.{Gives, question_of, record_of, items_of, message_read};
 
 use crate::fault::MessageFault;
@@ -116,6 +118,8 @@ fn records_at(
 #[tactic(auto, using(crate::proofs::GrammarLemmas::given_is_spelled, crate::proofs::GrammarLemmas::refused_spells_nothing, crate::proofs::FirstFaultLemmas::given_is_first))]
 pub fn decode(alloc: Global, bytes: &[u8]) -> Result<Message, MessageFault>
     ensures spelled { IfOk result (λ message. Spells bytes.now message) }
+    ensures valid { IfOk result (λ message. IsValid message) }
+    ensures typed { IfOk result (λ message. IsMessage message) }
     ensures refused { IfErr result (λ fault. fault ≢ MessageFault.NoMemory → SpellsNothing bytes.now) }
     ensures first { IfErr result (λ fault. fault ≢ MessageFault.NoMemory → FirstFault bytes.now fault) }
     ensures read { Gives result (message_read bytes.now) }

@@ -1,9 +1,10 @@
 //! A domain name, and what one may ask of it.
 
-ghost use Rattle.std.specs.Prelude.{◌≡◌, ◌+◌, ◌≤◌, [], ◌∷◌, ◌++◌, length, OnOk, OnErr};
+ghost use Rattle.std.specs.Prelude.{◌≡◌, ◌+◌, ◌<◌, ◌≤◌, [], ◌∷◌, ◌++◌, length, IfOk, OnOk, OnErr};
 ghost use Rattle.dns_message.specs.Name.{IsLabel, IsName, wire_length};
+ghost use Rattle.dns_message.specs.Wire.{wire_bytes, labels_in, AreLabels};
 
-use item_list::{Bytes, ItemList, NoMemory};
+use item_list::{ItemList, NoMemory};
 use std::alloc::Global;
 use std::marker::Model;
 
@@ -13,24 +14,28 @@ pub(crate) const LABEL_MOST: usize = 63;
 /// The most bytes of a name on the wire (RFC 1035, section 2.3.4).
 pub(crate) const NAME_MOST: usize = 255;
 
+/// The bytes that a name takes room for with its first label: most names fit, and so are made by one allocation.
+pub(crate) const NAME_ROOM: usize = 32;
+
 /// A domain name: labels of 1 to 63 bytes, at most 255 bytes on the wire (RFC 1035, sections 2.3.4 and 3.1).
 /// Contracts see it as the list of its labels.
 #[derive(Debug, Drop)]
 pub struct Name {
-    items: Vec<Bytes>,
-    /// How many bytes the name takes on the wire, the root's byte among them.
-    wire: usize,
+    /// The labels, each behind its length, without the root's byte.
+    wire: Vec<u8>,
+    /// How many labels there are.
+    count: usize,
 }
 
 impl Model for Name {
-    ghost use Rattle.std.specs.Prelude.{List, ℕ, ◌≡◌};
-    ghost use Rattle.dns_message.specs.Name.{IsName, wire_length};
+    ghost use Rattle.std.specs.Prelude.{List, ℕ};
+    ghost use Rattle.dns_message.specs.Wire.{IsWire, labels_in};
 
     ghost Value = { List (List ℕ) };
 
-    ghost view = { λ name. name.items.items };
+    ghost view = { λ name. labels_in name.wire.items };
 
-    ghost invariant = { λ name. IsName name.items.items × (name.wire ≡ wire_length name.items.items) };
+    ghost invariant = { λ name. IsWire name.wire.items name.count };
 }
 
 /// A list of names.
@@ -49,8 +54,8 @@ impl Name {
         ensures { result ≡ [] }
     {
         Name {
-            items: Vec::new(alloc),
-            wire: 1,
+            wire: Vec::new(alloc),
+            count: 0,
         }
     }
 
@@ -58,35 +63,73 @@ impl Name {
     pub fn labels(&self) -> u64
         ensures { result ≡ length self.now }
     {
-        self.items.len() as u64
+        self.count as u64
     }
 
-    /// The labels, from the left.
-    pub fn as_labels(&self) -> &[Bytes]
-        ensures value { result.now ≡ self.now }
+    /// The labels, each behind its length, without the root's byte (RFC 1035, section 3.1).
+    pub fn as_wire(&self) -> &[u8]
+        ensures value { result.now ≡ wire_bytes self.now }
+        ensures labels { labels_in result.now ≡ self.now }
         ensures name { IsName self.now }
     {
-        self.items.as_slice()
+        self.wire.as_slice()
     }
 
     /// How many bytes the name takes on the wire, the root's byte among them.
     pub fn wire_len(&self) -> usize
         ensures value { result ≡ wire_length self.now }
         ensures short { result ≤ 255 }
+        ensures name { IsName self.now }
     {
-        self.wire
+        self.wire.as_slice().len() + 1
+    }
+
+    /// An equal name.
+    pub fn copy(&self, alloc: Global) -> Result<Name, NoMemory>
+        ensures { IfOk result (λ copied. copied ≡ self.now) }
+    {
+        Ok(Name {
+            wire: Vec::from_slice(alloc, self.wire.as_slice())?,
+            count: self.count,
+        })
     }
 
     /// Adds a label at the end.
-    pub(crate) fn push_label(&mut self, label: Bytes) -> Result<(), NoMemory>
-        requires label { IsLabel label }
-        requires room { wire_length self.old + length label + 1 ≤ 255 }
-        ensures ok { OnOk result (self.new ≡ self.old ++ label ∷ []) }
+    pub(crate) fn push_label(&mut self, label: &[u8]) -> Result<(), NoMemory>
+        requires label { IsLabel label.now }
+        requires room { wire_length self.old + length label.now + 1 ≤ 255 }
+        ensures ok { OnOk result (self.new ≡ self.old ++ label.now ∷ []) }
         ensures err { OnErr result (self.new ≡ self.old) }
     {
-        let wire = self.wire + label.len() + 1;
-        self.items.push(label)?;
-        self.wire = wire;
+        let first = NAME_ROOM.saturating_sub(self.wire.len());
+        self.wire.reserve(first.max(label.len() + 1))?;
+        self.wire.push_reserved(label.len() as u8);
+        self.wire.extend_from_slice(label).unwrap();
+        self.count += 1;
         Ok(())
     }
+
+    /// Adds the labels of a domain at the end.
+    pub(crate) fn append(&mut self, domain: &Name) -> Result<(), NoMemory>
+        requires { wire_length self.old + wire_length domain.now ≤ 256 }
+        ensures { OnOk result (self.new ≡ self.old ++ domain.now) }
+    {
+        self.wire.extend_from_slice(domain.wire.as_slice())?;
+        self.count += domain.count;
+        Ok(())
+    }
+}
+
+/// The first label of bytes that are labels, and the bytes behind it.
+#[tactic(auto, using(crate::proofs::WireLemmas::first_within))]
+pub(crate) fn first_label(wire: &[u8]) -> (&[u8], &[u8])
+    requires some { 0 < length wire.now }
+    requires spelled { AreLabels wire.now }
+    ensures labels { labels_in wire.now ≡ result.0.now ∷ labels_in result.1.now }
+    ensures spelled { AreLabels result.1.now }
+    ensures shorter { length result.1.now < length wire.now }
+{
+    let len = wire[0] as usize;
+    let rest = &wire[1..];
+    (&rest[..len], &rest[len..])
 }

@@ -3,32 +3,30 @@
 ghost use Rattle.std.specs.Prelude.{◌↔◌, IsTrue};
 ghost use Rattle.dns_message.specs.Name.{SameName, LastIs};
 
-use crate::name::Name;
+use crate::name::{Name, first_label};
 
 impl Name {
     /// Whether the names are the same, ignoring ASCII case.
+    #[tactic(auto, using(crate::proofs::WireLemmas::same_labels, crate::proofs::WireLemmas::same_bytes))]
     pub fn same(&self, other: &Name) -> bool
         ensures { IsTrue result ↔ SameName self.now other.now }
     {
-        let (labels, others) = (self.as_labels(), other.as_labels());
-        if labels.len() != others.len() {
-            return false;
-        }
-        for (i, label) in labels.iter().enumerate() {
-            if !label.as_slice().eq_ignore_ascii_case(others[i].as_slice()) {
-                return false;
-            }
-        }
-        true
+        self.as_wire().eq_ignore_ascii_case(other.as_wire())
     }
 
     /// Whether the last label is this one, ignoring ASCII case. The root has none.
+    #[tactic(auto, using(crate::proofs::WireLemmas::no_labels))]
     pub fn last_is(&self, label: &[u8]) -> bool
         ensures { IsTrue result ↔ LastIs self.now label.now }
     {
-        match self.as_labels().last() {
-            Some(last) => last.as_slice().eq_ignore_ascii_case(label),
-            None => false,
+        let mut rest = self.as_wire();
+        while !rest.is_empty() {
+            let (found, behind) = first_label(rest);
+            if behind.is_empty() {
+                return found.eq_ignore_ascii_case(label);
+            }
+            rest = behind;
         }
+        false
     }
 }

@@ -1,29 +1,28 @@
 //! Names made of labels, and names made of names.
 
 ghost use Rattle.std.specs.Prelude.{◌≡◌, ◌≢◌, Ok, Err, MatchResult, ◌+◌, ◌<◌, ◌≤◌, ◌⊎◌, ◌∷◌, ◌++◌, [], length, map, IfOk, IfErr, OnOk};
-ghost use Rattle.std.specs.List.{AllByRecursion};
-ghost use Rattle.dns_message.specs.Name.{IsLabel, IsName, wire_length, joined_name};
+ghost use Rattle.dns_message.specs.Name.{IsName, wire_length, joined_name};
 ghost use Rattle.dns_message.specs.Faults.{HasNameCause};
 ghost use Rattle.dns_message.specs.NameFaults.{with_label, labels_read};
 
 use crate::fault::NameFault;
 use crate::name::{LABEL_MOST, NAME_MOST, Name};
-use item_list::{Bytes, NoMemory};
+use item_list::NoMemory;
 use std::alloc::Global;
 
 /// Adds a label that a text or a list of labels has at `end` and begins at `start`.
 pub(crate) fn add_label(
     name: &mut Name,
-    label: Bytes,
+    label: &[u8],
     start: u64,
     end: u64,
 ) -> Result<(), NameFault>
-    requires { length label ≤ 63 }
-    ensures ok { OnOk result (name.new ≡ name.old ++ label ∷ []) }
-    ensures refused { IfErr result (HasNameCause ((length label ≡ 0) ⊎ (255 < wire_length name.old + length label + 1))) }
+    requires { length label.now ≤ 63 }
+    ensures ok { OnOk result (name.new ≡ name.old ++ label.now ∷ []) }
+    ensures refused { IfErr result (HasNameCause ((length label.now ≡ 0) ⊎ (255 < wire_length name.old + length label.now + 1))) }
     ensures read { MatchResult result
-        (λ _. with_label name.old start label end ≡ Ok (name.old ++ label ∷ []))
-        (λ fault. fault ≢ NameFault.NoMemory → with_label name.old start label end ≡ Err fault) }
+        (λ _. with_label name.old start label.now end ≡ Ok (name.old ++ label.now ∷ []))
+        (λ fault. fault ≢ NameFault.NoMemory → with_label name.old start label.now end ≡ Err fault) }
 {
     if label.is_empty() {
         return Err(NameFault::EmptyLabel(end));
@@ -47,18 +46,9 @@ impl Name {
             if label.len() > LABEL_MOST {
                 return Err(NameFault::LongLabel(i as u64));
             }
-            add_label(&mut name, Bytes::of(alloc, label)?, i as u64, i as u64)?;
+            add_label(&mut name, label, i as u64, i as u64)?;
         }
         Ok(name)
-    }
-
-    /// An equal name.
-    pub fn copy(&self, alloc: Global) -> Result<Name, NoMemory>
-        ensures { IfOk result (λ copied. copied ≡ self.now) }
-    {
-        let mut copied = Name::root(alloc);
-        copied.add_labels(alloc, self.as_labels())?;
-        Ok(copied)
     }
 
     /// The labels of this name and then those of a domain, or none where they take more than 255 bytes.
@@ -69,19 +59,7 @@ impl Name {
             return Ok(None);
         }
         let mut name = self.copy(alloc)?;
-        name.add_labels(alloc, domain.as_labels())?;
+        name.append(domain)?;
         Ok(Some(name))
-    }
-
-    /// Adds copies of labels at the end.
-    fn add_labels(&mut self, alloc: Global, labels: &[Bytes]) -> Result<(), NoMemory>
-        requires labels { AllByRecursion IsLabel labels.now }
-        requires room { wire_length self.old + wire_length labels.now ≤ 256 }
-        ensures { OnOk result (self.new ≡ self.old ++ labels.now) }
-    {
-        for label in labels {
-            self.push_label(Bytes::of(alloc, label.as_slice())?)?;
-        }
-        Ok(())
     }
 }

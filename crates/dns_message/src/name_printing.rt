@@ -5,7 +5,7 @@ ghost use Rattle.dns_message.specs.Name.{IsName};
 ghost use Rattle.dns_message.specs.NameText.{name_text};
 ghost use Rattle.dns_message.specs.NamePrinting.{printed_byte, printed_label, text_of, AreBytes};
 
-use crate::name::Name;
+use crate::name::{Name, first_label};
 use item_list::{Bytes, NoMemory};
 use std::alloc::Global;
 
@@ -19,8 +19,11 @@ impl Name {
         if self.labels() == 0 {
             text.push(b'.')?;
         }
-        for label in self.as_labels() {
-            put_label(&mut text, label.as_slice())?;
+        let mut rest = self.as_wire();
+        while !rest.is_empty() {
+            let (label, behind) = first_label(rest);
+            put_label(&mut text, label)?;
+            rest = behind;
         }
         Ok(Bytes::from_vec(text))
     }

@@ -6,7 +6,6 @@ ghost use Rattle.dns_message.specs.Reading.{EndsWithin, Gives, label_of, label_e
 
 use crate::fault::MessageFault;
 use crate::name::{LABEL_MOST, NAME_MOST, Name};
-use item_list::Bytes;
 use std::alloc::Global;
 
 /// The least length byte that begins a pointer.
@@ -20,13 +19,7 @@ enum RunEnd {
 }
 
 /// Adds the label whose length byte is at an offset, and gives the offset behind it.
-fn add_label(
-    alloc: Global,
-    bytes: &[u8],
-    start: usize,
-    at: usize,
-    name: &mut Name,
-) -> Result<usize, MessageFault>
+fn add_label(bytes: &[u8], start: usize, at: usize, name: &mut Name) -> Result<usize, MessageFault>
     requires at { at < length bytes.now }
     ensures read { Gives result (label_end bytes.now start at name.old) }
     ensures label { OnOk result (name.new ≡ name.old ++ label_of bytes.now at ∷ []) }
@@ -43,18 +36,12 @@ fn add_label(
         return Err(MessageFault::LongName(start as u64));
     }
     let next = at + 1 + len;
-    name.push_label(Bytes::of(alloc, &bytes[at + 1..next])?)?;
+    name.push_label(&bytes[at + 1..next])?;
     Ok(next)
 }
 
 /// Adds the run's labels to the name that begins at `start`.
-fn add_run(
-    alloc: Global,
-    bytes: &[u8],
-    start: usize,
-    run: usize,
-    name: &mut Name,
-) -> Result<RunEnd, MessageFault>
+fn add_run(bytes: &[u8], start: usize, run: usize, name: &mut Name) -> Result<RunEnd, MessageFault>
     ensures read { MatchResult result
         (λ end. run_of bytes.now start run name.old ≡ Ok (name.new, end))
         (λ fault. fault ≢ MessageFault.NoMemory → run_of bytes.now start run name.old ≡ Err fault) }
@@ -73,7 +60,7 @@ fn add_run(
             let target = (len - POINTER_LEAST) * 256 + bytes[at + 1] as usize;
             return Ok(RunEnd::Pointer { at, target });
         }
-        at = add_label(alloc, bytes, start, at, name)?;
+        at = add_label(bytes, start, at, name)?;
     }
     Err(MessageFault::ShortPart(start as u64))
 }
@@ -92,7 +79,7 @@ pub(crate) fn name_at(
     let mut run = start;
     let mut after = None;
     loop {
-        match add_run(alloc, bytes, start, run, &mut name)? {
+        match add_run(bytes, start, run, &mut name)? {
             RunEnd::Root { next } => return Ok((name, after.unwrap_or(next))),
             RunEnd::Pointer { at, target } => {
                 if target >= run {

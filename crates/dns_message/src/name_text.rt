@@ -9,7 +9,6 @@ ghost use Rattle.dns_message.specs.NameText.{byte_of_digits, escaped, units_of, 
 use crate::fault::NameFault;
 use crate::name::{LABEL_MOST, Name, NameText};
 use crate::name_making::add_label;
-use item_list::Bytes;
 use std::alloc::Global;
 
 /// What a text is made of: dots that part labels, and bytes of labels.
@@ -140,12 +139,7 @@ impl Name {
         loop {
             let found = label_at(alloc, text, start)?;
             let (end, dotted) = (found.end, found.dotted);
-            add_label(
-                &mut name,
-                Bytes::from_vec(found.label),
-                start as u64,
-                end as u64,
-            )?;
+            add_label(&mut name, found.label.as_slice(), start as u64, end as u64)?;
             if !dotted || end + 1 == text.len() {
                 return Ok(NameText {
                     name,

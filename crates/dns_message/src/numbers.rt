@@ -68,10 +68,7 @@ pub(crate) fn put_name(out: &mut Vec<u8>, name: &Name) -> Result<(), NoMemory>
     ensures put { OnOk result (out.new.items ≡ out.old.items ++ name_bytes name.now) }
     ensures name { IsName name.now }
 {
-    for label in name.as_labels() {
-        out.push(label.len() as u8)?;
-        out.extend_from_slice(label.as_slice())?;
-    }
+    out.extend_from_slice(name.as_wire())?;
     out.push(0)?;
     Ok(())
 }

@@ -4,6 +4,7 @@ ghost use Rattle.std.specs.Prelude.{◌≡◌, ◌≢◌, ◌+◌, ◌<◌, ◌�
 ghost use Rattle.dns_message.specs.Reading.{Gives, or_else, expanded_name, names_rdata, rdata_of};
 
 use crate::fault::MessageFault;
+use crate::name::NAME_ROOM;
 use crate::name_reading::name_at;
 use crate::numbers::put_name;
 use crate::shape::{NamesShape, Shape, string_count};
@@ -51,7 +52,8 @@ fn expanded(
         return Err(bad);
     }
     let mut next = at + shape.front;
-    let mut rdata = Vec::from_slice(alloc, &bytes[at..next])?;
+    let mut rdata = Vec::with_capacity(alloc, len + NAME_ROOM)?;
+    rdata.extend_from_slice(&bytes[at..next])?;
     for _ in 0..shape.names {
         next = expand(alloc, bytes, next, bad, &mut rdata)?;
     }

@@ -68,7 +68,7 @@ pub(crate) fn name_in<'a>(alloc: Global, bytes: &'a [u8]) -> Result<(Name, &'a [
     match Name::from_labels(alloc, &labels) {
         Ok(name) => {
             // What a name promises of its labels.
-            let _ = name.as_labels();
+            let _ = name.wire_len();
             Ok((name, rest))
         }
         Err(fault) => Err(bad_unless_memory(fault)),

@@ -6,7 +6,7 @@ use Rattle.dns_rdata.proofs.parts.name_in.Goals as goal
 pub returns-in-Ok : goal.returns-in-Ok
 returns-in-Ok c =
     let made : c.in-Ok.name ≡ map (λ label. label.now) c.in_ok-labels.labels.items = rw c.deref.ensures.value at c.in-Ok.ensures.made in
-    named c.args.bytes.now c.in-Ok.name c.in_ok-labels.rest.now (rw made c.in_ok-labels.ensures) c.as_labels.ensures.name
+    named c.args.bytes.now c.in-Ok.name c.in_ok-labels.rest.now (rw made c.in_ok-labels.ensures) c.wire_len.ensures.name
 
 pub returns : goal.returns
 returns c other =

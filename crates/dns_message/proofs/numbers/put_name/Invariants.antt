@@ -1,7 +1,0 @@
-use Rattle.std.proofs.Common.{◌≡◌, ◌++◌, take}
-use Rattle.std.specs.List.{flat_map}
-use Rattle.dns_message.specs.Spelling.{label_bytes}
-use Rattle.dns_message.proofs.numbers.put_name.Given as goal
-
-abbrev pub invariant-loop-label : goal.invariant-loop-label
-invariant-loop-label l = l.out.items ≡ l.fn.out.items ++ flat_map label_bytes (take l.label-index l.name)
