@@ -49,6 +49,7 @@ fn a_line_has_words(rt: HostRuntime) -> Result<(), Fail> {
 #[test]
 fn words_are_names(rt: HostRuntime) -> Result<(), Fail> {
     let alloc = rt.alloc();
+    assert!(rt; read_name(alloc, b"B.")?.is_some() && read_name(alloc, b"a..b")?.is_none());
     let names = read_names(
         alloc,
         &[b"a.test".as_slice(), b"a..b".as_slice(), b"B.".as_slice()],

@@ -1,0 +1,94 @@
+-- A course that was cut short agrees with its log up to one call.
+use Rattle.std.proofs.Common.{◌≡◌, ℕ, List, [], ◌∷◌, ◌++◌, refl, sym, ap, subst, ◌∙◌, inl, inr}
+use Rattle.std.specs.Prelude.{IsTrue}
+use mathlib.Core.List.{IsPrefix}
+use Rattle.std.proofs.lemmas.List.{append-nil}
+use Rattle.chan_types.specs.declared.journal.Entry.{Entry}
+use Rattle.chan_types.specs.declared.journal.What.{What}
+use Rattle.net_addr.specs.declared.addr.ServerAddr.{ServerAddr}
+use Rattle.net_world.specs.declared.log.WorldCall.{WorldCall}
+use Rattle.net_world.specs.declared.log.WorldCall.TheVariants.{Now, Serve}
+use Rattle.channel_model.specs.Course.{serves_from, has_no_turn, standing_after, IsCutServing, IsCutCourse, IsCourseSoFar}
+use Rattle.channel_model.specs.CutShort.{IsNear, NearlyAgrees}
+use Rattle.channel_model.specs.Journal.{Past, followed_by}
+use Rattle.channel_model.specs.Links.{Link, held_after, told}
+use Rattle.channel_model.specs.Setting.{Setting}
+use Rattle.channel_model.specs.Stretch.{Standing, beginning, behind}
+use Rattle.channel_model.specs.Traffic.{noted, arrived, faulted, opened, asked, queued, messages, datagrams, connects, written, faults}
+use Rattle.channel_model.specs.Turn.{parts_before, IsCutTurn}
+use Rattle.channel_model.proofs.CourseLemmas.{Silent, silent_arrived, silent_faulted, silent_opened, silent_asked, silent_queued, noted-silent, serves_quiet, course_whole}
+use Rattle.channel_model.proofs.CutLemmas.{nearly_behind, agrees_nearly}
+use Rattle.channel_model.proofs.TrafficLemmas.{noted-append, told-append}
+use Rattle.channel_model.proofs.TurnLemmas.{now_agrees, parts_agree}
+
+-- entries that aren't a turn's add nothing to what is noted
+noted_behind : {A : Type 0} (seat : ℕ) (notes : Past → What → List A) → Silent notes → (past : Past) (es os : List Entry) → IsTrue (has_no_turn os) → noted seat notes past es ≡ noted seat notes past (es ++ os)
+noted_behind seat notes silent past es os none =
+    sym (noted-append seat notes past es os ∙ ap (λ l. noted seat notes past es ++ l) (noted-silent seat notes silent (followed_by past es) os none) ∙ append-nil (noted seat notes past es))
+
+-- the first part of a list that is empty is empty
+front_empty : {A : Type 0} (xs ys : List A) → xs ++ ys ≡ [] → xs ≡ []
+front_empty [] ys h = refl
+front_empty (x ∷ xs) ys h = absurd (cc h)
+
+module _ (channel : Setting) (seat : ℕ) where
+  -- entries that aren't a turn's may stand behind
+  nearly_silent : (a : Standing) (es os : List Entry) (cs : List WorldCall) → IsTrue (has_no_turn os) → NearlyAgrees channel seat a es cs → NearlyAgrees channel seat a (es ++ os) cs
+  nearly_silent a es os cs none x =
+      record {
+        arrivals = subst (λ l. IsNear messages a.held cs l) (noted_behind seat arrived silent_arrived a.past es os none) x.arrivals;
+        sends = subst (λ l. IsNear datagrams a.held cs l) (noted_behind seat (asked channel) (silent_asked channel) a.past es os none) x.sends;
+        links = subst (λ l. IsNear connects a.held cs l) (noted_behind seat opened silent_opened a.past es os none) x.links;
+        writes = λ link.
+            subst (λ l. IsPrefix (told (written link) a.held cs) (a.unwritten link ++ l)) (noted_behind seat (queued channel link) (silent_queued channel link) a.past es os none) (x.writes link);
+        faults_are = subst (λ l. IsNear faults a.held cs l) (noted_behind seat faulted silent_faulted a.past es os none) x.faults_are;
+      }
+
+  -- a turn that was cut short
+  pub cut_turn_nearly : (reading : ℕ) (a : Standing) (es : List Entry) (cs : List WorldCall) → IsCutTurn channel seat reading a es cs → NearlyAgrees channel seat a es cs
+  cut_turn_nearly reading a es cs turn =
+      let parts = turn.parts in
+      subst (λ x. NearlyAgrees channel seat a es x) (sym turn.calls_are)
+      (nearly_behind channel seat a a [] es (Now reading ∷ []) turn.made (now_agrees channel seat reading a)
+      (subst (λ x. NearlyAgrees channel seat a x turn.made) (sym parts.entries_are)
+      (subst (λ x. NearlyAgrees channel seat a (parts.entries_first ++ parts.entries_then) x) (sym parts.calls_are)
+      (nearly_behind channel seat a parts.middle parts.entries_first parts.entries_then parts.calls_first parts.calls_then
+      (parts_agree channel seat reading (parts_before turn.part) a parts.entries_first parts.calls_first parts.middle parts.one) parts.two.nearly))))
+
+  -- a course that was cut short in a turn
+  cut_course_nearly : (slice : ℕ) (journal : List Entry) (log : List WorldCall) (turns : ℕ) → IsCutCourse channel seat slice journal log turns → NearlyAgrees channel seat beginning journal log
+  cut_course_nearly slice journal log turns x =
+      let here = standing_after (behind beginning x.course.first) x.course.rounds in
+      subst (λ l. NearlyAgrees channel seat beginning l log) (sym x.journal_is)
+      (subst (λ l. NearlyAgrees channel seat beginning ((x.earlier ++ x.cut) ++ x.later) l) (sym x.log_is)
+      (nearly_silent beginning (x.earlier ++ x.cut) x.later (x.calls_earlier ++ x.calls_cut) x.no_turn
+      (nearly_behind channel seat beginning here x.earlier x.cut x.calls_earlier x.calls_cut
+      (course_whole channel seat slice x.earlier x.calls_earlier turns x.course) (cut_turn_nearly x.reading here x.cut x.calls_cut x.turn))))
+
+  -- the first of the serves tell nothing
+  some_serves_quiet : {A : Type 0} (tells : List Link → WorldCall → List A) → ((held : List Link) (server : ℕ) (address : ServerAddr) → tells held (Serve server address) ≡ []) →
+      (log : List WorldCall) (addresses : List ServerAddr) → IsPrefix log (serves_from 0 addresses) → told tells [] log ≡ []
+  some_serves_quiet tells quiet log addresses p =
+      front_empty (told tells [] log) (told tells (held_after [] log) p.0)
+      (sym (told-append tells [] log p.0) ∙ ap (told tells []) p.1 ∙ serves_quiet channel seat tells quiet [] 0 addresses)
+
+  -- a run that was cut short while it told the servers
+  cut_serving_nearly : (journal : List Entry) (log : List WorldCall) → IsCutServing channel journal log → NearlyAgrees channel seat beginning journal log
+  cut_serving_nearly journal log x =
+      record {
+        arrivals = inl (noted-silent seat arrived silent_arrived [] journal x.no_turn ∙ sym (some_serves_quiet messages (λ h s d. refl) log channel.options.servers x.told_so_far));
+        sends = inl (noted-silent seat (asked channel) (silent_asked channel) [] journal x.no_turn ∙ sym (some_serves_quiet datagrams (λ h s d. refl) log channel.options.servers x.told_so_far));
+        links = inl (noted-silent seat opened silent_opened [] journal x.no_turn ∙ sym (some_serves_quiet connects (λ h s d. refl) log channel.options.servers x.told_so_far));
+        writes = λ link. (
+          noted seat (queued channel link) [] journal,
+          ap (λ l. l ++ noted seat (queued channel link) [] journal) (some_serves_quiet (written link) (λ h s d. refl) log channel.options.servers x.told_so_far),
+        );
+        faults_are = inl (noted-silent seat faulted silent_faulted [] journal x.no_turn ∙ sym (some_serves_quiet faults (λ h s d. refl) log channel.options.servers x.told_so_far));
+      }
+
+  -- a course, whole or cut short
+  pub so_far_nearly : (slice : ℕ) (journal : List Entry) (log : List WorldCall) (turns : ℕ) → IsCourseSoFar channel seat slice journal log turns → NearlyAgrees channel seat beginning journal log
+  so_far_nearly slice journal log turns (inl course) =
+      agrees_nearly channel seat beginning (standing_after (behind beginning course.first) course.rounds) journal log (course_whole channel seat slice journal log turns course)
+  so_far_nearly slice journal log turns (inr (inl cut)) = cut_course_nearly slice journal log turns cut
+  so_far_nearly slice journal log turns (inr (inr serving)) = cut_serving_nearly journal log serving.0

@@ -1,0 +1,101 @@
+-- Behind a stretch that agrees, one that is one call apart is one call apart.
+use Rattle.std.proofs.Common.{◌≡◌, ℕ, List, [], ◌∷◌, ◌++◌, refl, sym, ap, subst, ◌∙◌, inl, inr}
+use mathlib.Core.List.{IsPrefix}
+use Rattle.std.proofs.lemmas.List.{append_assoc}
+use Rattle.chan_types.specs.declared.journal.Entry.{Entry}
+use Rattle.chan_types.specs.declared.journal.What.{What}
+use Rattle.net_world.specs.declared.log.WorldCall.{WorldCall}
+use Rattle.channel_model.specs.CutShort.{GoesOn, StopsShort, IsNear, NearlyAgrees}
+use Rattle.channel_model.specs.Journal.{Past, followed_by}
+use Rattle.channel_model.specs.Links.{Link, held_after, told}
+use Rattle.channel_model.specs.Setting.{Setting}
+use Rattle.channel_model.specs.Stretch.{Standing, Agrees}
+use Rattle.channel_model.specs.Traffic.{noted, arrived, faulted, opened, asked, queued, messages, datagrams, connects, written, faults}
+use Rattle.channel_model.proofs.TrafficLemmas.{held_after-append, told-append, noted-append, joined}
+
+-- a prefix stays one behind the same list
+prefix_behind : {A : Type 0} (front xs ys : List A) → IsPrefix xs ys → IsPrefix (front ++ xs) (front ++ ys)
+prefix_behind front xs ys p = (p.0, append_assoc front xs p.0 ∙ ap (λ l. front ++ l) p.1)
+
+module _ {A : Type 0} (seat : ℕ) (notes : Past → What → List A) (tells : List Link → WorldCall → List A) (past : Past) (held : List Link) (es fs : List Entry) (cs ds : List WorldCall)
+    (same : noted seat notes past es ≡ told tells held cs) where
+  -- what is noted in both stretches
+  both_noted : noted seat notes past (es ++ fs) ≡ told tells held cs ++ noted seat notes (followed_by past es) fs
+  both_noted = noted-append seat notes past es fs ∙ ap (λ l. l ++ noted seat notes (followed_by past es) fs) same
+
+  -- one thing more
+  goes_on_behind : GoesOn (noted seat notes (followed_by past es) fs) (told tells (held_after held cs) ds) → GoesOn (noted seat notes past (es ++ fs)) (told tells held (cs ++ ds))
+  goes_on_behind more = record {
+    last = more.last;
+    is_behind =
+        both_noted
+        ∙ ap (λ l. told tells held cs ++ l) more.is_behind
+        ∙ sym (append_assoc (told tells held cs) (told tells (held_after held cs) ds) (more.last ∷ []))
+        ∙ ap (λ l. l ++ more.last ∷ []) (sym (told-append tells held cs ds));
+  }
+
+  -- within the last call that tells something
+  stops_short_behind : StopsShort tells (held_after held cs) ds (noted seat notes (followed_by past es) fs) → StopsShort tells held (cs ++ ds) (noted seat notes past (es ++ fs))
+  stops_short_behind stops = record {
+    earlier = cs ++ stops.earlier;
+    last = stops.last;
+    later = stops.later;
+    calls_are = ap (λ l. cs ++ l) stops.calls_are ∙ sym (append_assoc cs stops.earlier (stops.last ∷ stops.later));
+    quiet =
+        ap (λ h. told tells h stops.later)
+        (ap (λ l. held_after held l) (append_assoc cs stops.earlier (stops.last ∷ [])) ∙ held_after-append held cs (stops.earlier ++ stops.last ∷ []))
+        ∙ stops.quiet;
+    reached =
+        subst (λ l. IsPrefix l (noted seat notes past (es ++ fs))) (sym (told-append tells held cs stops.earlier))
+        (subst (λ l. IsPrefix (told tells held cs ++ told tells (held_after held cs) stops.earlier) l) (sym both_noted)
+        (prefix_behind (told tells held cs) (told tells (held_after held cs) stops.earlier) (noted seat notes (followed_by past es) fs) stops.reached));
+    not_passed =
+        subst (λ l. IsPrefix l (told tells held (cs ++ ds))) (sym both_noted)
+        (subst (λ l. IsPrefix (told tells held cs ++ noted seat notes (followed_by past es) fs) l) (sym (told-append tells held cs ds))
+        (prefix_behind (told tells held cs) (noted seat notes (followed_by past es) fs) (told tells (held_after held cs) ds) stops.not_passed));
+  }
+
+  -- near behind what is the same
+  near_behind : IsNear tells (held_after held cs) ds (noted seat notes (followed_by past es) fs) → IsNear tells held (cs ++ ds) (noted seat notes past (es ++ fs))
+  near_behind (inl alike) = inl (joined seat notes tells past (followed_by past es) held (held_after held cs) es fs cs ds refl refl same alike)
+  near_behind (inr (inl more)) = inr (inl (goes_on_behind more))
+  near_behind (inr (inr stops)) = inr (inr (stops_short_behind stops))
+
+-- the bytes written, and those to be written
+writes_behind : (channel : Setting) (seat link : ℕ) (a b : Standing) (es fs : List Entry) (cs ds : List WorldCall) → Agrees channel seat a es cs b →
+    IsPrefix (told (written link) b.held ds) (b.unwritten link ++ noted seat (queued channel link) b.past fs) →
+    IsPrefix (told (written link) a.held (cs ++ ds)) (a.unwritten link ++ noted seat (queued channel link) a.past (es ++ fs))
+writes_behind channel seat link a b es fs cs ds x p =
+    subst (λ l. IsPrefix l (a.unwritten link ++ noted seat (queued channel link) a.past (es ++ fs))) (sym told_both)
+    (subst (λ l. IsPrefix (told (written link) a.held cs ++ told (written link) b.held ds) l) (sym queued_both)
+    (prefix_behind (told (written link) a.held cs) (told (written link) b.held ds) (b.unwritten link ++ noted seat (queued channel link) b.past fs) p))
+  where
+    told_both : told (written link) a.held (cs ++ ds) ≡ told (written link) a.held cs ++ told (written link) b.held ds
+    told_both = told-append (written link) a.held cs ds ∙ ap (λ h. told (written link) a.held cs ++ told (written link) h ds) (sym x.held_are)
+
+    queued_both : a.unwritten link ++ noted seat (queued channel link) a.past (es ++ fs) ≡ told (written link) a.held cs ++ (b.unwritten link ++ noted seat (queued channel link) b.past fs)
+    queued_both =
+        ap (λ l. a.unwritten link ++ l) (noted-append seat (queued channel link) a.past es fs)
+        ∙ ap (λ q. a.unwritten link ++ (noted seat (queued channel link) a.past es ++ noted seat (queued channel link) q fs)) (sym x.past_is)
+        ∙ sym (append_assoc (a.unwritten link) (noted seat (queued channel link) a.past es) (noted seat (queued channel link) b.past fs))
+        ∙ ap (λ l. l ++ noted seat (queued channel link) b.past fs) (x.writes link)
+        ∙ append_assoc (told (written link) a.held cs) (b.unwritten link) (noted seat (queued channel link) b.past fs)
+
+pub nearly_behind : (channel : Setting) (seat : ℕ) (a b : Standing) (es fs : List Entry) (cs ds : List WorldCall) →
+    Agrees channel seat a es cs b → NearlyAgrees channel seat b fs ds → NearlyAgrees channel seat a (es ++ fs) (cs ++ ds)
+nearly_behind channel seat a b es fs cs ds x y =
+    let z : NearlyAgrees channel seat (record { past = followed_by a.past es; held = held_after a.held cs; unwritten = b.unwritten }) fs ds =
+    subst (λ h. NearlyAgrees channel seat (record { past = followed_by a.past es; held = h; unwritten = b.unwritten }) fs ds) x.held_are
+    (subst (λ p. NearlyAgrees channel seat (record { past = p; held = b.held; unwritten = b.unwritten }) fs ds) x.past_is y) in
+    record {
+      arrivals = near_behind seat arrived messages a.past a.held es fs cs ds x.arrivals z.arrivals;
+      sends = near_behind seat (asked channel) datagrams a.past a.held es fs cs ds x.sends z.sends;
+      links = near_behind seat opened connects a.past a.held es fs cs ds x.links z.links;
+      writes = λ link. writes_behind channel seat link a b es fs cs ds x (y.writes link);
+      faults_are = near_behind seat faulted faults a.past a.held es fs cs ds x.faults_are z.faults_are;
+    }
+
+-- a stretch that agrees is not even one call apart
+pub agrees_nearly : (channel : Setting) (seat : ℕ) (a b : Standing) (es : List Entry) (cs : List WorldCall) → Agrees channel seat a es cs b → NearlyAgrees channel seat a es cs
+agrees_nearly channel seat a b es cs x =
+    record { arrivals = inl x.arrivals; sends = inl x.sends; links = inl x.links; writes = λ link. (b.unwritten link, sym (x.writes link)); faults_are = inl x.faults_are }

@@ -1,0 +1,14 @@
+pub mod Words
+pub mod CancelThenAsk
+pub mod DestroyThenAsk
+pub mod FollowUp
+pub mod CancelTwice
+pub mod Flushing
+pub mod Due
+pub mod DroppedAsk
+pub mod TruncatedReply
+pub mod Queries
+pub mod Datagrams
+pub mod SharedLink
+pub mod Strays
+pub mod FailedSends
