@@ -1,11 +1,10 @@
 -- What a longer journal says of the requests that were asked and taken.
-use Rattle.std.proofs.Common.{◌≡◌, ℕ, List, [], ◌∷◌, ◌++◌, refl, sym, ◌∙◌, ap, append_assoc}
-use Rattle.std.specs.Prelude.{Result, Ok, Err, OnOk}
+use Rattle.std.proofs.Common.{◌≡◌, ℕ, ◌+◌, length, List, [], ◌∷◌, ◌++◌, refl, sym, ◌∙◌, ap, append_assoc}
 use Rattle.std.proofs.lemmas.List.{append-nil}
 use Rattle.chan_types.specs.declared.journal.Entry.{Entry}
+use Rattle.chan_types.specs.declared.journal.What.{What}
 use Rattle.chan_types.specs.declared.spec.Spec.{Spec}
-use Rattle.adig_tool.specs.Channel.{asked_in, asked_by, taken_in, taken_by}
-use Rattle.adig_tool.specs.Finish.{IsCalledOnce}
+use Rattle.adig_tool.specs.Entries.{own_entry, asked_in, asked_by, taken_in, taken_by}
 
 -- what is asked in two parts of a journal
 pub asked_in-append : (first second : List Entry) → asked_in (first ++ second) ≡ asked_in first ++ asked_in second
@@ -48,17 +47,8 @@ asked_same journal new entry e none = asked_more journal new entry [] e none ∙
 pub taken_same : (journal new : List Entry) (entry : Entry) → new ≡ journal ++ entry ∷ [] → taken_by entry.what ≡ [] → taken_in new ≡ taken_in journal
 taken_same journal new entry e none = taken_more journal new entry [] e none ∙ append-nil (taken_in journal)
 
--- a request that is accepted first, and alone
-pub asked_alone : (before accepted after : List Entry) (spec wanted : Spec) → before ≡ [] → asked_in accepted ≡ asked_in before ++ spec ∷ [] → asked_in after ≡ asked_in accepted → spec ≡ wanted → asked_in after ≡ wanted ∷ []
-asked_alone before accepted after spec wanted empty one same is =
-    same ∙ (one ∙ (ap (λ asked. asked ++ spec ∷ []) (ap asked_in empty ∙ asked_in-nil) ∙ ap (λ s. s ∷ []) is))
-
--- without a journal no request was accepted, taken or called
-pub none_called : IsCalledOnce [] []
-unfolding asked_in taken_in
-none_called = record { taken = refl; called = refl }
-
--- what holds whatever the result holds of an Ok
-pub on_ok : {T E : Type 0} (P : Type 0) → P → (r : Result T E) → OnOk r P
-on_ok P p (Ok x) = p
-on_ok P p (Err e) = tt
+-- one entry more that neither asks nor takes keeps the balance
+pub balanced_more : (old new : List Entry) (what : What) (owed owes : ℕ) → new ≡ old ++ own_entry what ∷ [] → asked_by what ≡ [] → taken_by what ≡ [] → owes ≡ owed →
+    length (asked_in old) ≡ length (taken_in old) + owed → length (asked_in new) ≡ length (taken_in new) + owes
+balanced_more old new what owed owes added asks takes same balance =
+    rw (asked_same old new (own_entry what) added asks, taken_same old new (own_entry what) added takes, same) balance

@@ -6,10 +6,7 @@ use Rattle.net_addr.specs.declared.addr.Addr.TheVariants.{V4}
 use Rattle.net_addr.specs.Text.{Spells}
 use Rattle.chan_types.specs.declared.answer.Answer.{Answer}
 use Rattle.chan_types.specs.declared.journal.Entry.{Entry}
-use Rattle.chan_types.specs.declared.spec.Spec.TheVariants.{Query}
 use Rattle.adig_tool.specs.declared.ended.TheConstants.{USAGE, SINK_FAULT, OUT_OF_MEMORY}
-use Rattle.adig_tool.specs.declared.page.TheConstants.{A, IN}
-use Rattle.adig_tool.specs.Channel.{asked_in}
 use Rattle.adig_tool.specs.Output.{GoesOn, GoesOnInPart, usage_text}
 
 -- the text is a name, and its last label isn't `onion`, ignoring case (RFC 7686, section 2)
@@ -39,10 +36,3 @@ pub record Refuses {F W : Type 0} (status : ℕ) (journal : List Entry) (calls :
   pub world : world_new ≡ world_old
   pub whole : status ≡ USAGE → GoesOn old new usage_text
   pub part : GoesOnInPart old new usage_text
-
--- the one request that was accepted is for the addresses of the name of these words
-pub record AsksTheWords (words : List (List ℕ)) (journal : List Entry) : Type 0 where
-  pub address : ℕ
-  pub text : List ℕ
-  pub understood : Ask words address text
-  pub alone : asked_in journal ≡ Query text A IN ∷ []

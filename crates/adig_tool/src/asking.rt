@@ -1,10 +1,18 @@
 //! The part of a run that asks: the channel is made, its one request is accepted and brought to its end, and the page is put.
 
-ghost use Rattle.std.specs.Prelude.{◌≡◌, ◌≢◌, ◌⊎◌, ◌<◌, ◌≤◌, [], ◌∷◌, ◌++◌, map, false, length, OnOk, All, IsTrue, ◌↔◌, vec_len};
+ghost use Rattle.std.specs.Prelude.{◌≡◌, ◌≢◌, ◌⊎◌, ◌≤◌, [], ◌∷◌, ◌++◌, false, All, IsTrue, ◌↔◌, OnErr};
 ghost use Rattle.net_world.specs.Cause.{Rose};
-ghost use Rattle.adig_tool.specs.Channel.{take_of, answers_of, asked_in, taken_in, IsUndestroyed};
-ghost use Rattle.adig_tool.specs.Finish.{FoundNothing, FoundPending, IsCalledOnce, IsSuccess, numbers_of, Asks};
-ghost use Rattle.adig_tool.specs.Output.{GoesOn, wait_fault_text, stalled_text};
+ghost use Rattle.channel_model.specs.Completion.{pending, ready};
+ghost use Rattle.channel_model.specs.Endings.{LastWaitFailed};
+ghost use Rattle.channel_model.specs.Journal.{is_destroyed};
+ghost use Rattle.channel_model.specs.Lawful.{IsLawful};
+ghost use Rattle.adig_tool.specs.Calls.{past_in, setting_of};
+ghost use Rattle.adig_tool.specs.Finish.{IsSuccess};
+ghost use Rattle.adig_tool.specs.Headline.{AcceptsFor, CallsOnce, IsFinished, IsTrafficOf, Obeys, left_pending, request_for};
+ghost use Rattle.adig_tool.specs.Output.{GoesOn, IsOutputOf, wait_fault_text, stalled_text};
+ghost use Rattle.adig_tool.specs.Sessions.{Delivers, Finishes, MakesSession, MakesTurns};
+ghost use Rattle.adig_tool.specs.Setup.{setup};
+ghost use Rattle.adig_tool.specs.Steps.{GoesOnWith};
 ghost use Rattle.adig_tool.specs.declared.ended.TheConstants.{USAGE, FILE_FAULT, SINK_FAULT};
 
 use crate::answers::Paused;
@@ -44,19 +52,24 @@ pub fn ask<W: World, K: Sink>(
     sink: &mut K,
     turns: u64,
 ) -> Ended
+    ensures lawful { IsLawful (setup asked.now.server) result.journal }
+    ensures asked { AcceptsFor asked.now.word.now result.status result.journal }
+    ensures obeyed { Obeys asked.now.server result.journal }
+    ensures called_once { CallsOnce asked.now.server result.journal result.calls }
+    ensures finished { IsFinished asked.now.server result.status result.journal }
+    ensures traffic { GoesOnWith (IsTrafficOf asked.now.server result.status result.journal) (W.log world.old) (W.log world.new) }
     ensures known { (result.status ≤ STALLED) × (result.status ≢ USAGE) × (result.status ≢ FILE_FAULT) }
     ensures success { result.status ≡ SUCCESS → All IsSuccess result.calls }
     ensures failure { result.status ≡ FAILURE → ¬ All IsSuccess result.calls }
-    ensures asked { Asks result.status → asked_in result.journal ≡ Spec.Query asked.now.word.now A IN ∷ [] }
-    ensures called { IsCalledOnce result.journal result.calls }
-    ensures finished { (result.status ≡ SUCCESS) ⊎ (result.status ≡ FAILURE) → FoundNothing result.journal result.calls }
     ensures sink_fault { result.status ≡ SINK_FAULT → Rose (K.faults sink.old) (K.faults sink.new) }
     ensures wait_fault { result.status ≡ WAIT_FAULT → Rose (W.wait_faults world.old) (W.wait_faults world.new) }
-    ensures stalled { result.status ≡ STALLED → FoundPending result.journal result.calls }
+    ensures last_wait { result.status ≡ WAIT_FAULT → GoesOnWith LastWaitFailed (W.log world.old) (W.log world.new) }
+    ensures stalled { result.status ≡ STALLED → left_pending asked.now.server result.journal ≢ [] }
+    ensures output { IsOutputOf asked.now.word.now result.calls result.status (K.bytes sink.old) (K.bytes sink.new) }
     ensures wait_fault_text { result.status ≡ WAIT_FAULT → GoesOn (K.bytes sink.old) (K.bytes sink.new) wait_fault_text }
     ensures stalled_text { result.status ≡ STALLED → GoesOn (K.bytes sink.old) (K.bytes sink.new) stalled_text }
 {
-    let Ok(mut channel) = Channel::make(alloc) else {
+    let Ok(mut channel) = Channel::make(alloc, asked.server) else {
         return Ended::early(alloc, OUT_OF_MEMORY);
     };
     let mut calls = Calls::new();
@@ -79,18 +92,14 @@ fn session<W: World>(
     world: &mut W,
     turns: u64,
 ) -> Result<LoopEnd, NoMemory>
-    requires open { channel.old.closed ≡ false }
-    requires answers { All IsUndestroyed calls.old }
-    requires empty { channel.old.entries.items ≡ [] }
-    requires called { numbers_of calls.old ≡ taken_in channel.old.entries.items }
-    ensures open { channel.new.closed ≡ false }
-    ensures answers { All IsUndestroyed calls.new }
-    ensures called { numbers_of calls.new ≡ taken_in channel.new.entries.items }
-    ensures asked { OnOk result (asked_in channel.new.entries.items ≡ Spec.Query asked.now.word.now A IN ∷ []) }
-    ensures completed { result ≡ Ok LoopEnd.Completed → (channel.new.pending.items ≡ []) × (channel.new.ready.items ≡ []) }
-    ensures stalled { result ≡ Ok LoopEnd.Stalled → 0 < vec_len channel.new.pending }
+    requires empty { channel.old.journal ≡ [] }
+    requires uncalled { calls.old ≡ [] }
+    ensures session { MakesSession result (request_for asked.now.word.now) channel.old channel.new calls.new (W.log world.old) (W.log world.new) }
+    ensures completed { result ≡ Ok LoopEnd.Completed → (pending (setting_of channel.new) (past_in channel.new) ≡ []) × (ready (setting_of channel.new) (past_in channel.new) ≡ []) }
+    ensures stalled { result ≡ Ok LoopEnd.Stalled → pending (setting_of channel.new) (past_in channel.new) ≢ [] }
     ensures waits { W.wait_faults world.old ≤ W.wait_faults world.new }
     ensures wait_fault { result ≡ Ok LoopEnd.WaitFault → Rose (W.wait_faults world.old) (W.wait_faults world.new) }
+    ensures last_wait { result ≡ Ok LoopEnd.WaitFault → GoesOnWith LastWaitFailed (W.log world.old) (W.log world.new) }
 {
     let mut runner = Runner::make(world, &asked.server)?;
     let spec = Spec::Query {
@@ -113,17 +122,12 @@ fn make_turns<W: World>(
     world: &mut W,
     turns: u64,
 ) -> Result<LoopEnd, NoMemory>
-    requires open { channel.old.closed ≡ false }
-    requires answers { All IsUndestroyed calls.old }
-    requires called { numbers_of calls.old ≡ taken_in channel.old.entries.items }
-    ensures open { channel.new.closed ≡ false }
-    ensures answers { All IsUndestroyed calls.new }
-    ensures called { numbers_of calls.new ≡ taken_in channel.new.entries.items }
-    ensures asked { asked_in channel.new.entries.items ≡ asked_in channel.old.entries.items }
-    ensures completed { result ≡ Ok LoopEnd.Completed → (channel.new.pending.items ≡ []) × (channel.new.ready.items ≡ []) }
-    ensures stalled { result ≡ Ok LoopEnd.Stalled → 0 < vec_len channel.new.pending }
+    ensures turns { MakesTurns result channel.old channel.new calls.old calls.new (W.log world.old) (W.log world.new) }
+    ensures completed { result ≡ Ok LoopEnd.Completed → (pending (setting_of channel.new) (past_in channel.new) ≡ []) × (ready (setting_of channel.new) (past_in channel.new) ≡ []) }
+    ensures stalled { result ≡ Ok LoopEnd.Stalled → pending (setting_of channel.new) (past_in channel.new) ≢ [] }
     ensures waits { W.wait_faults world.old ≤ W.wait_faults world.new }
     ensures wait_fault { result ≡ Ok LoopEnd.WaitFault → Rose (W.wait_faults world.old) (W.wait_faults world.new) }
+    ensures last_wait { result ≡ Ok LoopEnd.WaitFault → GoesOnWith LastWaitFailed (W.log world.old) (W.log world.new) }
 {
     deliver_all(channel, calls);
     for _ in 0..turns {
@@ -144,14 +148,10 @@ fn make_turns<W: World>(
 }
 
 /// Takes and spends each ready request.
+#[tactic(auto, using(crate::proofs::DeliverLemmas::delivers_none, crate::proofs::DeliverLemmas::fewer_ready))]
 fn deliver_all(channel: &mut Channel, calls: &mut Calls)
-    ensures calls { calls.new ≡ calls.old ++ answers_of channel.old.ready.items }
-    ensures entries { channel.new.entries.items ≡ channel.old.entries.items ++ map take_of (answers_of channel.old.ready.items) }
-    ensures asked { asked_in channel.new.entries.items ≡ asked_in channel.old.entries.items }
-    ensures called { numbers_of calls.old ≡ taken_in channel.old.entries.items → numbers_of calls.new ≡ taken_in channel.new.entries.items }
-    ensures ready { channel.new.ready.items ≡ [] }
-    ensures pending { channel.new.pending ≡ channel.old.pending }
-    ensures closed { channel.new.closed ≡ channel.old.closed }
+    ensures delivers { Delivers channel.old channel.new calls.old calls.new }
+    ensures none_ready { ready (setting_of channel.new) (past_in channel.new) ≡ [] }
 {
     while let Some(ticket) = channel.take() {
         let (_quiet, call) = ticket.spend();
@@ -161,12 +161,8 @@ fn deliver_all(channel: &mut Channel, calls: &mut Calls)
 
 /// Ends the channel, and delivers what is ready then.
 fn finish(channel: &mut Channel, calls: &mut Calls)
-    requires { channel.old.closed ≡ false }
-    ensures nothing { channel.old.pending.items ≡ [] → channel.old.ready.items ≡ [] → All IsUndestroyed calls.old → FoundNothing channel.new.entries.items calls.new }
-    ensures pending { 0 < vec_len channel.old.pending → FoundPending channel.new.entries.items calls.new }
-    ensures called { numbers_of calls.old ≡ taken_in channel.old.entries.items → numbers_of calls.new ≡ taken_in channel.new.entries.items }
-    ensures asked { asked_in channel.new.entries.items ≡ asked_in channel.old.entries.items }
-    ensures all { length (taken_in channel.new.entries.items) ≡ length (asked_in channel.new.entries.items) }
+    requires open { is_destroyed (past_in channel.old) ≡ false }
+    ensures { Finishes channel.old channel.new calls.old calls.new }
 {
     channel.destroy();
     deliver_all(channel, calls);
@@ -181,9 +177,11 @@ fn report<K: Sink>(
     sink: &mut K,
 ) -> u8
     ensures known { (result ≤ STALLED) × (result ≢ USAGE) × (result ≢ FILE_FAULT) }
+    ensures out_of_memory { OnErr end (result ≡ OUT_OF_MEMORY) }
     ensures success { result ≡ SUCCESS → (end ≡ Ok LoopEnd.Completed) × All IsSuccess calls.now }
     ensures failure { result ≡ FAILURE → (end ≡ Ok LoopEnd.Completed) × ¬ All IsSuccess calls.now }
     ensures sink_fault { result ≡ SINK_FAULT → Rose (K.faults sink.old) (K.faults sink.new) }
+    ensures output { IsOutputOf word.now calls.now result (K.bytes sink.old) (K.bytes sink.new) }
     ensures wait_fault { result ≡ WAIT_FAULT → (end ≡ Ok LoopEnd.WaitFault) × GoesOn (K.bytes sink.old) (K.bytes sink.new) wait_fault_text }
     ensures stalled { result ≡ STALLED → (end ≡ Ok LoopEnd.Stalled) × GoesOn (K.bytes sink.old) (K.bytes sink.new) stalled_text }
 {

@@ -1,91 +1,93 @@
-//! The channel of one owner: a plain list of requests, and the journal of what happened to them.
+//! The channel of one owner and one request: what the request has come to, and the journal of what happened.
 
-ghost use Rattle.std.specs.Prelude.{◌≡◌, ◌+◌, ◌≤◌, [], ◌∷◌, ◌++◌, All, IfOk, false, length, vec_len, vec_capacity};
-ghost use Rattle.std.proofs.Props.{props};
-ghost use Rattle.adig_tool.specs.Channel.{kept_for_destroy, own_entry, answers_of, asked_in, taken_in, IsPlain, IsUndestroyed};
+ghost use Rattle.std.specs.Prelude.{◌≡◌, ◌+◌, [], IfOk, OnOk, length, vec_len, vec_capacity};
+ghost use Rattle.channel_model.specs.Journal.{past_of};
+ghost use Rattle.channel_model.specs.Completion.{pending, ready};
+ghost use Rattle.channel_model.specs.Lawful.{IsLawful};
+ghost use Rattle.adig_tool.specs.Setup.{setup};
+ghost use Rattle.adig_tool.specs.Entries.{own_entry, asked_in, taken_in};
 
 mod accepting;
 mod asking;
 mod counting;
 mod delivering;
-mod ending;
 mod failing;
 mod landing;
-mod pending;
+mod stage;
 
 pub use accepting::ONION;
-use chan_types::{Entry, Journal, Quiet, Ticket, What};
+use chan_types::{Entry, Journal, What};
 use item_list::NoMemory;
-use pending::Pending;
+use net_addr::ServerAddr;
+use stage::Stage;
 use std::alloc::Global;
+use std::marker::Model;
 
-/// A channel with one owner, whose requests have one question, one server and one attempt.
+/// A channel with one owner, for one request that asks one question of one server, once. Contracts see its server and
+/// its journal: what its calls answer is what the journal means.
 #[derive(Drop)]
 pub struct Channel {
     alloc: Global,
-    /// The journal so far.
-    pub entries: Vec<Entry>,
-    /// The requests that aren't completed, by number.
-    pub pending: Vec<Pending>,
-    /// The completed requests that weren't taken, in the order in which they were completed.
-    pub ready: Vec<Ticket<Quiet>>,
-    /// How many requests were accepted.
-    accepted: u64,
+    server: ServerAddr,
+    entries: Vec<Entry>,
+    stage: Stage,
     /// The channel was destroyed.
-    pub closed: bool,
-
-    // Each request has room for its Take, and the channel for its Destroy: these take no memory.
-    ghost room: { vec_len entries + vec_len pending + vec_len ready + kept_for_destroy closed ≤ vec_capacity entries },
-    ghost places: { vec_len pending + vec_len ready ≤ vec_capacity ready },
-    ghost counted: { accepted ≤ vec_len entries },
-
-    // Each accepted request was taken, is ready or is pending.
-    ghost balanced: { length (asked_in entries.items) ≡ length (taken_in entries.items) + vec_len pending + vec_len ready },
-
-    // Only the Destroy completes a request as destroyed.
-    ghost undestroyed: { closed ≡ false → All IsUndestroyed (answers_of ready.items) } by { Prim.hlevel props },
+    closed: bool,
 }
 
+impl Model for Channel {
+    ghost use Rattle.std.specs.Coded.{codes};
+    ghost use Rattle.chan_types.specs.PlanCode.{moves_code};
+    ghost use Rattle.adig_tool.specs.Seen.{Seen};
+
+    ghost Value = { Seen };
+
+    ghost coded = { Prim.hlevel (codes, moves_code) };
+
+    ghost use Rattle.adig_tool.specs.Kept.{seen_of, IsKept};
+
+    ghost view = { seen_of };
+
+    ghost invariant = { IsKept };
+}
+
+/// The number of the one request.
+const NUMBER: u64 = 1;
+
+/// Its one leg, since it has one question.
+const LEG: u8 = 0;
+
+/// The one server, by its index.
+const SERVER: u32 = 0;
+
+/// The link of datagrams.
+const UDP: u64 = 0;
+
+/// The room for an entry, and for the Take and the Destroy that may follow.
+const ROOM: usize = 3;
+
 impl Channel {
-    /// A channel without requests. It has the room for its one Destroy.
-    pub fn make(alloc: Global) -> Result<Channel, NoMemory>
-        ensures entries { IfOk result (λ channel. channel.entries.items ≡ []) }
-        ensures pending { IfOk result (λ channel. channel.pending.items ≡ []) }
-        ensures ready { IfOk result (λ channel. channel.ready.items ≡ []) }
-        ensures open { IfOk result (λ channel. channel.closed ≡ false) }
+    /// A channel without a request. It has the room for its one Destroy.
+    pub fn make(alloc: Global, server: ServerAddr) -> Result<Channel, NoMemory>
+        ensures { IfOk result (λ channel. channel ≡ record { server = server; journal = [] }) }
     {
         Ok(Channel {
             alloc,
+            server,
             entries: Vec::with_capacity(alloc, 1)?,
-            pending: Vec::new(alloc),
-            ready: Vec::new(alloc),
-            accepted: 0,
+            stage: Stage::Fresh,
             closed: false,
         })
     }
 
-    /// The journal, once nothing is pending and nothing is ready.
+    /// The journal. It is lawful, and each accepted request was taken, is ready or is pending.
     pub fn close(self) -> Journal
-        ensures { result ≡ self.entries.items }
+        ensures journal { result ≡ self.journal }
+        ensures lawful { IsLawful (setup self.server) result }
+        ensures balanced { length (asked_in result) ≡ length (taken_in result) + length (pending (setup self.server) (past_of result)) + length (ready (setup self.server) (past_of result)) }
     {
         let Channel { entries, .. } = self;
         Journal::from_vec(entries)
-    }
-}
-
-impl Channel {
-    /// Adds an entry that neither accepts nor takes a request, for which there is room. It takes no memory.
-    fn write(&mut self, what: What)
-        requires room { vec_len self.old.entries + vec_len self.old.pending + vec_len self.old.ready + kept_for_destroy self.old.closed + 1 ≤ vec_capacity self.old.entries }
-        requires plain { IsPlain what }
-        ensures entries { self.new.entries.items ≡ self.old.entries.items ++ own_entry what ∷ [] }
-        ensures asked { asked_in self.new.entries.items ≡ asked_in self.old.entries.items }
-        ensures taken { taken_in self.new.entries.items ≡ taken_in self.old.entries.items }
-        ensures pending { self.new.pending ≡ self.old.pending }
-        ensures ready { self.new.ready ≡ self.old.ready }
-        ensures closed { self.new.closed ≡ self.old.closed }
-    {
-        self.entries.push_reserved(entry(what));
     }
 }
 

@@ -1,11 +1,16 @@
 //! The page that is put at the end of a run: the question, how it ended, and the reply that ended it.
 
-use crate::reply::rcode;
+ghost use Rattle.std.specs.Prelude.{◌≡◌, ◌++◌, codes, flat_map, IfOk, OnOk};
+ghost use Rattle.dns_message.specs.Reading.{message_read};
+ghost use Rattle.dns_rdata.specs.Lines.{spaced, line_of};
+ghost use Rattle.adig_tool.specs.Page.{note, question_words, status_words, flag_word, flag_words, full_code, header_words, section, message_text, text_or_none, answer_text, page_of};
+
 use crate::text::Text;
-use chan_types::{Answer, Calls};
+use chan_types::{Answer, Calls, Status};
 use dns_message::{Message, MessageFault, Record, decode};
+use dns_rdata::{class_text, kind_text, line};
+use edns_opt::{EdnsFault, find, full_rcode};
 use item_list::{Bytes, NoMemory};
-use net_addr::{Addr, print};
 use std::alloc::Global;
 
 /// The kind of an IPv4 address record (RFC 1035, section 3.2.2).
@@ -14,17 +19,11 @@ pub const A: u16 = 1;
 /// The Internet class (RFC 1035, section 3.2.4).
 pub const IN: u16 = 1;
 
-/// The flags that a page names, each with its word, in the order of the header (RFC 1035, section 4.1.1).
-const FLAGS: [(u16, &str); 5] = [
-    (0x8000, " qr"),
-    (0x0400, " aa"),
-    (0x0200, " tc"),
-    (0x0100, " rd"),
-    (0x0080, " ra"),
-];
-
 /// The page of the name's word and the answers that its request was called with.
-pub fn page(alloc: Global, word: &str, calls: &Calls) -> Result<Bytes, NoMemory> {
+#[tactic(auto, unfolding(crate::specs::Page::page_of))]
+pub fn page(alloc: Global, word: &str, calls: &Calls) -> Result<Bytes, NoMemory>
+    ensures { IfOk result (λ text. text ≡ page_of word.now calls.now) }
+{
     let mut text = Text::new(alloc);
     for answer in calls.iter() {
         put_answer(&mut text, alloc, word, answer)?;
@@ -32,89 +31,126 @@ pub fn page(alloc: Global, word: &str, calls: &Calls) -> Result<Bytes, NoMemory>
     Ok(text.into_bytes())
 }
 
-fn put_answer(text: &mut Text, alloc: Global, word: &str, answer: &Answer) -> Result<(), NoMemory> {
-    text.put(b";; ")?;
-    text.put(word.as_bytes())?;
-    text.put(b" IN A\n;; status ")?;
-    text.put_number(u64::from(answer.status.code()))?;
-    text.put(b" ")?;
-    text.put(answer.status.text().as_bytes())?;
-    text.put(b"\n")?;
-    match decode(alloc, answer.message.as_slice()) {
+/// Prints an answer.
+fn put_answer(text: &mut Text, alloc: Global, word: &str, answer: &Answer) -> Result<(), NoMemory>
+    ensures { OnOk result (text.new ≡ text.old ++ answer_text word.now answer.now) }
+{
+    put_question(text, alloc, word)?;
+    put_status(text, answer.status)?;
+    put_reply(text, alloc, answer.message.as_slice())
+}
+
+/// Prints the question.
+fn put_question(text: &mut Text, alloc: Global, word: &str) -> Result<(), NoMemory>
+    ensures { OnOk result (text.new ≡ text.old ++ note (question_words word.now)) }
+{
+    text.put(b";;")?;
+    text.put_word(word.as_bytes())?;
+    text.put_word(class_text(alloc, IN)?.as_slice())?;
+    text.put_word(kind_text(alloc, A)?.as_slice())?;
+    text.put(b"\n")
+}
+
+/// Prints how the request ended.
+fn put_status(text: &mut Text, status: Status) -> Result<(), NoMemory>
+    ensures { OnOk result (text.new ≡ text.old ++ note (status_words status)) }
+{
+    text.put(b";; status")?;
+    text.put_number(u64::from(status.code()))?;
+    text.put_word(status.text().as_bytes())?;
+    text.put(b"\n")
+}
+
+/// Prints the reply that ended the request. Where none did there is no message.
+fn put_reply(text: &mut Text, alloc: Global, bytes: &[u8]) -> Result<(), NoMemory>
+    ensures { OnOk result (text.new ≡ text.old ++ text_or_none (message_read bytes.now)) }
+{
+    match decode(alloc, bytes) {
         Ok(message) => put_message(text, alloc, &message),
         Err(MessageFault::NoMemory) => Err(NoMemory),
-        // Where no reply ended the request there is no message.
         Err(_) => Ok(()),
     }
 }
 
-fn put_message(text: &mut Text, alloc: Global, message: &Message) -> Result<(), NoMemory> {
-    put_header(text, message)?;
-    put_section(text, alloc, b";; ANSWER\n", message.answers.as_slice())?;
-    put_section(
-        text,
-        alloc,
-        b";; AUTHORITY\n",
-        message.authorities.as_slice(),
-    )?;
-    put_section(
-        text,
-        alloc,
-        b";; ADDITIONAL\n",
-        message.additionals.as_slice(),
-    )
+/// Prints a message.
+fn put_message(text: &mut Text, alloc: Global, message: &Message) -> Result<(), NoMemory>
+    ensures { OnOk result (text.new ≡ text.old ++ message_text message.now) }
+{
+    put_header(text, alloc, message)?;
+    put_section(text, alloc, b"ANSWER", message.answers.as_slice())?;
+    put_section(text, alloc, b"AUTHORITY", message.authorities.as_slice())?;
+    put_section(text, alloc, b"ADDITIONAL", message.additionals.as_slice())
 }
 
-fn put_header(text: &mut Text, message: &Message) -> Result<(), NoMemory> {
-    text.put(b";; id ")?;
+/// Prints a message's header.
+fn put_header(text: &mut Text, alloc: Global, message: &Message) -> Result<(), NoMemory>
+    ensures { OnOk result (text.new ≡ text.old ++ note (header_words message.now)) }
+{
+    text.put(b";; id")?;
     text.put_number(u64::from(message.id))?;
-    text.put(b" rcode ")?;
-    text.put_number(u64::from(rcode(message)))?;
+    text.put(b" rcode")?;
+    text.put_number(u64::from(full_code(alloc, message)?))?;
     text.put(b" flags")?;
-    for (bit, word) in FLAGS {
-        if message.flags & bit != 0 {
-            text.put(word.as_bytes())?;
-        }
-    }
+    put_flags(text, message.flags)?;
     text.put(b"\n")
 }
 
+/// The response code of a message: the header's alone where its OPT record can't be read, which no reply's is.
+fn full_code(alloc: Global, message: &Message) -> Result<u16, NoMemory>
+    ensures { IfOk result (λ code. code ≡ full_code message.now) }
+{
+    match find(alloc, message) {
+        Ok(opt) => Ok(full_rcode(message, opt.as_ref())),
+        Err(EdnsFault::NoMemory) => Err(NoMemory),
+        Err(EdnsFault::DoubleOpt | EdnsFault::BadOptions(_)) => Ok(full_rcode(message, None)),
+    }
+}
+
+/// Prints the flags that are set, in the header's order (RFC 1035, section 4.1.1).
+fn put_flags(text: &mut Text, flags: u16) -> Result<(), NoMemory>
+    ensures { OnOk result (text.new ≡ text.old ++ flat_map spaced (flag_words flags)) }
+{
+    put_flag(text, flags / 0x8000, b"qr")?;
+    put_flag(text, flags / 0x0400, b"aa")?;
+    put_flag(text, flags / 0x0200, b"tc")?;
+    put_flag(text, flags / 0x0100, b"rd")?;
+    put_flag(text, flags / 0x0080, b"ra")
+}
+
+/// Prints the word of a flag that is set: the flag is the lowest of these bits.
+fn put_flag(text: &mut Text, bits: u16, word: &[u8]) -> Result<(), NoMemory>
+    ensures { OnOk result (text.new ≡ text.old ++ flat_map spaced (flag_word bits word.now)) }
+{
+    if bits % 2 == 1 {
+        text.put_word(word)?;
+    }
+    Ok(())
+}
+
+/// Prints a section that isn't empty: its heading, and the lines of its records.
 fn put_section(
     text: &mut Text,
     alloc: Global,
     heading: &[u8],
     records: &[Record],
-) -> Result<(), NoMemory> {
+) -> Result<(), NoMemory>
+    ensures { OnOk result (text.new ≡ text.old ++ section heading.now records.now) }
+{
     if records.is_empty() {
         return Ok(());
     }
-    text.put(heading)?;
+    text.put(b";;")?;
+    text.put_word(heading)?;
+    text.put(b"\n")?;
+    put_lines(text, alloc, records)
+}
+
+/// Prints the lines of records.
+fn put_lines(text: &mut Text, alloc: Global, records: &[Record]) -> Result<(), NoMemory>
+    ensures { OnOk result (text.new ≡ text.old ++ flat_map line_of records.now) }
+{
     for item in records {
-        put_record(text, alloc, item)?;
+        text.put(line(alloc, item)?.as_slice())?;
     }
     Ok(())
-}
-
-/// Adds the line of an address record. Other records have no line yet.
-fn put_record(text: &mut Text, alloc: Global, item: &Record) -> Result<(), NoMemory> {
-    let Some(address) = address_of(item) else {
-        return Ok(());
-    };
-    text.put(item.name.to_text(alloc)?.as_slice())?;
-    text.put(b" ")?;
-    text.put_number(u64::from(item.ttl))?;
-    text.put(b" IN A ")?;
-    text.put(print(alloc, address)?.as_slice())?;
-    text.put(b"\n")
-}
-
-/// The address of an address record of the Internet class (RFC 1035, section 3.4.1).
-fn address_of(item: &Record) -> Option<Addr> {
-    if item.kind != A || item.class != IN {
-        return None;
-    }
-    match item.rdata.as_slice() {
-        [a, b, c, d] => Some(Addr::V4(u32::from_be_bytes([*a, *b, *c, *d]))),
-        _ => None,
-    }
 }

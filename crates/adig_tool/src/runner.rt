@@ -2,7 +2,9 @@
 
 ghost use Rattle.std.specs.Prelude.{◌≡◌, ◌≤◌};
 ghost use Rattle.net_world.specs.Cause.{Rose};
-ghost use Rattle.adig_tool.specs.Steps.{IsSameSoFar};
+ghost use Rattle.channel_model.specs.Endings.{LastWaitFailed};
+ghost use Rattle.adig_tool.specs.Seen.{Seen};
+ghost use Rattle.adig_tool.specs.Steps.{GoesOnWith, Passes};
 
 mod expiring;
 mod pausing;
@@ -32,7 +34,9 @@ pub struct Runner {
 
 impl Runner {
     /// A runner that has told the network its server.
+    #[tactic(auto, using(crate::proofs::PartsLemmas::serve_quiet))]
     pub fn make<W: World>(world: &mut W, server: &ServerAddr) -> Result<Runner, NoMemory>
+        ensures passes { (channel : Seen) → Passes result channel channel (W.log world.old) (W.log world.new) }
         ensures waits { W.wait_faults world.new ≡ W.wait_faults world.old }
     {
         world.serve(SERVER, server)?;
@@ -43,13 +47,12 @@ impl Runner {
     }
 
     /// One turn: it reads the clock, receives what came, expires what is due and starts what waits, in this order.
-    #[tactic(auto, using(crate::proofs::StepsLemmas::same_here, crate::proofs::StepsLemmas::same_through))]
     pub fn turn<W: World>(
         &mut self,
         channel: &mut Channel,
         world: &mut W,
     ) -> Result<Turned, NoMemory>
-        ensures same { IsSameSoFar channel.old channel.new }
+        ensures passes { Passes result channel.old channel.new (W.log world.old) (W.log world.new) }
         ensures waits { W.wait_faults world.new ≡ W.wait_faults world.old }
     {
         if self.broken {
@@ -70,8 +73,10 @@ impl Runner {
         world: &mut W,
         slice: u64,
     ) -> Result<Paused, NoMemory>
+        ensures passes { Passes result channel.now channel.now (W.log world.old) (W.log world.new) }
         ensures waits { W.wait_faults world.old ≤ W.wait_faults world.new }
         ensures wait_fault { result ≡ Ok Paused.WaitFault → Rose (W.wait_faults world.old) (W.wait_faults world.new) }
+        ensures last_wait { result ≡ Ok Paused.WaitFault → GoesOnWith LastWaitFailed (W.log world.old) (W.log world.new) }
     {
         if self.broken {
             return Err(NoMemory);
@@ -83,9 +88,8 @@ impl Runner {
     }
 }
 
-#[tactic(auto, using(crate::proofs::StepsLemmas::same_here, crate::proofs::StepsLemmas::same_through))]
 fn turn_once<W: World>(channel: &mut Channel, world: &mut W) -> Result<Turned, NoMemory>
-    ensures same { IsSameSoFar channel.old channel.new }
+    ensures passes { Passes result channel.old channel.new (W.log world.old) (W.log world.new) }
     ensures waits { W.wait_faults world.new ≡ W.wait_faults world.old }
 {
     let reading = world.now()?;

@@ -1,11 +1,13 @@
 //! The whole run of the program.
 
-ghost use Rattle.std.specs.Prelude.{◌≡◌, ◌≢◌, ◌⊎◌, ◌≤◌, map, All};
-ghost use Rattle.net_world.specs.Cause.{Rose};
-ghost use Rattle.adig_tool.specs.Finish.{FoundNothing, FoundPending, IsCalledOnce, IsSuccess, Asks};
-ghost use Rattle.adig_tool.specs.Output.{GoesOn, wait_fault_text, stalled_text};
-ghost use Rattle.adig_tool.specs.Words.{AreRefused, AsksTheWords, Refuses};
-ghost use Rattle.adig_tool.specs.declared.ended.TheConstants.{SUCCESS, FAILURE, FILE_FAULT, SINK_FAULT, WAIT_FAULT, STALLED};
+ghost use Rattle.std.specs.Prelude.{◌≡◌, map};
+ghost use Rattle.channel_model.specs.Lawful.{IsLawful};
+ghost use Rattle.adig_tool.specs.Headline.{AcceptsFor, CallsOnce, ForWords, HasCause, IsFinished, IsTrafficOf, Obeys};
+ghost use Rattle.adig_tool.specs.Output.{GoesOn, IsOutputOf, wait_fault_text, stalled_text};
+ghost use Rattle.adig_tool.specs.Setup.{setup};
+ghost use Rattle.adig_tool.specs.Steps.{GoesOnWith};
+ghost use Rattle.adig_tool.specs.Words.{AreRefused, Refuses};
+ghost use Rattle.adig_tool.specs.declared.ended.TheConstants.{WAIT_FAULT, STALLED};
 
 use crate::asking::ask;
 use crate::ended::{Ended, OUT_OF_MEMORY, USAGE};
@@ -26,28 +28,24 @@ pub fn run<W: World, F: Files, K: Sink>(
     sink: &mut K,
     turns: u64,
 ) -> Ended
-    // The exit status is one of those of this crate, and no file fault, since no file is read.
-    ensures known { (result.status ≤ STALLED) × (result.status ≢ FILE_FAULT) }
-
     // Words of another form are refused, and nothing else is called.
-    ensures usage { result.status ≡ USAGE → AreRefused (map (λ word. word.now) words.now) }
     ensures refused { AreRefused (map (λ word. word.now) words.now) → Refuses result.status result.journal result.calls files.old files.new world.old world.new (K.bytes sink.old) (K.bytes sink.new) }
 
-    // The request is that of the words, and each request that was accepted was taken and called once.
-    ensures asked { Asks result.status → AsksTheWords (map (λ word. word.now) words.now) result.journal }
-    ensures called { IsCalledOnce result.journal result.calls }
+    // One lawful journal orders what happened to the one request of the words; no callback commanded anything.
+    ensures lawful { ForWords (map (λ word. word.now) words.now) (λ server text. IsLawful (setup server) result.journal) }
+    ensures asked { ForWords (map (λ word. word.now) words.now) (λ server text. AcceptsFor text result.status result.journal) }
+    ensures obeyed { ForWords (map (λ word. word.now) words.now) (λ server text. Obeys server result.journal) }
 
-    // Where the page was put, nothing was cut short, and the answer decides.
-    ensures success { result.status ≡ SUCCESS → All IsSuccess result.calls }
-    ensures failure { result.status ≡ FAILURE → ¬ All IsSuccess result.calls }
-    ensures finished { (result.status ≡ SUCCESS) ⊎ (result.status ≡ FAILURE) → FoundNothing result.journal result.calls }
+    // The callback of each accepted request was called once, with its fate, and nothing was cut short.
+    ensures called_once { ForWords (map (λ word. word.now) words.now) (λ server text. CallsOnce server result.journal result.calls) }
+    ensures finished { ForWords (map (λ word. word.now) words.now) (λ server text. IsFinished server result.status result.journal) }
 
-    // Each fault has its cause.
-    ensures sink_fault { result.status ≡ SINK_FAULT → Rose (K.faults sink.old) (K.faults sink.new) }
-    ensures wait_fault { result.status ≡ WAIT_FAULT → Rose (W.wait_faults world.old) (W.wait_faults world.new) }
-    ensures stalled { result.status ≡ STALLED → FoundPending result.journal result.calls }
+    // Where the World tells its log, the journal notes what this run sent and received.
+    ensures traffic { ForWords (map (λ word. word.now) words.now) (λ server text. GoesOnWith (IsTrafficOf server result.status result.journal) (W.log world.old) (W.log world.new)) }
 
-    // The texts of the faults.
+    // The exit status has its cause, and the output is that of the answer; no file is read.
+    ensures status { HasCause (map (λ word. word.now) words.now) result.status result.journal result.calls (K.faults sink.old) (K.faults sink.new) (W.wait_faults world.old) (W.wait_faults world.new) (W.log world.old) (W.log world.new) }
+    ensures output { ForWords (map (λ word. word.now) words.now) (λ server text. IsOutputOf text result.calls result.status (K.bytes sink.old) (K.bytes sink.new)) }
     ensures wait_fault_text { result.status ≡ WAIT_FAULT → GoesOn (K.bytes sink.old) (K.bytes sink.new) wait_fault_text }
     ensures stalled_text { result.status ≡ STALLED → GoesOn (K.bytes sink.old) (K.bytes sink.new) stalled_text }
     ensures files { files.new ≡ files.old }

@@ -1,5 +1,7 @@
 //! Whole runs over a network in memory.
 
+mod replies;
+
 use crate::ended::{Ended, FAILURE, SINK_FAULT, STALLED, SUCCESS, USAGE, WAIT_FAULT};
 use crate::run;
 use chan_types::{Status, What};

@@ -1,18 +1,32 @@
-//! A text that is put together, byte by byte.
+//! A text that is put together, part by part.
+
+ghost use Rattle.std.specs.Prelude.{◌≡◌, [], ◌++◌, decimal, OnOk};
+ghost use Rattle.dns_rdata.specs.Lines.{spaced};
 
 use item_list::{Bytes, NoMemory};
 use std::alloc::Global;
+use std::marker::Model;
 
-/// A text that is put together.
+/// A text that is put together. Contracts see it as its bytes so far.
 #[derive(Drop)]
 pub struct Text {
     alloc: Global,
     bytes: Vec<u8>,
 }
 
+impl Model for Text {
+    ghost use Rattle.std.specs.Prelude.{List, ℕ};
+
+    ghost Value = { List ℕ };
+
+    ghost view = { λ text. text.bytes.items };
+}
+
 impl Text {
     /// The empty text. It takes no memory.
-    pub fn new(alloc: Global) -> Text {
+    pub fn new(alloc: Global) -> Text
+        ensures { result ≡ [] }
+    {
         Text {
             alloc,
             bytes: Vec::new(alloc),
@@ -20,19 +34,33 @@ impl Text {
     }
 
     /// Adds a part at the end.
-    pub fn put(&mut self, part: &[u8]) -> Result<(), NoMemory> {
+    pub fn put(&mut self, part: &[u8]) -> Result<(), NoMemory>
+        ensures { OnOk result (self.new ≡ self.old ++ part.now) }
+    {
         self.bytes.extend_from_slice(part)?;
         Ok(())
     }
 
-    /// Adds a number in decimal digits at the end.
-    pub fn put_number(&mut self, number: u64) -> Result<(), NoMemory> {
+    /// Adds a word behind a blank.
+    pub fn put_word(&mut self, word: &[u8]) -> Result<(), NoMemory>
+        ensures { OnOk result (self.new ≡ self.old ++ spaced word.now) }
+    {
+        self.bytes.push(b' ')?;
+        self.put(word)
+    }
+
+    /// Adds a number in decimal digits behind a blank.
+    pub fn put_number(&mut self, number: u64) -> Result<(), NoMemory>
+        ensures { OnOk result (self.new ≡ self.old ++ spaced (decimal number)) }
+    {
         let digits = format!(in self.alloc; "{number}")?;
-        self.put(digits.as_bytes())
+        self.put_word(digits.as_bytes())
     }
 
     /// The bytes of the text. It takes no memory.
-    pub fn into_bytes(self) -> Bytes {
+    pub fn into_bytes(self) -> Bytes
+        ensures { result ≡ self }
+    {
         Bytes::from_vec(self.bytes)
     }
 }

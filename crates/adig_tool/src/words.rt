@@ -1,7 +1,8 @@
 //! The words of the command line.
 
-ghost use Rattle.std.specs.Prelude.{◌≡◌, ◌↔◌, ℕ, codes, map, true, false, IsTrue, IfOk, IfSome, IfNone};
+ghost use Rattle.std.specs.Prelude.{◌≡◌, ◌↔◌, ℕ, codes, map, true, false, IsTrue, Some, IfOk, IfSome, IfNone};
 ghost use Rattle.net_addr.specs.Text.{Spells};
+ghost use Rattle.adig_tool.specs.Headline.{ForWords};
 ghost use Rattle.adig_tool.specs.Words.{Ask, AreRefused, MayBeAsked};
 
 use crate::channel::ONION;
@@ -24,6 +25,7 @@ pub struct Asked<'a> {
 /// None where they aren't of that form.
 pub fn read_words<'a>(alloc: Global, words: &[&'a str]) -> Result<Option<Asked<'a>>, NoMemory>
     ensures understood { IfOk result (λ found. IfSome found (λ asked. (address : ℕ) × (asked.server ≡ record { address = Addr.V4 address; port = 53 }) × Ask (map (λ word. word.now) words.now) address asked.word.now)) }
+    ensures only { IfOk result (λ found. IfSome found (λ asked. ForWords (map (λ word. word.now) words.now) (λ server text. (asked.server ≡ server) × (asked.word.now ≡ text)))) }
     ensures refused { IfOk result (λ found. IfNone found (AreRefused (map (λ word. word.now) words.now))) }
 {
     let [server, address, no_edns, word] = words else {
@@ -67,6 +69,7 @@ fn is_no_edns_option(word: &str) -> bool
 /// The IPv4 address that the text spells, if it spells one.
 fn ipv4(text: &[u8]) -> Option<u32>
     ensures found { IfSome result (λ address. Spells text.now (Addr.V4 address)) }
+    ensures only { (address : ℕ) → Spells text.now (Addr.V4 address) → result ≡ Some address }
     ensures none { IfNone result ((address : ℕ) → Spells text.now (Addr.V4 address) → ⊥) }
 {
     match read(text) {

@@ -1,11 +1,13 @@
-ghost use Rattle.std.specs.Prelude.{◌≡◌, ◌≢◌, ◌+◌, ◌<◌, ◌≤◌, [], ◌∷◌, ◌++◌, true, IfOk, OnOk, IfErr, OnErr, vec_len, vec_capacity};
-ghost use Rattle.adig_tool.specs.Channel.{IsQuery, IsLasting, asked_in, taken_in, kept_for_destroy};
+ghost use Rattle.std.specs.Prelude.{◌≡◌, ◌+◌, ◌≤◌, [], IfOk, OnOk, vec_len, vec_capacity};
+ghost use Rattle.chan_types.specs.Plans.{blank};
+ghost use Rattle.channel_model.specs.Journal.{accepted};
+ghost use Rattle.adig_tool.specs.Calls.{Accepts, IsQuery, past_in};
+ghost use Rattle.adig_tool.specs.Opening.{Opens, OpensName, OpensText, StageOf};
 
-use super::ending::ended;
-use super::pending::Pending;
-use super::{Channel, entry};
+use super::stage::{Request, Stage, ended};
+use super::{Channel, NUMBER, ROOM, entry};
 use crate::answers::Refused;
-use chan_types::{Call, Quiet, Refusal, Script, Spec, Status, Token, What};
+use chan_types::{Call, Entry, Quiet, Refusal, Script, Spec, Status, Token, What};
 use dns_message::{Name, NameFault, Question};
 use item_list::{Bytes, NoMemory};
 use std::alloc::Global;
@@ -15,7 +17,7 @@ pub const ONION: &[u8] = b"onion";
 
 /// What a request comes to at its Accept: a question to ask, or its status at once.
 #[derive(Drop)]
-enum Opening {
+pub enum Opening {
     Asks(Question),
     Ends(Status),
 }
@@ -29,15 +31,12 @@ struct Prepared {
 }
 
 impl Channel {
-    /// Accepts a request for one question, and answers its number, from 1. A text that can't be asked
+    /// Accepts the channel's one request, for one question, and answers its number. A text that can't be asked
     /// is accepted too, and completes at once. A refused request comes back as it was.
     pub fn accept(&mut self, spec: Spec, token: Quiet) -> Result<u64, Refused>
-        requires { IsQuery spec }
-        ensures closed { IfErr result (λ refused. refused.why ≡ Refusal.Closed → self.old.closed ≡ true) }
-        ensures given_back { IfErr result (λ refused. (refused.spec ≡ spec) × (refused.token ≡ token)) }
-        ensures asked { OnOk result (asked_in self.new.entries.items ≡ asked_in self.old.entries.items ++ spec ∷ []) }
-        ensures taken { taken_in self.new.entries.items ≡ taken_in self.old.entries.items }
-        ensures same { self.new.closed ≡ self.old.closed }
+        requires query { IsQuery spec }
+        requires first { accepted (past_in self.old) ≡ [] }
+        ensures { Accepts self.old self.new spec token result }
     {
         if self.closed {
             return Err(Refused {
@@ -46,8 +45,21 @@ impl Channel {
                 token,
             });
         }
-        match self.prepare(&spec, &token) {
-            Ok(prepared) => Ok(self.add(spec, token, prepared)),
+        match prepare(self.alloc, &mut self.entries, &spec, &token) {
+            Ok(prepared) => {
+                let Prepared {
+                    opening,
+                    script,
+                    call,
+                } = prepared;
+                self.entries.push_reserved(entry(What::Accept {
+                    number: NUMBER,
+                    spec,
+                    script,
+                }));
+                self.stage = stage_of(self.alloc, opening, token, call);
+                Ok(NUMBER)
+            }
             Err(NoMemory) => Err(Refused {
                 why: Refusal::NoMemory,
                 spec,
@@ -55,78 +67,55 @@ impl Channel {
             }),
         }
     }
+}
 
-    fn prepare(&mut self, spec: &Spec, token: &Quiet) -> Result<Prepared, NoMemory>
-        requires { IsQuery spec.now }
-        ensures room { OnOk result (vec_len self.new.entries + vec_len self.new.pending + vec_len self.new.ready + kept_for_destroy self.new.closed + 2 ≤ vec_capacity self.new.entries) }
-        ensures pending { OnOk result (vec_len self.new.pending < vec_capacity self.new.pending) }
-        ensures ready { OnOk result (vec_len self.new.pending + vec_len self.new.ready < vec_capacity self.new.ready) }
-        ensures status { IfOk result (λ prepared. IsLasting prepared.opening) }
-        ensures entries { self.new.entries.items ≡ self.old.entries.items }
-        ensures same { self.new.closed ≡ self.old.closed }
-    {
-        let opening = opening_of(self.alloc, spec)?;
-        let script = token.script().copy(self.alloc)?;
-        let call = Call::make(self.alloc)?;
-        self.make_room(2)?;
-        self.pending.reserve(1)?;
-        self.ready.reserve(self.pending.len() + 1)?;
-        Ok(Prepared {
-            opening,
-            script,
-            call,
-        })
-    }
+/// What an accept needs, and room for its entry and the two that may follow.
+fn prepare(
+    alloc: Global,
+    entries: &mut Vec<Entry>,
+    spec: &Spec,
+    token: &Quiet,
+) -> Result<Prepared, NoMemory>
+    requires { IsQuery spec.now }
+    ensures opening { IfOk result (λ prepared. Opens spec.now prepared.opening) }
+    ensures script { IfOk result (λ prepared. prepared.script ≡ blank 0) }
+    ensures room { OnOk result (vec_len entries.new + 3 ≤ vec_capacity entries.new) }
+    ensures items { entries.new.items ≡ entries.old.items }
+    ensures len { vec_len entries.new ≡ vec_len entries.old }
+    ensures capacity { vec_capacity entries.old ≤ vec_capacity entries.new }
+{
+    let opening = opening_of(alloc, spec)?;
+    let script = token.script().copy(alloc)?;
+    let call = Call::make(alloc)?;
+    entries.reserve(ROOM)?;
+    Ok(Prepared {
+        opening,
+        script,
+        call,
+    })
+}
 
-    fn add(&mut self, spec: Spec, token: Quiet, prepared: Prepared) -> u64
-        requires room { vec_len self.old.entries + vec_len self.old.pending + vec_len self.old.ready + kept_for_destroy self.old.closed + 2 ≤ vec_capacity self.old.entries }
-        requires pending { vec_len self.old.pending < vec_capacity self.old.pending }
-        requires ready { vec_len self.old.pending + vec_len self.old.ready < vec_capacity self.old.ready }
-        requires status { IsLasting prepared.opening }
-        ensures asked { asked_in self.new.entries.items ≡ asked_in self.old.entries.items ++ spec ∷ [] }
-        ensures taken { taken_in self.new.entries.items ≡ taken_in self.old.entries.items }
-        ensures same { self.new.closed ≡ self.old.closed }
-    {
-        let Prepared {
-            opening,
-            script,
+/// The stage of a request that opens so.
+fn stage_of(alloc: Global, opening: Opening, token: Quiet, call: Call) -> Stage
+    ensures { StageOf opening result }
+{
+    match opening {
+        Opening::Asks(question) => Stage::Pending(Request {
+            question,
+            attempt: None,
+            token,
             call,
-        } = prepared;
-        self.accepted += 1;
-        let number = self.accepted;
-        self.entries.push_reserved(entry(What::Accept {
-            number,
-            spec,
-            script,
-        }));
-        match opening {
-            Opening::Asks(question) => self.pending.push_reserved(Pending {
-                number,
-                question,
-                attempt: None,
-                token,
-                call,
-            }),
-            Opening::Ends(status) => {
-                let ticket = ended(
-                    self.alloc,
-                    number,
-                    status,
-                    Bytes::new(self.alloc),
-                    token,
-                    call,
-                );
-                self.ready.push_reserved(ticket);
-            }
+        }),
+        Opening::Ends(status) => {
+            Stage::Ready(ended(alloc, status, Bytes::new(alloc), token, call))
         }
-        number
     }
 }
 
 /// What the request asks, or how it ends at once: its text is no name, or a name that isn't asked.
 fn opening_of(alloc: Global, spec: &Spec) -> Result<Opening, NoMemory>
     requires { IsQuery spec.now }
-    ensures { IfOk result IsLasting }
+    ensures { IfOk result (Opens spec.now) }
 {
     match spec {
         Spec::Query { name, kind, class } => question_of(alloc, name.as_slice(), *kind, *class),
@@ -135,16 +124,22 @@ fn opening_of(alloc: Global, spec: &Spec) -> Result<Opening, NoMemory>
 }
 
 fn question_of(alloc: Global, text: &[u8], kind: u16, class: u16) -> Result<Opening, NoMemory>
-    ensures { IfOk result IsLasting }
+    ensures { IfOk result (OpensText text.now kind class) }
 {
     match Name::from_text(alloc, text) {
-        Ok(text) if text.name.last_is(ONION) => Ok(Opening::Ends(Status::NotFound)),
-        Ok(text) => Ok(Opening::Asks(Question {
-            name: text.name,
-            kind,
-            class,
-        })),
+        Ok(text) => Ok(opening_for(text.name, kind, class)),
         Err(NameFault::NoMemory) => Err(NoMemory),
         Err(_) => Ok(Opening::Ends(Status::BadName)),
+    }
+}
+
+/// What a name comes to.
+fn opening_for(name: Name, kind: u16, class: u16) -> Opening
+    ensures { OpensName name kind class result }
+{
+    if name.last_is(ONION) {
+        Opening::Ends(Status::NotFound)
+    } else {
+        Opening::Asks(Question { name, kind, class })
     }
 }

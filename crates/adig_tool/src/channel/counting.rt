@@ -1,34 +1,40 @@
-ghost use Rattle.std.specs.Prelude.{◌≡◌, vec_len};
+ghost use Rattle.std.specs.Prelude.{◌≡◌};
+ghost use Rattle.adig_tool.specs.Calls.{counts_in, due_in};
 
 use super::Channel;
+use super::stage::{Attempt, Stage};
 use crate::answers::Counts;
 
 impl Channel {
     /// The least deadline of an attempt in flight, in milliseconds.
-    pub fn next_due(&self) -> Option<u64> {
-        self.pending
-            .iter()
-            .filter_map(|request| request.attempt)
-            .map(|attempt| attempt.due)
-            .min()
+    pub fn next_due(&self) -> Option<u64>
+        ensures { result ≡ due_in self.now }
+    {
+        self.stage.attempt().map(Attempt::due)
     }
 
     /// How many requests are pending and ready, and how many legs wait and are in flight.
     pub fn counts(&self) -> Counts
-        ensures pending { result.pending ≡ vec_len self.now.pending }
-        ensures ready { result.ready ≡ vec_len self.now.ready }
+        ensures { result ≡ counts_in self.now }
     {
-        let pending = self.pending.len() as u64;
-        let waiting = self
-            .pending
-            .iter()
-            .filter(|request| request.attempt.is_none())
-            .count() as u64;
-        Counts {
-            pending,
-            ready: self.ready.len() as u64,
-            waiting,
-            flying: pending - waiting,
+        match &self.stage {
+            Stage::Fresh | Stage::Taken => counts(0, 0, 0, 0),
+            Stage::Pending(request) => match request.attempt {
+                None => counts(1, 0, 1, 0),
+                Some(_) => counts(1, 0, 0, 1),
+            },
+            Stage::Ready(_) => counts(0, 1, 0, 0),
         }
+    }
+}
+
+fn counts(pending: u64, ready: u64, waiting: u64, flying: u64) -> Counts
+    ensures { result ≡ record { pending = pending; ready = ready; waiting = waiting; flying = flying } }
+{
+    Counts {
+        pending,
+        ready,
+        waiting,
+        flying,
     }
 }

@@ -1,65 +1,54 @@
-ghost use Rattle.std.specs.Prelude.{◌≡◌, ◌<◌, IfSome, vec_len};
-ghost use Rattle.adig_tool.specs.Channel.{asked_in, taken_in};
+ghost use Rattle.std.specs.Prelude.{◌≡◌, ◌≤◌, IfOk, IsSomeAnd, OnErr};
+ghost use Rattle.adig_tool.specs.Calls.{due_in, Expires, Fails};
 
-use super::Channel;
+use super::{Channel, LEG, NUMBER, ROOM, entry};
 use crate::answers::Lapse;
 use chan_types::{Status, What};
 use item_list::{Bytes, NoMemory};
 
 impl Channel {
-    /// Expires the attempt in flight with the least deadline, then the least number, if it is at or before `at`.
+    /// Expires the attempt in flight, if its deadline is at or before `at`. It takes no memory where none is due.
     pub fn expire(&mut self, at: u64) -> Result<Lapse, NoMemory>
-        ensures same { self.new.closed ≡ self.old.closed }
-        ensures asked { asked_in self.new.entries.items ≡ asked_in self.old.entries.items }
-        ensures taken { taken_in self.new.entries.items ≡ taken_in self.old.entries.items }
+        ensures expired { IfOk result (Expires self.old self.new at) }
+        ensures same { OnErr result (self.new ≡ self.old) }
+        ensures wants { OnErr result (IsSomeAnd (due_in self.old) (λ due. due ≤ at)) }
     {
-        let Some(index) = self.first_due(at) else {
-            return Ok(Lapse::NotDue);
-        };
-        self.make_room(1)?;
-        let number = self.complete(index, Status::TimedOut, Bytes::new(self.alloc));
-        self.write(What::Expire {
-            number,
-            leg: 0,
-            moment: at,
-        });
-        Ok(Lapse::Expired { number, leg: 0 })
+        match self.stage.attempt() {
+            Some(attempt) if attempt.due() <= at => {
+                self.entries.reserve(ROOM)?;
+                self.entries.push_reserved(entry(What::Expire {
+                    number: NUMBER,
+                    leg: LEG,
+                    moment: at,
+                }));
+                self.stage
+                    .complete(self.alloc, Status::TimedOut, Bytes::new(self.alloc));
+                Ok(Lapse::Expired {
+                    number: NUMBER,
+                    leg: LEG,
+                })
+            }
+            Some(_) => Ok(Lapse::NotDue),
+            None => Ok(Lapse::NotDue),
+        }
     }
 
-    /// A link to this server failed or ended: each attempt in flight on it ends. Answers how many there were.
+    /// A link to this server failed or ended: an attempt in flight on it ends. Answers how many there were.
     pub fn fault(&mut self, server: u32, link: u64, at: u64) -> Result<u64, NoMemory>
-        ensures same { self.new.closed ≡ self.old.closed }
-        ensures asked { asked_in self.new.entries.items ≡ asked_in self.old.entries.items }
-        ensures taken { taken_in self.new.entries.items ≡ taken_in self.old.entries.items }
+        ensures failed { IfOk result (Fails self.old self.new server link at) }
+        ensures same { OnErr result (self.new ≡ self.old) }
     {
-        self.make_room(1)?;
-        self.write(What::Fault {
+        self.entries.reserve(ROOM)?;
+        self.entries.push_reserved(entry(What::Fault {
             server,
             link,
             moment: at,
-        });
-        let mut ended = 0;
-        while let Some(index) = self
-            .pending
-            .iter()
-            .position(|request| request.went_over(server, link))
-        {
-            self.complete(index, Status::ConnRefused, Bytes::new(self.alloc));
-            ended += 1;
+        }));
+        if !self.stage.is_there(server, link) {
+            return Ok(0);
         }
-        Ok(ended)
-    }
-
-    /// Where the attempt with the least deadline stands, if that is at or before `at`.
-    fn first_due(&self, at: u64) -> Option<usize>
-        ensures { IfSome result (λ index. index < vec_len self.now.pending) }
-    {
-        let due = self.next_due()?;
-        if due > at {
-            return None;
-        }
-        self.pending
-            .iter()
-            .position(|request| request.is_due_at(due))
+        self.stage
+            .complete(self.alloc, Status::ConnRefused, Bytes::new(self.alloc));
+        Ok(1)
     }
 }

@@ -1,4 +1,6 @@
-ghost use Rattle.adig_tool.specs.Steps.{IsSameSoFar};
+ghost use Rattle.std.specs.Prelude.{List, Option};
+ghost use Rattle.net_world.specs.declared.log.WorldCall.{WorldCall};
+ghost use Rattle.adig_tool.specs.Steps.{Passes};
 
 use crate::answers::Lapse;
 use crate::channel::Channel;
@@ -8,9 +10,9 @@ use item_list::NoMemory;
 const MOST: u64 = 65_536;
 
 /// Expires what is due at the reading. Answers how many attempts that were.
-#[tactic(auto, using(crate::proofs::StepsLemmas::same_here, crate::proofs::StepsLemmas::same_through))]
+#[tactic(auto, using(crate::proofs::StepsLemmas::proceeds_then, crate::proofs::StepsLemmas::proceeds_none, crate::proofs::PartsLemmas::expire_stands))]
 pub fn expire_all(channel: &mut Channel, reading: u64) -> Result<u64, NoMemory>
-    ensures same { IsSameSoFar channel.old channel.new }
+    ensures passes { (log : Option (List WorldCall)) → Passes result channel.old channel.new log log }
 {
     for expired in 0..MOST {
         match channel.expire(reading)? {

@@ -1,5 +1,7 @@
 ghost use Rattle.std.specs.Prelude.{◌≡◌, ◌≤◌};
 ghost use Rattle.net_world.specs.Cause.{Rose};
+ghost use Rattle.channel_model.specs.Endings.{LastWaitFailed};
+ghost use Rattle.adig_tool.specs.Steps.{GoesOnWith, Passes};
 
 use crate::answers::{Counts, Paused};
 use crate::channel::Channel;
@@ -15,8 +17,10 @@ pub fn pause_once<W: World>(
     world: &mut W,
     latest: u64,
 ) -> Result<Paused, NoMemory>
+    ensures passes { Passes result channel.now channel.now (W.log world.old) (W.log world.new) }
     ensures waits { W.wait_faults world.old ≤ W.wait_faults world.new }
     ensures wait_fault { result ≡ Ok Paused.WaitFault → Rose (W.wait_faults world.old) (W.wait_faults world.new) }
+    ensures last_wait { result ≡ Ok Paused.WaitFault → GoesOnWith LastWaitFailed (W.log world.old) (W.log world.new) }
 {
     if !may_wait(&channel.counts()) {
         return Ok(Paused::Skipped);

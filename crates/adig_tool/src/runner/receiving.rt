@@ -1,5 +1,5 @@
 ghost use Rattle.std.specs.Prelude.{◌≡◌};
-ghost use Rattle.adig_tool.specs.Steps.{IsSameSoFar};
+ghost use Rattle.adig_tool.specs.Steps.{Passes};
 
 use crate::channel::Channel;
 use item_list::NoMemory;
@@ -9,13 +9,13 @@ use net_world::{Got, World};
 const MOST: u64 = 64;
 
 /// Receives until nothing is there, or 64 items. Answers how many came.
-#[tactic(auto, using(crate::proofs::StepsLemmas::same_here, crate::proofs::StepsLemmas::same_through))]
+#[tactic(auto, using(crate::proofs::StepsLemmas::proceeds_then, crate::proofs::StepsLemmas::proceeds_none))]
 pub fn receive_all<W: World>(
     channel: &mut Channel,
     world: &mut W,
     reading: u64,
 ) -> Result<u64, NoMemory>
-    ensures same { IsSameSoFar channel.old channel.new }
+    ensures passes { Passes result channel.old channel.new (W.log world.old) (W.log world.new) }
     ensures waits { W.wait_faults world.new ≡ W.wait_faults world.old }
 {
     for received in 0..MOST {
@@ -27,13 +27,12 @@ pub fn receive_all<W: World>(
 }
 
 /// Receives one item and hands it to the channel, if one is there. No link is held, so what comes over one is passed over.
-#[tactic(auto, using(crate::proofs::StepsLemmas::same_here, crate::proofs::StepsLemmas::same_through))]
 fn receive_one<W: World>(
     channel: &mut Channel,
     world: &mut W,
     reading: u64,
 ) -> Result<bool, NoMemory>
-    ensures same { IsSameSoFar channel.old channel.new }
+    ensures passes { Passes result channel.old channel.new (W.log world.old) (W.log world.new) }
     ensures waits { W.wait_faults world.new ≡ W.wait_faults world.old }
 {
     match world.receive()? {

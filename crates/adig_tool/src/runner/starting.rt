@@ -1,5 +1,5 @@
 ghost use Rattle.std.specs.Prelude.{◌≡◌};
-ghost use Rattle.adig_tool.specs.Steps.{IsSameSoFar};
+ghost use Rattle.adig_tool.specs.Steps.{Passes};
 
 use crate::answers::Begun;
 use crate::channel::Channel;
@@ -10,13 +10,13 @@ use net_world::{Sent, World};
 const MOST: u64 = 65_536;
 
 /// Starts what waits, each attempt with a random word of its own. Answers how many attempts that were.
-#[tactic(auto, using(crate::proofs::StepsLemmas::same_here, crate::proofs::StepsLemmas::same_through))]
+#[tactic(auto, using(crate::proofs::StepsLemmas::proceeds_then, crate::proofs::StepsLemmas::proceeds_none))]
 pub fn start_all<W: World>(
     channel: &mut Channel,
     world: &mut W,
     reading: u64,
 ) -> Result<u64, NoMemory>
-    ensures same { IsSameSoFar channel.old channel.new }
+    ensures passes { Passes result channel.old channel.new (W.log world.old) (W.log world.new) }
     ensures waits { W.wait_faults world.new ≡ W.wait_faults world.old }
 {
     for started in 0..MOST {
@@ -28,9 +28,8 @@ pub fn start_all<W: World>(
 }
 
 /// Starts one attempt and sends its query, if a leg waits and an identifier is free. A failed send is a fault of its link.
-#[tactic(auto, using(crate::proofs::StepsLemmas::same_here, crate::proofs::StepsLemmas::same_through))]
 fn start_one<W: World>(channel: &mut Channel, world: &mut W, reading: u64) -> Result<bool, NoMemory>
-    ensures same { IsSameSoFar channel.old channel.new }
+    ensures passes { Passes result channel.old channel.new (W.log world.old) (W.log world.new) }
     ensures waits { W.wait_faults world.new ≡ W.wait_faults world.old }
 {
     let word = world.word()?;
@@ -41,11 +40,15 @@ fn start_one<W: World>(channel: &mut Channel, world: &mut W, reading: u64) -> Re
             message,
             ..
         } => {
-            if let Sent::Failed = world.send(server, message.as_slice())? {
-                channel.fault(server, link, reading)?;
+            match world.send(server, message.as_slice())? {
+                Sent::Sent => {}
+                Sent::Failed => {
+                    channel.fault(server, link, reading)?;
+                }
             }
             Ok(true)
         }
-        Begun::Idle | Begun::NoId => Ok(false),
+        Begun::Idle => Ok(false),
+        Begun::NoId => Ok(false),
     }
 }

@@ -1,8 +1,5 @@
-use Rattle.std.proofs.Common.{arith}
-use Rattle.adig_tool.proofs.FinishLemmas.{pending_found}
+use Rattle.adig_tool.proofs.DeliverLemmas.{destroys_open, finishes}
 use Rattle.adig_tool.proofs.asking.finish.Goals as goal
 
-pub returns-clause-pending : goal.returns-clause-pending
-returns-clause-pending c = λ some.
-    rw (c.deliver_all.ensures.calls, c.deliver_all.ensures.entries, c.destroy.ensures.completed c.requires, c.destroy.ensures.entry c.requires)
-    (pending_found c.args.channel.now.pending.items c.args.channel.now.entries.items _ c.args.calls.now (omega (arith, c.args.channel.now.pending.ok)))
+pub returns : goal.returns
+returns c = finishes _ _ _ _ _ (destroys_open _ _ _ c.destroy.ensures c.requires.open) c.deliver_all.ensures.delivers c.deliver_all.ensures.none_ready

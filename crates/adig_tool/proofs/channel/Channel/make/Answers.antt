@@ -1,10 +1,15 @@
-use Rattle.std.proofs.Common.{◌≡◌, [], length, arith, ap, ◌∙◌}
-use Rattle.adig_tool.specs.Channel.{asked_in, taken_in}
+use Rattle.std.proofs.Common.{◌≡◌, [], arith, refl}
 use Rattle.adig_tool.proofs.JournalLemmas.{asked_in-nil, taken_in-nil}
 use Rattle.adig_tool.proofs.channel.Channel.make.Goals as goal
 
-pub invariant_of-result-clause-balanced : goal.invariant_of-result-clause-balanced
-invariant_of-result-clause-balanced c =
-    let asked : asked_in c.in_ok-with_capacity.field-0.items ≡ [] = ap asked_in c.in_ok-with_capacity.ensures.items ∙ asked_in-nil in
-    let taken : taken_in c.in_ok-with_capacity.field-0.items ≡ [] = ap taken_in c.in_ok-with_capacity.ensures.items ∙ taken_in-nil in
-    omega (arith, ap length asked, ap length taken, c.new.ensures.len, c.new-2.ensures.len)
+pub invariant_of-result : goal.invariant_of-result
+invariant_of-result c =
+    let none : c.in_ok-with_capacity.field-0.items ≡ [] = c.in_ok-with_capacity.ensures.items in
+    record {
+      lawful = record { allowed = rw none tt };
+      stands = record { accepts = rw none refl; starts = rw none refl; flies = rw none refl; closes = rw none refl; completes = rw none refl; waits = rw none refl };
+      closed = rw none refl;
+      may_be = tt;
+      balanced = rw (none, asked_in-nil, taken_in-nil) refl;
+      room = omega (arith, c.in_ok-with_capacity.ensures.len, c.in_ok-with_capacity.ensures.capacity);
+    }
