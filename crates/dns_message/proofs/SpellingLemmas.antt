@@ -1,5 +1,5 @@
 -- How long the bytes of names, questions and records are, and those of lists of them.
-use Rattle.std.proofs.Common.{◌≡◌, ℕ, ◌+◌, ◌<◌, ◌≤◌, List, [], ◌∷◌, ◌++◌, length, take, drop, get_or, refl, ap, sym, ◌∙◌, arith}
+use Rattle.std.proofs.Common.{◌≡◌, ℕ, ◌+◌, ◌<◌, ◌≤◌, List, [], ◌∷◌, ◌++◌, length, take, drop, get_or, ap, sym, ◌∙◌, arith}
 use Rattle.std.specs.List.{flat_map}
 use Rattle.std.proofs.lemmas.List.{length-append, take_more, take-append-drop}
 use Rattle.std.proofs.lemmas.List.Concat.{flat_map-cons, flat_map-append}
@@ -7,11 +7,8 @@ use Rattle.dns_message.specs.Name.{wire_length}
 use Rattle.dns_message.specs.declared.message.Question.{Question}
 use Rattle.dns_message.specs.declared.message.Record.{Record}
 use Rattle.dns_message.specs.declared.message.Message.{Message}
+use Rattle.dns_message.proofs.WireLemmas.{labels_length}
 use Rattle.dns_message.specs.Spelling.{label_bytes, name_bytes, question_bytes, record_bytes, message_bytes}
-
-labels_length : (labels : List (List ℕ)) → length (flat_map label_bytes labels) + 1 ≡ wire_length labels
-labels_length [] = refl
-labels_length (x ∷ xs) = omega (arith, ap length (flat_map-cons label_bytes x xs), length-append (label_bytes x) (flat_map label_bytes xs), labels_length xs)
 
 -- a name's bytes
 pub name_length : (labels : List (List ℕ)) → length (name_bytes labels) ≡ wire_length labels

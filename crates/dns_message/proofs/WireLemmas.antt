@@ -1,13 +1,15 @@
 -- Labels that stand one behind the other in bytes, each behind its length.
-use Rattle.std.proofs.Common.{◌≡◌, ℕ, zero, suc, ◌+◌, ◌-◌, ◌<◌, ◌≤◌, List, [], ◌∷◌, ◌++◌, length, map, take, drop, get_or, refl, ap, sym, ◌∙◌, arith, append-nil}
+use Rattle.std.proofs.Common.{◌≡◌, ℕ, zero, suc, ◌+◌, ◌-◌, ◌<◌, ◌≤◌, List, [], ◌∷◌, ◌++◌, length, map, take, drop, get_or, refl, ap, sym, ◌∙◌, arith, add-one, drop-cons, append-nil}
+use Rattle.std.specs.Prelude.{slice_range}
 use Rattle.std.specs.List.{AllByRecursion}
 use Rattle.std.specs.Char.{to_ascii_lowercase}
 use Rattle.std.proofs.Math.Seq.{drop-append_seam, take-append_seam}
-use Rattle.std.proofs.lemmas.List.{length-append, length-drop, length-take, length-map, map-append, take-append-drop, take_all}
+use Rattle.std.proofs.lemmas.List.{length-append, length-drop, length-take, length-take-le, length-map, map-append, take-append-drop, take_all}
 use Rattle.std.proofs.lemmas.Str.Ascii.{lowercase_is}
 use Rattle.std.proofs.lemmas.List.Concat.{flat_map-cons}
 use Rattle.std.proofs.lemmas.Grind.{flat_map-append}
 use Rattle.dns_message.specs.Name.{IsLabel, IsName, wire_length, SameLabel, SameName}
+use Rattle.dns_message.specs.Reading.{byte_at, label_of}
 use Rattle.dns_message.specs.Wire.{label_bytes, wire_bytes, labels_within, labels_in, IsWire, AreLabels}
 use Rattle.dns_message.proofs.NameLemmas.{wire_append, each_append, pushed}
 
@@ -50,10 +52,10 @@ pub wire_none : IsWire [] 0
 wire_none = wire_of [] 0 [] refl (record { each = tt; short = omega arith }) refl
 
 -- the length on the wire
-pub length_spelled : (labels : List (List ℕ)) → length (wire_bytes labels) + 1 ≡ wire_length labels
-length_spelled [] = refl
-length_spelled (label ∷ labels) =
-    omega (arith, ap length (flat_map-cons label_bytes label labels), length-append (label_bytes label) (wire_bytes labels), length_spelled labels)
+pub labels_length : (labels : List (List ℕ)) → length (wire_bytes labels) + 1 ≡ wire_length labels
+labels_length [] = refl
+labels_length (label ∷ labels) =
+    omega (arith, ap length (flat_map-cons label_bytes label labels), length-append (label_bytes label) (wire_bytes labels), labels_length labels)
 
 -- a label more
 pub spelled_more : (labels : List (List ℕ)) (label : List ℕ) → wire_bytes (labels ++ label ∷ []) ≡ wire_bytes labels ++ label_bytes label
@@ -124,7 +126,7 @@ few_labels (label ∷ labels) = omega (arith, few_labels labels)
 -- the length of a name, and how many labels it has at most
 module _ (bytes : List ℕ) (many : ℕ) (wire : IsWire bytes many) where
   pub wire_size : length bytes + 1 ≡ wire_length (labels_in bytes)
-  wire_size = ap (λ (all : List ℕ). length all + 1) wire.spelled ∙ length_spelled (labels_in bytes)
+  wire_size = ap (λ (all : List ℕ). length all + 1) wire.spelled ∙ labels_length (labels_in bytes)
 
   pub wire_short : length bytes + 1 ≤ 255
   wire_short = omega (arith, wire_size, wire.name.short)
@@ -169,3 +171,16 @@ rest_all n xs = take_all (length xs - n) (drop n xs) (omega (arith, length-drop 
 pub no_labels : (bytes : List ℕ) → length bytes ≡ 0 → labels_in bytes ≡ []
 no_labels [] none = labels_none
 no_labels (len ∷ bytes) none = absurd (omega arith)
+
+-- a label of a message, from its length byte on
+module _ (bytes : List ℕ) (at : ℕ) (lt : at < length bytes) (fits : at + 1 + byte_at bytes at ≤ length bytes) where
+  pub spelled_at : slice_range bytes at (at + 1 + byte_at bytes at) ≡ label_bytes (label_of bytes at)
+  spelled_at =
+      let here : drop at bytes ≡ byte_at bytes at ∷ drop (at + 1) bytes = rw (add-one, drop-cons bytes at 0) refl in
+      let all : at + 1 + byte_at bytes at - at ≡ suc (byte_at bytes at) = omega arith in
+      let more : at + 1 + byte_at bytes at - (at + 1) ≡ byte_at bytes at = omega arith in
+      let long : length (take (byte_at bytes at) (drop (at + 1) bytes)) ≡ byte_at bytes at = length-take-le (byte_at bytes at) (drop (at + 1) bytes) (omega (arith, length-drop (at + 1) bytes)) in
+      rw (all, more, here, long) refl
+
+  pub label_behind : drop 1 (slice_range bytes at (at + 1 + byte_at bytes at)) ≡ label_of bytes at
+  label_behind = rw spelled_at refl

@@ -1,8 +1,8 @@
 //! A domain name, and what one may ask of it.
 
-ghost use Rattle.std.specs.Prelude.{◌≡◌, ◌+◌, ◌<◌, ◌≤◌, [], ◌∷◌, ◌++◌, length, IfOk, OnOk, OnErr};
+ghost use Rattle.std.specs.Prelude.{◌≡◌, ◌+◌, ◌<◌, ◌≤◌, [], ◌∷◌, ◌++◌, length, drop, IfOk, OnOk, OnErr};
 ghost use Rattle.dns_message.specs.Name.{IsLabel, IsName, wire_length};
-ghost use Rattle.dns_message.specs.Wire.{wire_bytes, labels_in, AreLabels};
+ghost use Rattle.dns_message.specs.Wire.{label_bytes, wire_bytes, labels_in, AreLabels};
 
 use item_list::{ItemList, NoMemory};
 use std::alloc::Global;
@@ -101,11 +101,34 @@ impl Name {
         ensures ok { OnOk result (self.new ≡ self.old ++ label.now ∷ []) }
         ensures err { OnErr result (self.new ≡ self.old) }
     {
-        let first = NAME_ROOM.saturating_sub(self.wire.len());
-        self.wire.reserve(first.max(label.len() + 1))?;
+        self.make_room()?;
+        self.wire.reserve(label.len() + 1)?;
         self.wire.push_reserved(label.len() as u8);
         self.wire.extend_from_slice(label).unwrap();
         self.count += 1;
+        Ok(())
+    }
+
+    /// Adds a label at the end, from its length byte and its bytes.
+    pub(crate) fn push_spelled(&mut self, spelled: &[u8]) -> Result<(), NoMemory>
+        requires spelled { spelled.now ≡ label_bytes (drop 1 spelled.now) }
+        requires label { IsLabel (drop 1 spelled.now) }
+        requires room { wire_length self.old + length (drop 1 spelled.now) + 1 ≤ 255 }
+        ensures { OnOk result (self.new ≡ self.old ++ drop 1 spelled.now ∷ []) }
+    {
+        self.make_room()?;
+        self.wire.extend_from_slice(spelled)?;
+        self.count += 1;
+        Ok(())
+    }
+
+    /// Takes room before the first label.
+    fn make_room(&mut self) -> Result<(), NoMemory>
+        ensures { self.new ≡ self.old }
+    {
+        if self.wire.is_empty() {
+            self.wire.reserve(NAME_ROOM)?;
+        }
         Ok(())
     }
 

@@ -19,6 +19,7 @@ enum RunEnd {
 }
 
 /// Adds the label whose length byte is at an offset, and gives the offset behind it.
+#[tactic(auto, using(crate::proofs::WireLemmas::spelled_at, crate::proofs::WireLemmas::label_behind))]
 fn add_label(bytes: &[u8], start: usize, at: usize, name: &mut Name) -> Result<usize, MessageFault>
     requires at { at < length bytes.now }
     ensures read { Gives result (label_end bytes.now start at name.old) }
@@ -36,7 +37,7 @@ fn add_label(bytes: &[u8], start: usize, at: usize, name: &mut Name) -> Result<u
         return Err(MessageFault::LongName(start as u64));
     }
     let next = at + 1 + len;
-    name.push_label(&bytes[at + 1..next])?;
+    name.push_spelled(&bytes[at..next])?;
     Ok(next)
 }
 
