@@ -20,14 +20,14 @@ use Rattle.channel_model.specs.Flight.{closes, in_flight}
 use Rattle.channel_model.specs.Past.{closings, query_of}
 use Rattle.channel_model.specs.Completion.{fate, pending, ready, waiting}
 use Rattle.channel_model.specs.Lawful.{first, first_due, MayStart, MayExpire}
-use Rattle.adig_tool.specs.declared.answers.Refused.{Refused}
-use Rattle.adig_tool.specs.declared.answers.Begun.{Begun}
-use Rattle.adig_tool.specs.declared.answers.Begun.TheVariants.{Started, Idle, NoId}
-use Rattle.adig_tool.specs.declared.answers.Landed.{Landed}
-use Rattle.adig_tool.specs.declared.answers.Landed.TheVariants.{Matched, Stray}
-use Rattle.adig_tool.specs.declared.answers.Lapse.{Lapse}
-use Rattle.adig_tool.specs.declared.answers.Lapse.TheVariants.{Expired, NotDue}
-use Rattle.adig_tool.specs.declared.answers.Counts.{Counts}
+use Rattle.channel_model.specs.declared.answers.Refused.{Refused}
+use Rattle.channel_model.specs.declared.answers.Begun.{Begun}
+use Rattle.channel_model.specs.declared.answers.Begun.TheVariants.{Started, Idle, NoId}
+use Rattle.channel_model.specs.declared.answers.Landed.{Landed}
+use Rattle.channel_model.specs.declared.answers.Landed.TheVariants.{Matched, Stray}
+use Rattle.channel_model.specs.declared.answers.Lapse.{Lapse}
+use Rattle.channel_model.specs.declared.answers.Lapse.TheVariants.{Expired, NotDue}
+use Rattle.channel_model.specs.declared.answers.Counts.{Counts}
 use Rattle.adig_tool.specs.Entries.{own_entry}
 use Rattle.adig_tool.specs.Seen.{Seen}
 use Rattle.adig_tool.specs.Setup.{setup}
@@ -59,14 +59,14 @@ pub record TakesIn (old new : Seen) (spec : Spec) (request : ℕ) : Type 0 where
   pub adds : Adds old new (Accept request spec (blank 0))
 
 -- the request was refused: as closed exactly where a Destroy stands before. It came back as it was, and nothing has changed
-pub record TurnsAway (old new : Seen) (spec : Spec) (token : Quiet) (refused : Refused) : Type 0 where
+pub record TurnsAway (old new : Seen) (spec : Spec) (token : Quiet) (refused : Refused Quiet) : Type 0 where
   pub closed : (refused.why ≡ Closed) ↔ (is_destroyed (past_in old) ≡ true)
   pub spec_back : refused.spec ≡ spec
   pub token_back : refused.token ≡ token
   pub same : new ≡ old
 
 -- a request was accepted or refused
-abbrev pub Accepts : Seen → Seen → Spec → Quiet → Result ℕ Refused → Type 0
+abbrev pub Accepts : Seen → Seen → Spec → Quiet → Result ℕ (Refused Quiet) → Type 0
 Accepts old new spec token (Ok request) = TakesIn old new spec request
 Accepts old new spec token (Err refused) = TurnsAway old new spec token refused
 

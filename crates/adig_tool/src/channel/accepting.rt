@@ -6,8 +6,8 @@ ghost use Rattle.adig_tool.specs.Opening.{Opens, OpensName, OpensText, StageOf};
 
 use super::stage::{Request, Stage, ended};
 use super::{Channel, NUMBER, ROOM, entry};
-use crate::answers::Refused;
 use chan_types::{Call, Entry, Quiet, Refusal, Script, Spec, Status, Token, What};
+use channel_model::Refused;
 use dns_message::{Name, NameFault, Question};
 use item_list::{Bytes, NoMemory};
 use std::alloc::Global;
@@ -33,7 +33,7 @@ struct Prepared {
 impl Channel {
     /// Accepts the channel's one request, for one question, and answers its number. A text that can't be asked
     /// is accepted too, and completes at once. A refused request comes back as it was.
-    pub fn accept(&mut self, spec: Spec, token: Quiet) -> Result<u64, Refused>
+    pub fn accept(&mut self, spec: Spec, token: Quiet) -> Result<u64, Refused<Quiet>>
         requires query { IsQuery spec }
         requires first { accepted (past_in self.old) ≡ [] }
         ensures { Accepts self.old self.new spec token result }

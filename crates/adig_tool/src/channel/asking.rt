@@ -4,9 +4,9 @@ ghost use Rattle.adig_tool.specs.Calls.{past_in, setting_of, Starts};
 
 use super::stage::Attempt;
 use super::{Channel, LEG, NUMBER, ROOM, SERVER, UDP, entry};
-use crate::answers::Begun;
 use crate::query::query_bytes;
 use chan_types::What;
+use channel_model::Begun;
 use item_list::NoMemory;
 
 impl Channel {

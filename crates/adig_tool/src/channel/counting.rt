@@ -3,7 +3,7 @@ ghost use Rattle.adig_tool.specs.Calls.{counts_in, due_in};
 
 use super::Channel;
 use super::stage::{Attempt, Stage};
-use crate::answers::Counts;
+use channel_model::Counts;
 
 impl Channel {
     /// The least deadline of an attempt in flight, in milliseconds.

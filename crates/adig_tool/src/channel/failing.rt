@@ -2,8 +2,8 @@ ghost use Rattle.std.specs.Prelude.{◌≡◌, ◌≤◌, IfOk, IsSomeAnd, OnErr
 ghost use Rattle.adig_tool.specs.Calls.{due_in, Expires, Fails};
 
 use super::{Channel, LEG, NUMBER, ROOM, entry};
-use crate::answers::Lapse;
 use chan_types::{Status, What};
+use channel_model::Lapse;
 use item_list::{Bytes, NoMemory};
 
 impl Channel {

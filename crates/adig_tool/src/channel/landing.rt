@@ -3,8 +3,8 @@ ghost use Rattle.adig_tool.specs.Calls.{Lands};
 ghost use Rattle.adig_tool.specs.Landed.{landed_by};
 
 use super::{Channel, LEG, NUMBER, ROOM, entry};
-use crate::answers::Landed;
 use chan_types::{Status, What};
+use channel_model::Landed;
 use item_list::{Bytes, NoMemory};
 
 impl Channel {

@@ -2,8 +2,8 @@ ghost use Rattle.std.specs.Prelude.{List, Option};
 ghost use Rattle.net_world.specs.declared.log.WorldCall.{WorldCall};
 ghost use Rattle.adig_tool.specs.Steps.{Passes};
 
-use crate::answers::Lapse;
 use crate::channel::Channel;
+use channel_model::Lapse;
 use item_list::NoMemory;
 
 /// The most attempts that one turn expires.

@@ -3,8 +3,9 @@ ghost use Rattle.net_world.specs.Cause.{Rose};
 ghost use Rattle.channel_model.specs.Endings.{LastWaitFailed};
 ghost use Rattle.adig_tool.specs.Steps.{GoesOnWith, Passes};
 
-use crate::answers::{Counts, Paused};
+use crate::answers::Paused;
 use crate::channel::Channel;
+use channel_model::Counts;
 use item_list::NoMemory;
 use net_world::{Waited, World};
 

@@ -1,8 +1,8 @@
 ghost use Rattle.std.specs.Prelude.{◌≡◌};
 ghost use Rattle.adig_tool.specs.Steps.{Passes};
 
-use crate::answers::Begun;
 use crate::channel::Channel;
+use channel_model::Begun;
 use item_list::NoMemory;
 use net_world::{Sent, World};
 
