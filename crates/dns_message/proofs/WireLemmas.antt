@@ -3,8 +3,8 @@ use Rattle.std.proofs.Common.{◌≡◌, ℕ, zero, suc, ◌+◌, ◌-◌, ◌<�
 use Rattle.std.specs.Prelude.{slice_range}
 use Rattle.std.specs.List.{AllByRecursion}
 use Rattle.std.specs.Char.{to_ascii_lowercase}
-use Rattle.std.proofs.Math.Seq.{drop-append_seam, take-append_seam}
-use Rattle.std.proofs.lemmas.List.{length-append, length-drop, length-take, length-take-le, length-map, map-append, take-append-drop, take_all}
+use Rattle.std.proofs.Math.Seq.{drop-append_seam, take-append_seam, take-add}
+use Rattle.std.proofs.lemmas.List.{length-append, length-drop, length-take, length-take-le, length-map, map-append, take-append-drop, take_all, drop-drop}
 use Rattle.std.proofs.lemmas.Str.Ascii.{lowercase_is}
 use Rattle.std.proofs.lemmas.List.Concat.{flat_map-cons}
 use Rattle.std.proofs.lemmas.Grind.{flat_map-append}
@@ -135,14 +135,14 @@ module _ (bytes : List ℕ) (many : ℕ) (wire : IsWire bytes many) where
   wire_many = omega (arith, wire.count, few_labels (labels_in bytes), wire.name.short)
 
 -- the labels of two names
-module _ (bytes : List ℕ) (count : ℕ) (more : List ℕ) (many : ℕ) (wire : IsWire bytes count) (other : IsWire more many) (room : wire_length (labels_in bytes) + wire_length (labels_in more) ≤ 256) where
+module _ (bytes : List ℕ) (count : ℕ) (more : List ℕ) (many : ℕ) (wire : IsWire bytes count) (other : IsWire more many) (room : wire_length (labels_in bytes) + length more ≤ 255) where
   both_spelled : bytes ++ more ≡ wire_bytes (labels_in bytes ++ labels_in more)
   both_spelled = ap (λ (front : List ℕ). front ++ more) wire.spelled ∙ ap (λ (back : List ℕ). wire_bytes (labels_in bytes) ++ back) other.spelled ∙ sym (flat_map-append label_bytes (labels_in bytes) (labels_in more))
 
   pub wire_both : IsWire (bytes ++ more) (count + many)
   wire_both =
       wire_of (bytes ++ more) (count + many) (labels_in bytes ++ labels_in more) both_spelled
-      (record { each = each_append (labels_in bytes) (labels_in more) wire.name.each other.name.each; short = omega (arith, room, wire_append (labels_in bytes) (labels_in more)) })
+      (record { each = each_append (labels_in bytes) (labels_in more) wire.name.each other.name.each; short = omega (arith, room, wire_size more many other, wire_append (labels_in bytes) (labels_in more)) })
       (omega (arith, wire.count, other.count, length-append (labels_in bytes) (labels_in more)))
 
   pub labels_both : labels_in (bytes ++ more) ≡ labels_in bytes ++ labels_in more
@@ -172,15 +172,54 @@ pub no_labels : (bytes : List ℕ) → length bytes ≡ 0 → labels_in bytes �
 no_labels [] none = labels_none
 no_labels (len ∷ bytes) none = absurd (omega arith)
 
--- a label of a message, from its length byte on
-module _ (bytes : List ℕ) (at : ℕ) (lt : at < length bytes) (fits : at + 1 + byte_at bytes at ≤ length bytes) where
-  pub spelled_at : slice_range bytes at (at + 1 + byte_at bytes at) ≡ label_bytes (label_of bytes at)
+-- a run's labels in a message
+range_length : (bytes : List ℕ) (run at : ℕ) → run ≤ at → at ≤ length bytes → length (slice_range bytes run at) ≡ at - run
+range_length bytes run at from within = length-take-le (at - run) (drop run bytes) (omega (arith, length-drop run bytes))
+
+pub run_none : (bytes : List ℕ) (run : ℕ) → slice_range bytes run run ≡ []
+run_none bytes run = let none : run - run ≡ 0 = omega arith in rw none refl
+
+pub run_short : (bytes : List ℕ) (run at : ℕ) → length (slice_range bytes run at) ≤ at - run
+run_short bytes run at = omega (arith, length-take (at - run) (drop run bytes))
+
+-- the name so far, with the run's labels so far
+pub run_taken : (bytes : List ℕ) (run at many : ℕ) (front : List (List ℕ)) → run ≤ at → at ≤ length bytes → IsWire (slice_range bytes run at) many
+    → wire_length (front ++ labels_in (slice_range bytes run at)) ≡ wire_length front + (at - run)
+run_taken bytes run at many front from within wire =
+    omega (arith, range_length bytes run at from within, wire_size (slice_range bytes run at) many wire, wire_append front (labels_in (slice_range bytes run at)))
+
+-- a label more
+module _ (bytes : List ℕ) (run at many : ℕ) (from : run ≤ at) (lt : at < length bytes) (fits : at + 1 + byte_at bytes at ≤ length bytes) where
+  label_long : length (label_of bytes at) ≡ byte_at bytes at
+  label_long =
+      let more : at + 1 + byte_at bytes at - (at + 1) ≡ byte_at bytes at = omega arith in
+      rw more (length-take-le (byte_at bytes at) (drop (at + 1) bytes) (omega (arith, length-drop (at + 1) bytes)))
+
+  spelled_at : slice_range bytes at (at + 1 + byte_at bytes at) ≡ label_bytes (label_of bytes at)
   spelled_at =
       let here : drop at bytes ≡ byte_at bytes at ∷ drop (at + 1) bytes = rw (add-one, drop-cons bytes at 0) refl in
       let all : at + 1 + byte_at bytes at - at ≡ suc (byte_at bytes at) = omega arith in
       let more : at + 1 + byte_at bytes at - (at + 1) ≡ byte_at bytes at = omega arith in
-      let long : length (take (byte_at bytes at) (drop (at + 1) bytes)) ≡ byte_at bytes at = length-take-le (byte_at bytes at) (drop (at + 1) bytes) (omega (arith, length-drop (at + 1) bytes)) in
-      rw (all, more, here, long) refl
+      let all_long : length (take (byte_at bytes at) (drop (at + 1) bytes)) ≡ byte_at bytes at = length-take-le (byte_at bytes at) (drop (at + 1) bytes) (omega (arith, length-drop (at + 1) bytes)) in
+      rw (all, more, here, all_long) refl
 
-  pub label_behind : drop 1 (slice_range bytes at (at + 1 + byte_at bytes at)) ≡ label_of bytes at
-  label_behind = rw spelled_at refl
+  range_more : slice_range bytes run (at + 1 + byte_at bytes at) ≡ slice_range bytes run at ++ label_bytes (label_of bytes at)
+  range_more =
+      let parts : at + 1 + byte_at bytes at - run ≡ (at - run) + (at + 1 + byte_at bytes at - at) = omega arith in
+      let behind : run + (at - run) ≡ at = omega arith in
+      ap (λ (n : ℕ). take n (drop run bytes)) parts ∙ take-add (at - run) (at + 1 + byte_at bytes at - at) (drop run bytes)
+      ∙ ap (λ (rest : List ℕ). slice_range bytes run at ++ take (at + 1 + byte_at bytes at - at) rest) (drop-drop (at - run) run bytes ∙ ap (λ (n : ℕ). drop n bytes) behind)
+      ∙ ap (λ (rest : List ℕ). slice_range bytes run at ++ rest) spelled_at
+
+  module _ (wire : IsWire (slice_range bytes run at) many) (some : 1 ≤ byte_at bytes at) (few : byte_at bytes at ≤ 63) (room : at - run + byte_at bytes at + 2 ≤ 255) where
+    is : IsLabel (label_of bytes at)
+    is = record { some = omega (arith, label_long); few = omega (arith, label_long) }
+
+    fit : wire_length (labels_in (slice_range bytes run at)) + length (label_of bytes at) + 1 ≤ 255
+    fit = let within : at ≤ length bytes = omega arith in omega (arith, label_long, range_length bytes run at from within, wire_size (slice_range bytes run at) many wire)
+
+    pub run_wire : IsWire (slice_range bytes run (at + 1 + byte_at bytes at)) (many + 1)
+    run_wire = rw range_more (wire_more (slice_range bytes run at) many (label_of bytes at) wire is fit)
+
+    pub run_labels : labels_in (slice_range bytes run (at + 1 + byte_at bytes at)) ≡ labels_in (slice_range bytes run at) ++ label_of bytes at ∷ []
+    run_labels = ap labels_in range_more ∙ labels_more (slice_range bytes run at) many (label_of bytes at) wire is fit

@@ -1,8 +1,8 @@
 //! A domain name, and what one may ask of it.
 
-ghost use Rattle.std.specs.Prelude.{◌≡◌, ◌+◌, ◌<◌, ◌≤◌, [], ◌∷◌, ◌++◌, length, drop, IfOk, OnOk, OnErr};
+ghost use Rattle.std.specs.Prelude.{◌≡◌, ◌+◌, ◌<◌, ◌≤◌, [], ◌∷◌, ◌++◌, length, IfOk, OnOk, OnErr};
 ghost use Rattle.dns_message.specs.Name.{IsLabel, IsName, wire_length};
-ghost use Rattle.dns_message.specs.Wire.{label_bytes, wire_bytes, labels_in, AreLabels};
+ghost use Rattle.dns_message.specs.Wire.{wire_bytes, labels_in, AreLabels, IsWire};
 
 use item_list::{ItemList, NoMemory};
 use std::alloc::Global;
@@ -101,34 +101,11 @@ impl Name {
         ensures ok { OnOk result (self.new ≡ self.old ++ label.now ∷ []) }
         ensures err { OnErr result (self.new ≡ self.old) }
     {
-        self.make_room()?;
+        self.make_room(label.len())?;
         self.wire.reserve(label.len() + 1)?;
         self.wire.push_reserved(label.len() as u8);
         self.wire.extend_from_slice(label).unwrap();
         self.count += 1;
-        Ok(())
-    }
-
-    /// Adds a label at the end, from its length byte and its bytes.
-    pub(crate) fn push_spelled(&mut self, spelled: &[u8]) -> Result<(), NoMemory>
-        requires spelled { spelled.now ≡ label_bytes (drop 1 spelled.now) }
-        requires label { IsLabel (drop 1 spelled.now) }
-        requires room { wire_length self.old + length (drop 1 spelled.now) + 1 ≤ 255 }
-        ensures { OnOk result (self.new ≡ self.old ++ drop 1 spelled.now ∷ []) }
-    {
-        self.make_room()?;
-        self.wire.extend_from_slice(spelled)?;
-        self.count += 1;
-        Ok(())
-    }
-
-    /// Takes room before the first label.
-    fn make_room(&mut self) -> Result<(), NoMemory>
-        ensures { self.new ≡ self.old }
-    {
-        if self.wire.is_empty() {
-            self.wire.reserve(NAME_ROOM)?;
-        }
         Ok(())
     }
 
@@ -137,8 +114,28 @@ impl Name {
         requires { wire_length self.old + wire_length domain.now ≤ 256 }
         ensures { OnOk result (self.new ≡ self.old ++ domain.now) }
     {
-        self.wire.extend_from_slice(domain.wire.as_slice())?;
-        self.count += domain.count;
+        self.append_wire(domain.wire.as_slice(), domain.count)
+    }
+
+    /// Adds so many labels at the end, which stand one behind the other in bytes.
+    pub(crate) fn append_wire(&mut self, wire: &[u8], count: usize) -> Result<(), NoMemory>
+        requires wire { IsWire wire.now count }
+        requires room { wire_length self.old + length wire.now ≤ 255 }
+        ensures { OnOk result (self.new ≡ self.old ++ labels_in wire.now) }
+    {
+        self.make_room(wire.len())?;
+        self.wire.extend_from_slice(wire)?;
+        self.count += count;
+        Ok(())
+    }
+
+    /// Takes room before the first label, where there are bytes to come.
+    fn make_room(&mut self, more: usize) -> Result<(), NoMemory>
+        ensures { self.new ≡ self.old }
+    {
+        if more > 0 && self.wire.is_empty() {
+            self.wire.reserve(NAME_ROOM)?;
+        }
         Ok(())
     }
 }

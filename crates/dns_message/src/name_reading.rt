@@ -1,8 +1,9 @@
 //! Reading a name of a message: runs of labels, each ended by the root's zero byte or by a pointer
 //! (RFC 1035, section 4.1.4).
 
-ghost use Rattle.std.specs.Prelude.{◌≡◌, ◌+◌, ◌<◌, ◌≤◌, ◌≢◌, ◌∷◌, ◌++◌, [], Ok, Err, length, IfOk, OnOk, MatchResult};
-ghost use Rattle.dns_message.specs.Reading.{EndsWithin, Gives, label_of, label_end, run_of, name_of};
+ghost use Rattle.std.specs.Prelude.{◌≡◌, ℕ, List, ◌+◌, ◌-◌, ◌<◌, ◌≤◌, ◌≢◌, ◌∷◌, ◌++◌, [], Ok, Err, length, IfOk, OnOk, MatchResult};
+ghost use Rattle.dns_message.specs.Reading.{EndsWithin, Gives, byte_at, label_end, run_of, name_of};
+ghost use Rattle.dns_message.specs.Name.{wire_length};
 
 use crate::fault::MessageFault;
 use crate::name::{LABEL_MOST, NAME_MOST, Name};
@@ -18,13 +19,16 @@ enum RunEnd {
     Pointer { at: usize, target: usize },
 }
 
-/// Adds the label whose length byte is at an offset, and gives the offset behind it.
-#[tactic(auto, using(crate::proofs::WireLemmas::spelled_at, crate::proofs::WireLemmas::label_behind))]
-fn add_label(bytes: &[u8], start: usize, at: usize, name: &mut Name) -> Result<usize, MessageFault>
+/// The offset behind the label whose length byte is at an offset. The name begins at `start`, and has taken so many
+/// bytes, the root's byte among them.
+fn end_of_label(bytes: &[u8], start: usize, at: usize, taken: usize) -> Result<usize, MessageFault>
     requires at { at < length bytes.now }
-    ensures read { Gives result (label_end bytes.now start at name.old) }
-    ensures label { OnOk result (name.new ≡ name.old ++ label_of bytes.now at ∷ []) }
-    ensures next { IfOk result (λ next. (at < next) × (next ≤ length bytes.now)) }
+    requires taken { taken ≤ 255 }
+    ensures read { (front : List (List ℕ)) → wire_length front ≡ taken → Gives result (label_end bytes.now start at front) }
+    ensures end { IfOk result (λ end. end ≡ at + 1 + byte_at bytes.now at) }
+    ensures within { IfOk result (λ end. end ≤ length bytes.now) }
+    ensures label { IfOk result (λ end. (1 ≤ byte_at bytes.now at) × (byte_at bytes.now at ≤ 63)) }
+    ensures room { IfOk result (λ end. taken + (end - at) ≤ 255) }
 {
     let len = bytes[at] as usize;
     if len == 0 || len > LABEL_MOST {
@@ -33,35 +37,43 @@ fn add_label(bytes: &[u8], start: usize, at: usize, name: &mut Name) -> Result<u
     if bytes.len() - at - 1 < len {
         return Err(MessageFault::ShortPart(start as u64));
     }
-    if name.wire_len() + len + 1 > NAME_MOST {
+    if taken + len + 1 > NAME_MOST {
         return Err(MessageFault::LongName(start as u64));
     }
-    let next = at + 1 + len;
-    name.push_spelled(&bytes[at..next])?;
-    Ok(next)
+    Ok(at + 1 + len)
 }
 
 /// Adds the run's labels to the name that begins at `start`.
-fn add_run(bytes: &[u8], start: usize, run: usize, name: &mut Name) -> Result<RunEnd, MessageFault>
+fn add_run(
+    bytes: &[u8],
+    start: usize,
+    run: usize,
+    name: &mut Name,
+) -> Result<RunEnd, MessageFault>
     ensures read { MatchResult result
         (λ end. run_of bytes.now start run name.old ≡ Ok (name.new, end))
         (λ fault. fault ≢ MessageFault.NoMemory → run_of bytes.now start run name.old ≡ Err fault) }
     ensures end { IfOk result (λ end. EndsWithin run (length bytes.now) end) }
 {
+    let front = name.wire_len();
     let mut at = run;
+    let mut count = 0;
     while at < bytes.len() {
         let len = bytes[at] as usize;
         if len == 0 {
+            name.append_wire(&bytes[run..at], count)?;
             return Ok(RunEnd::Root { next: at + 1 });
         }
         if len >= POINTER_LEAST {
             if bytes.len() - at < 2 {
                 return Err(MessageFault::ShortPart(start as u64));
             }
+            name.append_wire(&bytes[run..at], count)?;
             let target = (len - POINTER_LEAST) * 256 + bytes[at + 1] as usize;
             return Ok(RunEnd::Pointer { at, target });
         }
-        at = add_label(bytes, start, at, name)?;
+        at = end_of_label(bytes, start, at, front + (at - run))?;
+        count += 1;
     }
     Err(MessageFault::ShortPart(start as u64))
 }
