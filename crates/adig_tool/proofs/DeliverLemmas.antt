@@ -6,8 +6,8 @@ use Rattle.std.proofs.lemmas.List.{append-nil, append_assoc, map-append}
 use Rattle.chan_types.specs.declared.answer.Answer.{Answer}
 use Rattle.chan_types.specs.declared.journal.What.TheVariants.{Destroy, Take}
 use Rattle.chan_types.specs.declared.status.Status.TheVariants.{Destruction}
-use Rattle.channel_model.specs.Completion.{fate, is_open, pending, ready, requests, without}
-use Rattle.channel_model.specs.Journal.{Accepted, Past, accepted, is_destroyed}
+use Rattle.channel_model.specs.Completion.{completed_by, fate, is_open, pending, ready, requests, without}
+use Rattle.channel_model.specs.Journal.{Accepted, Past, accepted, followed_by, is_destroyed}
 use Rattle.channel_model.specs.Lawful.{first}
 use Rattle.channel_model.specs.Merge.{bare}
 use Rattle.channel_model.specs.Setting.{Setting}
@@ -55,9 +55,23 @@ fewer_ready a b answer takes =
     rw (same_setting a b takes.adds.server, past_later a b (take_of answer ∷ []) takes.adds.entry, ready_take)
     (less_by answer.number (ready (setting_of a) (past_in a)) takes.waits)
 
+-- an empty list has no first item
+not_first : (number : ℕ) (xs : List ℕ) → xs ≡ [] → first xs ≡ Some number → ⊥
+not_first number [] empty is = cc is
+not_first number (x ∷ xs) empty is = cc empty
+
+-- behind a Destroy nothing is ready, where nothing was pending and nothing ready
+ready_destroyed : (setting : Setting) (past : Past) → pending setting past ≡ [] → ready setting past ≡ [] → ready setting (Destroy ∷ past) ≡ []
+ready_destroyed setting past none_pending none_ready =
+    let completes : ℕ → Bool = λ request. is_some (completed_by setting request Destroy past) in
+    ap (λ l. ready setting past ++ filter completes (filter (is_open setting past) (map (λ r. r.number) l))) (append-nil (accepted past))
+    ∙ ap (λ l. ready setting past ++ filter completes l) none_pending
+    ∙ append-nil (ready setting past)
+    ∙ none_ready
+
 -- nothing was taken
 pub delivers_none : (c : Seen) (calls : List Answer) → Delivers c c calls calls
-delivers_none c calls = record { answers = []; journal = sym (append-nil c.journal); server = refl; fates_are = refl; calls_are = sym (append-nil calls); pending_are = refl }
+delivers_none c calls = record { answers = []; journal = sym (append-nil c.journal); server = refl; fates_are = refl; calls_are = sym (append-nil calls); pending_are = refl; none_where = λ none. refl }
 
 -- one was taken and called
 pub delivers_one : (a b : Seen) (calls_old calls_new : List Answer) (answer : Answer) → TakesOut a b answer → calls_new ≡ calls_old ++ answer ∷ [] → Delivers a b calls_old calls_new
@@ -70,6 +84,7 @@ delivers_one a b calls_old calls_new answer takes calls = record {
       ∙ fate_later (setting_of a) answer.number (past_in a) (take_of answer ∷ []) answer takes.completed);
   calls_are = calls;
   pending_are = ap (pending (setting_of a)) (past_later a b (take_of answer ∷ []) takes.adds.entry) ∙ pending_take (setting_of a) answer.number (past_in a);
+  none_where = λ none. absurd (not_first answer.number (ready (setting_of a) (past_in a)) none takes.waits);
 }
 
 -- some, and then others
@@ -86,6 +101,11 @@ delivers_trans a b c ca cb d x y =
           (subst (λ setting. AreFates setting (past_in c) y.answers) same y.fates_are);
       calls_are = y.calls_are ∙ ap (λ l. l ++ y.answers) x.calls_are ∙ append_assoc ca x.answers y.answers;
       pending_are = subst (λ setting. pending setting (past_in c) ≡ pending setting (past_in b)) same y.pending_are ∙ x.pending_are;
+      none_where = λ none.
+          let first_none : x.answers ≡ [] = x.none_where none in
+          let past_is : past_in b ≡ past_in a = past_later a b (map take_of x.answers) x.journal ∙ ap (λ qs. followed_by (past_in a) (map take_of qs)) first_none in
+          let still_none : ready (setting_of b) (past_in b) ≡ [] = ap (λ setting. ready setting (past_in b)) same ∙ ap (ready (setting_of a)) past_is ∙ none in
+          ap (λ qs. qs ++ y.answers) first_none ∙ y.none_where still_none;
     }
 
 -- behind a Destroy nothing is pending
@@ -139,4 +159,9 @@ finishes a b c calls_old calls_new adds x none =
           subst (λ setting. pending setting (past_in c) ≡ pending setting (past_in b)) same x.pending_are
           ∙ ap (pending (setting_of a)) (past_later a b (closing ∷ []) adds.entry) ∙ pending_destroyed (setting_of a) (past_in a);
       none_ready = subst (λ setting. ready setting (past_in c) ≡ []) (same_setting b c x.server ∙ same) none;
+      none_where = λ none_pending none_ready.
+          x.none_where (
+          ap (λ setting. ready setting (past_in b)) same
+          ∙ ap (ready (setting_of a)) (past_later a b (closing ∷ []) adds.entry)
+          ∙ ready_destroyed (setting_of a) (past_in a) none_pending none_ready);
     }

@@ -28,7 +28,7 @@ use Rattle.adig_tool.specs.Headline.{AcceptsFor, CallsOnce, ForWords, IsFinished
 use Rattle.adig_tool.specs.Seen.{Seen}
 use Rattle.adig_tool.specs.Sessions.{Finishes, MakesSession}
 use Rattle.adig_tool.specs.Setup.{setup}
-use Rattle.adig_tool.specs.Steps.{AreFates, BreaksOff, GoesOnFor, GoesOnWith, Proceeds, numbers_of, taken_from, unlinked}
+use Rattle.adig_tool.specs.Steps.{AgreesIn, AreFates, BreaksOff, GoesOnFor, GoesOnWith, Proceeds, numbers_of, taken_from, unlinked}
 use Rattle.adig_tool.specs.declared.ended.TheConstants.{FAILURE, OUT_OF_MEMORY, SUCCESS}
 
 -- a channel before its first entry
@@ -47,15 +47,15 @@ pub record Session (server : ServerAddr) (text : List ℕ) (status : ℕ) (mid :
 pub session_of : {T : Type 0} (result : Result T NoMemory) (server : ServerAddr) (text : List ℕ) (status : ℕ) (old mid : Seen) (calls : List Answer) (l m : Option (List WorldCall)) → old ≡ fresh server →
     MakesSession result (request_for text) old mid calls l m → (is_err result ≡ true → status ≡ OUT_OF_MEMORY) → Session server text status mid calls l m
 session_of (Ok end) server text status old mid calls l m same p cause =
-    let q : Proceeds (request_for text ∷ []) calls (fresh server) mid l m = subst (λ c. Proceeds (request_for text ∷ []) calls c mid l m) same p in
+    let q : Proceeds p.0 (request_for text ∷ []) calls (fresh server) mid l m = subst (λ c. Proceeds p.0 (request_for text ∷ []) calls c mid l m) same p.1 in
     record {
       accepts = request_for text ∷ [];
       entries = q.entries;
       at_most = ([], refl);
       full = λ served. refl;
       goes_on = q.goes_on;
-      told = told_as (AgreeFrom (fresh server) mid q.entries) (λ cs. (status ≢ OUT_OF_MEMORY → AgreeFrom (fresh server) mid q.entries cs) × NearFrom (fresh server) q.entries cs)
-          (λ cs agrees. ((λ served. agrees), near_of (setup server) 0 (unlinked []) (unlinked (past_in mid)) q.entries cs agrees)) l m q.told;
+      told = told_as (AgreesIn p.0 (fresh server) mid q.entries) (λ cs. (status ≢ OUT_OF_MEMORY → AgreeFrom (fresh server) mid q.entries cs) × NearFrom (fresh server) q.entries cs)
+          (λ cs agree. ((λ served. agree.agrees), near_of (setup server) 0 (unlinked []) (unlinked (past_in mid)) q.entries cs agree.agrees)) l m q.told;
     }
 session_of (Err e) server text status old mid calls l m same p cause =
     let q : BreaksOff p.accepts calls (fresh server) mid l m = subst (λ c. BreaksOff p.accepts calls c mid l m) same p.breaks_off in
@@ -145,6 +145,8 @@ module _ (server : ServerAddr) (text : List ℕ) (status : ℕ) (mid fin : Seen)
     destroyed_once = λ some. rw journal_is (whole_destroyed_once s.entries f.answers s.goes_on.plain);
     nothing_pending = λ put. left_pending_is ∙ (left put).0;
     nothing_ready = λ put. left_ready_is ∙ (left put).1;
+    ends = λ some. (f.answers, record { before = s.entries; is = journal_is });
+    ends_so = λ put. record { before = s.entries; is = journal_is ∙ ap (λ qs. s.entries ++ closing ∷ map take_of qs) (f.none_where (left put).0 (left put).1) };
   }
 
   -- the traffic of the whole
@@ -166,6 +168,11 @@ module _ (server : ServerAddr) (text : List ℕ) (status : ℕ) (mid fin : Seen)
   traffic = told_as (λ cs. (status ≢ OUT_OF_MEMORY → AgreeFrom (fresh server) mid s.entries cs) × NearFrom (fresh server) s.entries cs) (IsTrafficOf server status fin.journal)
       (λ cs both. record { exact = λ served. exact cs (both.0 served); near = near cs both.1 }) l m s.told
 
+-- without memory no page was put
+no_page : PutsPage OUT_OF_MEMORY → ⊥
+no_page (inl is) = omega (arith, is)
+no_page (inr is) = omega (arith, is)
+
 -- ---- a run that made no channel
 
 module _ (server : ServerAddr) (text : List ℕ) (l : Option (List WorldCall)) where
@@ -178,8 +185,15 @@ module _ (server : ServerAddr) (text : List ℕ) (l : Option (List WorldCall)) w
   pub calls_none : CallsOnce server [] []
   calls_none = record { fates_are = refl }
 
-  pub finished_none : (status : ℕ) → IsFinished server status []
-  finished_none status = record { uncancelled = refl; destroyed_once = λ some. absurd (some refl); nothing_pending = λ put. refl; nothing_ready = λ put. refl }
+  pub finished_none : IsFinished server OUT_OF_MEMORY []
+  finished_none = record {
+    uncancelled = refl;
+    destroyed_once = λ some. absurd (some refl);
+    nothing_pending = λ put. refl;
+    nothing_ready = λ put. refl;
+    ends = λ some. absurd (some refl);
+    ends_so = λ put. absurd (no_page put);
+  }
 
   pub traffic_none : GoesOnWith (IsTrafficOf server OUT_OF_MEMORY []) l l
   traffic_none = told_none (IsTrafficOf server OUT_OF_MEMORY [])

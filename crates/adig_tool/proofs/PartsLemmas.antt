@@ -15,7 +15,7 @@ use Rattle.net_world.specs.declared.log.WorldCall.{WorldCall}
 use Rattle.net_world.specs.declared.log.WorldCall.TheVariants.{Now, Receive, Send, Serve, Wait, Word}
 use Rattle.channel_model.specs.Completion.{taken_by}
 use Rattle.channel_model.specs.CutShort.{IsNear}
-use Rattle.channel_model.specs.Endings.{LastWaitFailed, waited_by}
+use Rattle.channel_model.specs.Endings.{LastWaitFailed, turns_in, waited_by}
 use Rattle.channel_model.specs.Flight.{Attempt}
 use Rattle.channel_model.specs.Journal.{Past, accepted_by}
 use Rattle.channel_model.specs.Legs.{leg_of}
@@ -27,7 +27,7 @@ use Rattle.adig_tool.proofs.StepsLemmas.{AgreeFrom, NearFrom, breaks_none, goes_
 use Rattle.adig_tool.specs.Calls.{Adds, Begins, IsQueryOf, past_in, setting_of}
 use Rattle.adig_tool.specs.Entries.{own_entry}
 use Rattle.adig_tool.specs.Seen.{Seen}
-use Rattle.adig_tool.specs.Steps.{BreaksOff, GoesOnFor, GoesOnWith, Proceeds, leaves_open, unlinked}
+use Rattle.adig_tool.specs.Steps.{AgreesIn, BreaksOff, GoesOnFor, GoesOnWith, Proceeds, leaves_open, unlinked}
 
 -- a log that is told goes on with one call
 abbrev pub AddsCall : Option (List WorldCall) → Option (List WorldCall) → WorldCall → Type 0
@@ -60,66 +60,70 @@ past_one a b what adds = past_later a b (own_entry what ∷ []) adds.entry
 
 -- a call that tells of nothing where no link is held
 module _ (c : Seen) (l m : Option (List WorldCall)) where
-  quiet : (call : WorldCall) → AgreeFrom c c [] (call ∷ []) → AddsCall l m call → Proceeds [] [] c c l m
-  quiet call agrees adds = record {
+  quiet : (turns : ℕ) (call : WorldCall) → AgreeFrom c c [] (call ∷ []) → turns_in (call ∷ []) ≡ turns → AddsCall l m call → Proceeds turns [] [] c c l m
+  quiet turns call agrees count adds = record {
     entries = [];
     goes_on = record { journal = sym (append-nil c.journal); server = refl; plain = refl; accepts_are = refl; takes_are = refl; fates_are = refl };
-    told = told_one (AgreeFrom c c []) l m call adds agrees;
+    told = told_one (AgreesIn turns c c []) l m call adds (record { agrees = agrees; turns_are = count });
   }
 
-  pub serve_quiet : (server : ℕ) (address : ServerAddr) → AddsCall l m (Serve server address) → Proceeds [] [] c c l m
-  serve_quiet server address = quiet (Serve server address) (record { past_is = refl; held_are = refl; arrivals = refl; sends = refl; links = refl; writes = λ link. refl; faults_are = refl })
+  pub serve_quiet : (server : ℕ) (address : ServerAddr) → AddsCall l m (Serve server address) → Proceeds 0 [] [] c c l m
+  serve_quiet server address = quiet 0 (Serve server address) (record { past_is = refl; held_are = refl; arrivals = refl; sends = refl; links = refl; writes = λ link. refl; faults_are = refl }) refl
 
-  pub now_quiet : (reading : ℕ) → AddsCall l m (Now reading) → Proceeds [] [] c c l m
-  now_quiet reading = quiet (Now reading) (record { past_is = refl; held_are = refl; arrivals = refl; sends = refl; links = refl; writes = λ link. refl; faults_are = refl })
+  pub now_quiet : (reading : ℕ) → AddsCall l m (Now reading) → Proceeds 1 [] [] c c l m
+  now_quiet reading = quiet 1 (Now reading) (record { past_is = refl; held_are = refl; arrivals = refl; sends = refl; links = refl; writes = λ link. refl; faults_are = refl }) refl
 
-  pub word_quiet : (word : ℕ) → AddsCall l m (Word word) → Proceeds [] [] c c l m
-  word_quiet word = quiet (Word word) (record { past_is = refl; held_are = refl; arrivals = refl; sends = refl; links = refl; writes = λ link. refl; faults_are = refl })
+  pub word_quiet : (word : ℕ) → AddsCall l m (Word word) → Proceeds 0 [] [] c c l m
+  word_quiet word = quiet 0 (Word word) (record { past_is = refl; held_are = refl; arrivals = refl; sends = refl; links = refl; writes = λ link. refl; faults_are = refl }) refl
 
-  pub wait_quiet : (until : ℕ) (waited : Waited) → AddsCall l m (Wait until waited) → Proceeds [] [] c c l m
-  wait_quiet until waited = quiet (Wait until waited) (record { past_is = refl; held_are = refl; arrivals = refl; sends = refl; links = refl; writes = λ link. refl; faults_are = refl })
+  pub wait_quiet : (until : ℕ) (waited : Waited) → AddsCall l m (Wait until waited) → Proceeds 0 [] [] c c l m
+  wait_quiet until waited = quiet 0 (Wait until waited) (record { past_is = refl; held_are = refl; arrivals = refl; sends = refl; links = refl; writes = λ link. refl; faults_are = refl }) refl
 
-  pub piece_quiet : (link : ℕ) (bytes : List ℕ) → AddsCall l m (Receive (Piece link bytes)) → Proceeds [] [] c c l m
-  piece_quiet link bytes = quiet (Receive (Piece link bytes)) (record { past_is = refl; held_are = refl; arrivals = refl; sends = refl; links = refl; writes = λ k. refl; faults_are = refl })
+  pub piece_quiet : (link : ℕ) (bytes : List ℕ) → AddsCall l m (Receive (Piece link bytes)) → Proceeds 0 [] [] c c l m
+  piece_quiet link bytes = quiet 0 (Receive (Piece link bytes)) (record { past_is = refl; held_are = refl; arrivals = refl; sends = refl; links = refl; writes = λ k. refl; faults_are = refl }) refl
 
-  pub ended_quiet : (link : ℕ) → AddsCall l m (Receive (Ended link)) → Proceeds [] [] c c l m
-  ended_quiet link = quiet (Receive (Ended link)) (record { past_is = refl; held_are = refl; arrivals = refl; sends = refl; links = refl; writes = λ k. refl; faults_are = refl })
+  pub ended_quiet : (link : ℕ) → AddsCall l m (Receive (Ended link)) → Proceeds 0 [] [] c c l m
+  ended_quiet link = quiet 0 (Receive (Ended link)) (record { past_is = refl; held_are = refl; arrivals = refl; sends = refl; links = refl; writes = λ k. refl; faults_are = refl }) refl
 
-  pub nothing_quiet : AddsCall l m (Receive Nothing) → Proceeds [] [] c c l m
-  nothing_quiet = quiet (Receive Nothing) (record { past_is = refl; held_are = refl; arrivals = refl; sends = refl; links = refl; writes = λ k. refl; faults_are = refl })
+  pub nothing_quiet : AddsCall l m (Receive Nothing) → Proceeds 0 [] [] c c l m
+  nothing_quiet = quiet 0 (Receive Nothing) (record { past_is = refl; held_are = refl; arrivals = refl; sends = refl; links = refl; writes = λ k. refl; faults_are = refl }) refl
 
 -- one entry with one call, or alone
 module _ (a b : Seen) (what : What) (adds : Adds a b what) (of_turn : IsOfTurn what) (l m : Option (List WorldCall)) where
-  entry_call : (call : WorldCall) → Agrees (setting_of a) 0 (unlinked (past_in a)) (own_entry what ∷ []) (call ∷ []) (unlinked (what ∷ past_in a)) → AddsCall l m call → Proceeds [] [] a b l m
-  entry_call call agrees log = record {
+  entry_call : (call : WorldCall) → turns_in (call ∷ []) ≡ 0 → Agrees (setting_of a) 0 (unlinked (past_in a)) (own_entry what ∷ []) (call ∷ []) (unlinked (what ∷ past_in a)) → AddsCall l m call → Proceeds 0 [] [] a b l m
+  entry_call call none agrees log = record {
     entries = own_entry what ∷ [];
     goes_on = goes_one a b what adds of_turn;
-    told = told_one (AgreeFrom a b (own_entry what ∷ [])) l m call log
-        (subst (λ past. Agrees (setting_of a) 0 (unlinked (past_in a)) (own_entry what ∷ []) (call ∷ []) (unlinked past)) (sym (past_one a b what adds)) agrees);
+    told = told_one (AgreesIn 0 a b (own_entry what ∷ [])) l m call log (record {
+      agrees = subst (λ past. Agrees (setting_of a) 0 (unlinked (past_in a)) (own_entry what ∷ []) (call ∷ []) (unlinked past)) (sym (past_one a b what adds)) agrees;
+      turns_are = none;
+    });
   }
 
 -- a datagram came, and its Arrive stands
 pub datagram_arrives : (a b : Seen) (l m : Option (List WorldCall)) (server : ℕ) (bytes : List ℕ) →
-    Adds a b (Arrive server 0 bytes) → AddsCall l m (Receive (Datagram server bytes)) → Proceeds [] [] a b l m
+    Adds a b (Arrive server 0 bytes) → AddsCall l m (Receive (Datagram server bytes)) → Proceeds 0 [] [] a b l m
 datagram_arrives a b l m server bytes adds log =
-    entry_call a b (Arrive server 0 bytes) adds (record { open' = refl; accepts = refl; takes = refl }) l m (Receive (Datagram server bytes))
+    entry_call a b (Arrive server 0 bytes) adds (record { open' = refl; accepts = refl; takes = refl }) l m (Receive (Datagram server bytes)) refl
     (record { past_is = refl; held_are = refl; arrivals = refl; sends = refl; links = refl; writes = λ link. refl; faults_are = refl }) log
 
 -- a failure came, and its Fault stands with the numbers as given
 pub failure_faults : (a b : Seen) (l m : Option (List WorldCall)) (server link moment : ℕ) →
-    Adds a b (Fault server link moment) → AddsCall l m (Receive (LinkFailed server link)) → Proceeds [] [] a b l m
+    Adds a b (Fault server link moment) → AddsCall l m (Receive (LinkFailed server link)) → Proceeds 0 [] [] a b l m
 failure_faults a b l m server link moment adds log =
-    entry_call a b (Fault server link moment) adds (record { open' = refl; accepts = refl; takes = refl }) l m (Receive (LinkFailed server link))
+    entry_call a b (Fault server link moment) adds (record { open' = refl; accepts = refl; takes = refl }) l m (Receive (LinkFailed server link)) refl
     (record { past_is = refl; held_are = refl; arrivals = refl; sends = refl; links = refl; writes = λ k. refl; faults_are = refl }) log
 
 -- an attempt expired, of which no call tells
-pub expire_stands : (a b : Seen) (l : Option (List WorldCall)) (request leg moment : ℕ) → Adds a b (Expire request leg moment) → Proceeds [] [] a b l l
+pub expire_stands : (a b : Seen) (l : Option (List WorldCall)) (request leg moment : ℕ) → Adds a b (Expire request leg moment) → Proceeds 0 [] [] a b l l
 expire_stands a b l request leg moment adds = record {
   entries = own_entry (Expire request leg moment) ∷ [];
   goes_on = goes_one a b (Expire request leg moment) adds (record { open' = refl; accepts = refl; takes = refl });
-  told = told_none (AgreeFrom a b (own_entry (Expire request leg moment) ∷ []))
-      (subst (λ past. Agrees (setting_of a) 0 (unlinked (past_in a)) (own_entry (Expire request leg moment) ∷ []) [] (unlinked past)) (sym (past_one a b (Expire request leg moment) adds))
-      (record { past_is = refl; held_are = refl; arrivals = refl; sends = refl; links = refl; writes = λ link. refl; faults_are = refl })) l;
+  told = told_none (AgreesIn 0 a b (own_entry (Expire request leg moment) ∷ [])) (record {
+    agrees = subst (λ past. Agrees (setting_of a) 0 (unlinked (past_in a)) (own_entry (Expire request leg moment) ∷ []) [] (unlinked past)) (sym (past_one a b (Expire request leg moment) adds))
+        (record { past_is = refl; held_are = refl; arrivals = refl; sends = refl; links = refl; writes = λ link. refl; faults_are = refl });
+    turns_are = refl;
+  }) l;
 }
 
 -- the attempt of a Start over datagrams
@@ -133,10 +137,10 @@ query_is setting past request leg server id moment bytes is = rw is.asked (sym i
 
 -- an attempt was begun and its query was sent
 pub query_goes : (a b : Seen) (l m : Option (List WorldCall)) (word moment request leg server link id : ℕ) (bytes : List ℕ) →
-    Begins a b word moment (leg_of request leg) server link id bytes → AddsCall l m (Send server bytes WasSent) → Proceeds [] [] a b l m
+    Begins a b word moment (leg_of request leg) server link id bytes → AddsCall l m (Send server bytes WasSent) → Proceeds 0 [] [] a b l m
 query_goes a b l m word moment request leg server link id bytes begins log =
     let adds : Adds a b (Start request leg server 0 id moment) = subst (λ k. Adds a b (Start request leg server k id moment)) begins.over_datagrams begins.adds in
-    entry_call a b (Start request leg server 0 id moment) adds (record { open' = refl; accepts = refl; takes = refl }) l m (Send server bytes WasSent)
+    entry_call a b (Start request leg server 0 id moment) adds (record { open' = refl; accepts = refl; takes = refl }) l m (Send server bytes WasSent) refl
     (record {
       past_is = refl;
       held_are = refl;
@@ -219,7 +223,7 @@ failed_unkept a b c l m word moment request leg server link id bytes begins log 
 
 -- an attempt was begun, its query failed, and its Fault stands
 pub query_fails : (a b c : Seen) (l m : Option (List WorldCall)) (word moment request leg server link id : ℕ) (bytes : List ℕ) →
-    Begins a b word moment (leg_of request leg) server link id bytes → AddsCall l m (Send server bytes NotSent) → Adds b c (Fault server link moment) → Proceeds [] [] a c l m
+    Begins a b word moment (leg_of request leg) server link id bytes → AddsCall l m (Send server bytes NotSent) → Adds b c (Fault server link moment) → Proceeds 0 [] [] a c l m
 query_fails a b c l m word moment request leg server link id bytes begins log faulted =
     let adds : Adds a b (Start request leg server 0 id moment) = subst (λ k. Adds a b (Start request leg server k id moment)) begins.over_datagrams begins.adds in
     let then_ : Adds b c (Fault server 0 moment) = subst (λ k. Adds b c (Fault server k moment)) begins.over_datagrams faulted in
@@ -231,17 +235,19 @@ query_fails a b c l m word moment request leg server link id bytes begins log fa
       goes_on = goes_trans [] [] [] [] a b c (own_entry (Start request leg server 0 id moment) ∷ []) (own_entry (Fault server 0 moment) ∷ [])
           (goes_one a b (Start request leg server 0 id moment) adds (record { open' = refl; accepts = refl; takes = refl }))
           (goes_one b c (Fault server 0 moment) then_ (record { open' = refl; accepts = refl; takes = refl }));
-      told = told_one (AgreeFrom a c both) l m (Send server bytes NotSent) log
-          (subst (λ past. Agrees (setting_of a) 0 (unlinked (past_in a)) both (Send server bytes NotSent ∷ []) (unlinked past)) (sym past_is)
-          (record {
-            past_is = refl;
-            held_are = refl;
-            arrivals = refl;
-            sends = rw (query_is (setting_of a) (past_in a) request leg server id moment bytes begins.message) refl;
-            links = refl;
-            writes = λ k. refl;
-            faults_are = refl;
-          }));
+      told = told_one (AgreesIn 0 a c both) l m (Send server bytes NotSent) log (record {
+        agrees = subst (λ past. Agrees (setting_of a) 0 (unlinked (past_in a)) both (Send server bytes NotSent ∷ []) (unlinked past)) (sym past_is)
+            (record {
+              past_is = refl;
+              held_are = refl;
+              arrivals = refl;
+              sends = rw (query_is (setting_of a) (past_in a) request leg server id moment bytes begins.message) refl;
+              links = refl;
+              writes = λ k. refl;
+              faults_are = refl;
+            });
+        turns_are = refl;
+      });
     }
 
 -- ---- a wait that failed

@@ -1,16 +1,18 @@
 -- Parts of a run, one behind the other.
-use Rattle.std.proofs.Common.{◌≡◌, ℕ, List, [], ◌++◌, refl, sym, ap, subst, ◌∙◌, map, Bool, true, ◌&&◌, inl}
+use Rattle.std.proofs.Common.{◌≡◌, ℕ, List, [], ◌++◌, refl, sym, ap, subst, ◌∙◌, map, Bool, true, ◌&&◌, inl, cond, ◌+◌, arith}
 use Rattle.std.specs.Prelude.{Option, Some, None, Result, Ok, Err, is_err}
 use Rattle.std.specs.List.{list_all}
 use Rattle.std.proofs.lemmas.List.{append-nil, append_assoc, map-append}
 use Rattle.std.proofs.lemmas.List.Elements.{filter_map-append}
 use Rattle.std.proofs.lemmas.List.Folds.{list_all-append}
+use Rattle.std.proofs.lemmas.List.Sums.{sum_by-append}
 use Rattle.item_list.specs.declared.no_memory.NoMemory.{NoMemory}
 use Rattle.chan_types.specs.declared.answer.Answer.{Answer}
 use Rattle.chan_types.specs.declared.journal.Entry.{Entry}
 use Rattle.net_world.specs.declared.log.WorldCall.{WorldCall}
 use Rattle.channel_model.specs.Completion.{fate, taken_by}
 use Rattle.channel_model.specs.CutShort.{NearlyAgrees}
+use Rattle.channel_model.specs.Endings.{is_reading, turns_in}
 use Rattle.channel_model.specs.Journal.{Accepted, Past, accepted_by, followed_by, past_of}
 use Rattle.channel_model.specs.Setting.{Setting}
 use Rattle.channel_model.specs.Stretch.{Agrees, Standing}
@@ -21,7 +23,7 @@ use Rattle.adig_tool.proofs.FateLemmas.{fates_later}
 use Rattle.adig_tool.specs.Calls.{past_in, setting_of}
 use Rattle.adig_tool.specs.Seen.{Seen}
 use Rattle.adig_tool.specs.Setup.{setup}
-use Rattle.adig_tool.specs.Steps.{AreFates, BreaksOff, GoesOnFor, GoesOnWith, Passes, Proceeds, accepted_in, is_plain, numbers_of, taken_from, unlinked}
+use Rattle.adig_tool.specs.Steps.{AgreesIn, AreFates, BreaksOff, GoesOnFor, GoesOnWith, Passes, Proceeds, accepted_in, is_plain, numbers_of, taken_from, unlinked}
 
 -- the past of a longer journal
 pub past_later : (a b : Seen) (es : List Entry) → b.journal ≡ a.journal ++ es → past_in b ≡ followed_by (past_in a) es
@@ -91,14 +93,21 @@ AgreeFrom a b es calls = Agrees (setting_of a) 0 (unlinked (past_in a)) es calls
 abbrev pub NearFrom : Seen → List Entry → List WorldCall → Type 0
 NearFrom a es calls = NearlyAgrees (setting_of a) 0 (unlinked (past_in a)) es calls
 
-agree_both : (a b c : Seen) (es fs : List Entry) → b.server ≡ a.server → (cs ds : List WorldCall) → AgreeFrom a b es cs → AgreeFrom b c fs ds → AgreeFrom a c (es ++ fs) (cs ++ ds)
-agree_both a b c es fs is cs ds x y =
-    agrees_trans (setting_of a) 0 (unlinked (past_in a)) (unlinked (past_in b)) (unlinked (past_in c)) es fs cs ds x
-    (subst (λ setting. Agrees setting 0 (unlinked (past_in b)) fs ds (unlinked (past_in c))) (same_setting a b is) y)
+-- the turns of two parts
+pub turns_both : (cs ds : List WorldCall) → turns_in (cs ++ ds) ≡ turns_in cs + turns_in ds
+turns_both cs ds = sum_by-append (λ call. cond (is_reading call) 1 0) cs ds
 
-near_both : (a b : Seen) (es fs : List Entry) → b.server ≡ a.server → (cs ds : List WorldCall) → AgreeFrom a b es cs → NearFrom b fs ds → NearFrom a (es ++ fs) (cs ++ ds)
-near_both a b es fs is cs ds x y =
-    nearly_behind (setting_of a) 0 (unlinked (past_in a)) (unlinked (past_in b)) es fs cs ds x
+agree_both : (i j k : ℕ) → k ≡ i + j → (a b c : Seen) (es fs : List Entry) → b.server ≡ a.server → (cs ds : List WorldCall) → AgreesIn i a b es cs → AgreesIn j b c fs ds → AgreesIn k a c (es ++ fs) (cs ++ ds)
+agree_both i j k sum a b c es fs is cs ds x y = record {
+  agrees =
+      agrees_trans (setting_of a) 0 (unlinked (past_in a)) (unlinked (past_in b)) (unlinked (past_in c)) es fs cs ds x.agrees
+      (subst (λ setting. Agrees setting 0 (unlinked (past_in b)) fs ds (unlinked (past_in c))) (same_setting a b is) y.agrees);
+  turns_are = omega (arith, sum, turns_both cs ds, x.turns_are, y.turns_are);
+}
+
+near_both : (i : ℕ) (a b : Seen) (es fs : List Entry) → b.server ≡ a.server → (cs ds : List WorldCall) → AgreesIn i a b es cs → NearFrom b fs ds → NearFrom a (es ++ fs) (cs ++ ds)
+near_both i a b es fs is cs ds x y =
+    nearly_behind (setting_of a) 0 (unlinked (past_in a)) (unlinked (past_in b)) es fs cs ds x.agrees
     (subst (λ setting. NearlyAgrees setting 0 (unlinked (past_in b)) fs ds) (same_setting a b is) y)
 
 -- what agrees nearly agrees
@@ -112,52 +121,52 @@ near_of channel seat a b es cs x = record {
 }
 
 -- nothing was done
-pub proceeds_none : (c : Seen) (l : Option (List WorldCall)) → Proceeds [] [] c c l l
-proceeds_none c l = record { entries = []; goes_on = goes_none c; told = told_none (AgreeFrom c c []) (agrees_none (setting_of c) 0 (unlinked (past_in c))) l }
+pub proceeds_none : (c : Seen) (l : Option (List WorldCall)) → Proceeds 0 [] [] c c l l
+proceeds_none c l = record {
+  entries = [];
+  goes_on = goes_none c;
+  told = told_none (AgreesIn 0 c c []) (record { agrees = agrees_none (setting_of c) 0 (unlinked (past_in c)); turns_are = refl }) l;
+}
 
 -- one whole part behind another
-pub proceeds_trans : (x y : List Accepted) (qs rs : List Answer) (a b c : Seen) (l m n : Option (List WorldCall)) →
-    Proceeds x qs a b l m → Proceeds y rs b c m n → Proceeds (x ++ y) (qs ++ rs) a c l n
-proceeds_trans x y qs rs a b c l m n p q = record {
+pub proceeds_trans : (i j k : ℕ) → k ≡ i + j → (x y : List Accepted) (qs rs : List Answer) (a b c : Seen) (l m n : Option (List WorldCall)) →
+    Proceeds i x qs a b l m → Proceeds j y rs b c m n → Proceeds k (x ++ y) (qs ++ rs) a c l n
+proceeds_trans i j k sum x y qs rs a b c l m n p q = record {
   entries = p.entries ++ q.entries;
   goes_on = goes_trans x y qs rs a b c p.entries q.entries p.goes_on q.goes_on;
-  told = told_trans (AgreeFrom a b p.entries) (AgreeFrom b c q.entries) (AgreeFrom a c (p.entries ++ q.entries)) (agree_both a b c p.entries q.entries p.goes_on.server) l m n p.told q.told;
+  told = told_trans (AgreesIn i a b p.entries) (AgreesIn j b c q.entries) (AgreesIn k a c (p.entries ++ q.entries)) (agree_both i j k sum a b c p.entries q.entries p.goes_on.server) l m n p.told q.told;
 }
 
 -- a part that was cut short behind a whole one
-pub breaks_behind : (x y : List Accepted) (qs rs : List Answer) (a b c : Seen) (l m n : Option (List WorldCall)) →
-    Proceeds x qs a b l m → BreaksOff y rs b c m n → BreaksOff (x ++ y) (qs ++ rs) a c l n
-breaks_behind x y qs rs a b c l m n p q = record {
+pub breaks_behind : (i : ℕ) (x y : List Accepted) (qs rs : List Answer) (a b c : Seen) (l m n : Option (List WorldCall)) →
+    Proceeds i x qs a b l m → BreaksOff y rs b c m n → BreaksOff (x ++ y) (qs ++ rs) a c l n
+breaks_behind i x y qs rs a b c l m n p q = record {
   entries = p.entries ++ q.entries;
   goes_on = goes_trans x y qs rs a b c p.entries q.entries p.goes_on q.goes_on;
-  told = told_trans (AgreeFrom a b p.entries) (NearFrom b q.entries) (NearFrom a (p.entries ++ q.entries)) (near_both a b p.entries q.entries p.goes_on.server) l m n p.told q.told;
+  told = told_trans (AgreesIn i a b p.entries) (NearFrom b q.entries) (NearFrom a (p.entries ++ q.entries)) (near_both i a b p.entries q.entries p.goes_on.server) l m n p.told q.told;
 }
 
 -- a whole part may be cut short behind its end
-pub breaks_of : (x : List Accepted) (qs : List Answer) (a b : Seen) (l m : Option (List WorldCall)) → Proceeds x qs a b l m → BreaksOff x qs a b l m
-breaks_of x qs a b l m p = record {
+pub breaks_of : (i : ℕ) (x : List Accepted) (qs : List Answer) (a b : Seen) (l m : Option (List WorldCall)) → Proceeds i x qs a b l m → BreaksOff x qs a b l m
+breaks_of i x qs a b l m p = record {
   entries = p.entries;
   goes_on = p.goes_on;
-  told = told_as (AgreeFrom a b p.entries) (NearFrom a p.entries) (λ cs. near_of (setting_of a) 0 (unlinked (past_in a)) (unlinked (past_in b)) p.entries cs) l m p.told;
+  told = told_as (AgreesIn i a b p.entries) (NearFrom a p.entries) (λ cs agree. near_of (setting_of a) 0 (unlinked (past_in a)) (unlinked (past_in b)) p.entries cs agree.agrees) l m p.told;
 }
 
 -- nothing was done, and want of memory came
 pub breaks_none : (c : Seen) (l : Option (List WorldCall)) → BreaksOff [] [] c c l l
-breaks_none c l = breaks_of [] [] c c l l (proceeds_none c l)
+breaks_none c l = breaks_of 0 [] [] c c l l (proceeds_none c l)
 
--- a part where nobody asks and nobody is called, behind another
-pub proceeds_then : (a b c : Seen) (l m n : Option (List WorldCall)) → Proceeds [] [] a b l m → Proceeds [] [] b c m n → Proceeds [] [] a c l n
-proceeds_then a b c l m n p q = proceeds_trans [] [] [] [] a b c l m n p q
-
-pub passes_then : {T : Type 0} (result : Result T NoMemory) (a b c : Seen) (l m n : Option (List WorldCall)) → Proceeds [] [] a b l m → Passes result b c m n → Passes result a c l n
-passes_then (Ok x) a b c l m n p q = proceeds_trans [] [] [] [] a b c l m n p q
-passes_then (Err e) a b c l m n p q = breaks_behind [] [] [] [] a b c l m n p q
+-- parts in which nobody asks and nobody is called, one behind the other
+pub proceeds_then : (i : ℕ) (a b c : Seen) (l m n : Option (List WorldCall)) → Proceeds i [] [] a b l m → Proceeds 0 [] [] b c m n → Proceeds i [] [] a c l n
+proceeds_then i a b c l m n p q = proceeds_trans i 0 i (omega arith) [] [] [] [] a b c l m n p q
 
 -- want of memory came, and this was added
-pub passes_err : {T : Type 0} (result : Result T NoMemory) → is_err result ≡ true → (a b : Seen) (l m : Option (List WorldCall)) → BreaksOff [] [] a b l m → Passes result a b l m
-passes_err (Ok x) is a b l m breaks = absurd (cc is)
-passes_err (Err e) is a b l m breaks = breaks
+pub passes_err : {T : Type 0} (i : ℕ) (result : Result T NoMemory) → is_err result ≡ true → (a b : Seen) (l m : Option (List WorldCall)) → BreaksOff [] [] a b l m → Passes i result a b l m
+passes_err i (Ok x) is a b l m breaks = absurd (cc is)
+passes_err i (Err e) is a b l m breaks = breaks
 
 -- what was cut short, behind a whole part
-pub err_then : {T : Type 0} (result : Result T NoMemory) → is_err result ≡ true → (a b c : Seen) (l m n : Option (List WorldCall)) → Proceeds [] [] a b l m → BreaksOff [] [] b c m n → Passes result a c l n
-err_then result is a b c l m n p q = passes_err result is a c l n (breaks_behind [] [] [] [] a b c l m n p q)
+pub err_then : {T : Type 0} (i j : ℕ) (result : Result T NoMemory) → is_err result ≡ true → (a b c : Seen) (l m n : Option (List WorldCall)) → Proceeds i [] [] a b l m → BreaksOff [] [] b c m n → Passes j result a c l n
+err_then i j result is a b c l m n p q = passes_err j result is a c l n (breaks_behind i [] [] [] [] a b c l m n p q)

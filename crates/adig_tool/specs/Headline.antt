@@ -1,6 +1,6 @@
 -- What a run promises: one journal orders its events, and what it asked, sent, called and put follows from that journal.
 use Rattle.std.specs.List.{list_all}
-use Rattle.std.specs.Prelude.{All, Bool, IsTrue, List, Option, Some, [], false, filter, map, true, ℕ, ◌==◌, ◌∷◌, ◌≡◌, ◌≢◌, ◌≤◌, ◌⊎◌}
+use Rattle.std.specs.Prelude.{All, Bool, IsTrue, List, Option, Some, [], false, filter, map, true, ℕ, ◌++◌, ◌==◌, ◌∷◌, ◌≡◌, ◌≢◌, ◌≤◌, ◌⊎◌}
 use mathlib.Core.List.{IsPrefix}
 use Rattle.chan_types.specs.Plans.{blank}
 use Rattle.chan_types.specs.declared.answer.Answer.{Answer}
@@ -22,10 +22,10 @@ use Rattle.channel_model.specs.Stretch.{beginning}
 use Rattle.channel_model.specs.Traffic.{TrafficAgrees}
 use Rattle.adig_tool.specs.declared.ended.TheConstants.{FAILURE, FILE_FAULT, OUT_OF_MEMORY, SINK_FAULT, STALLED, SUCCESS, USAGE, WAIT_FAULT}
 use Rattle.adig_tool.specs.declared.page.TheConstants.{A, IN}
-use Rattle.adig_tool.specs.Entries.{closing}
+use Rattle.adig_tool.specs.Entries.{closing, take_of}
 use Rattle.adig_tool.specs.Finish.{IsSuccess}
 use Rattle.adig_tool.specs.Setup.{setup}
-use Rattle.adig_tool.specs.Steps.{GoesOnWith}
+use Rattle.adig_tool.specs.Steps.{GoesOnWith, HasTurns}
 use Rattle.adig_tool.specs.Words.{AreRefused, Ask}
 
 -- the server at this IPv4 address, on the port of name servers (RFC 1035, section 4.2)
@@ -86,6 +86,11 @@ left_pending server journal = pending (setup server) (past_at journal (closing_p
 abbrev pub left_ready : ServerAddr → List Entry → List ℕ
 left_ready server journal = ready (setup server) (past_at journal (closing_position journal))
 
+-- the journal ends with the Destroy of the channel, and behind it the Takes of what was called then
+pub record Ends (journal : List Entry) (called : List Answer) : Type 0 where
+  pub before : List Entry
+  pub is : journal ≡ before ++ closing ∷ map take_of called
+
 -- how the channel was ended
 pub record IsFinished (server : ServerAddr) (status : ℕ) (journal : List Entry) : Type 0 where
   -- nothing was cancelled
@@ -95,6 +100,9 @@ pub record IsFinished (server : ServerAddr) (status : ℕ) (journal : List Entry
   -- where the page was put nothing was cut short: nothing was pending and nothing ready then
   pub nothing_pending : PutsPage status → left_pending server journal ≡ []
   pub nothing_ready : PutsPage status → left_ready server journal ≡ []
+  -- behind the Destroy nothing stands but Takes, and nothing at all where the page was put
+  pub ends : journal ≢ [] → (called : List Answer) × Ends journal called
+  pub ends_so : PutsPage status → Ends journal []
 
 -- these calls are what the journal notes of the network
 pub record IsTrafficOf (server : ServerAddr) (status : ℕ) (journal : List Entry) (calls : List WorldCall) : Type 0 where
@@ -104,7 +112,7 @@ pub record IsTrafficOf (server : ServerAddr) (status : ℕ) (journal : List Entr
   pub near : NearlyAgrees (setup server) 0 beginning journal calls
 
 -- the causes of the exit status
-pub record HasCause (words : List (List ℕ)) (status : ℕ) (journal : List Entry) (calls : List Answer) (sink_old sink_new waits_old waits_new : ℕ) (log_old log_new : Option (List WorldCall)) : Type 0 where
+pub record HasCause (words : List (List ℕ)) (turns status : ℕ) (journal : List Entry) (calls : List Answer) (sink_old sink_new waits_old waits_new : ℕ) (log_old log_new : Option (List WorldCall)) : Type 0 where
   -- it is one of this crate's, and no file fault, since no file is read yet
   pub known : (status ≤ STALLED) × (status ≢ FILE_FAULT)
   -- the words are refused
@@ -119,3 +127,5 @@ pub record HasCause (words : List (List ℕ)) (status : ℕ) (journal : List Ent
   pub last_wait : status ≡ WAIT_FAULT → GoesOnWith LastWaitFailed log_old log_new
   -- the request was pending when the channel was ended
   pub stalled : status ≡ STALLED → ForWords words (λ server text. left_pending server journal ≢ [])
+  -- and where the World tells its log, so many turns were made
+  pub all_turns : status ≡ STALLED → GoesOnWith (HasTurns turns) log_old log_new

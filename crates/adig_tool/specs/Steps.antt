@@ -9,6 +9,7 @@ use Rattle.item_list.specs.declared.no_memory.NoMemory.{NoMemory}
 use Rattle.net_world.specs.declared.log.WorldCall.{WorldCall}
 use Rattle.channel_model.specs.Completion.{fate, taken_by}
 use Rattle.channel_model.specs.CutShort.{NearlyAgrees}
+use Rattle.channel_model.specs.Endings.{turns_in}
 use Rattle.channel_model.specs.Journal.{Accepted, Past, accepted_by}
 use Rattle.channel_model.specs.Setting.{Setting}
 use Rattle.channel_model.specs.Stretch.{Agrees, Standing}
@@ -63,11 +64,20 @@ pub record GoesOnFor (accepts : List Accepted) (answers : List Answer) (old new 
   pub takes_are : taken_from entries ≡ numbers_of answers
   pub fates_are : AreFates (setting_of old) (past_in new) answers
 
--- the same, and where the log is told it goes on with calls that agree with these entries
-pub record Proceeds (accepts : List Accepted) (answers : List Answer) (old new : Seen) (log_old log_new : Option (List WorldCall)) : Type 0 where
+-- these calls make so many turns
+abbrev pub HasTurns : ℕ → List WorldCall → Type 0
+HasTurns turns calls = turns_in calls ≡ turns
+
+-- these calls agree with these entries, and make so many turns
+pub record AgreesIn (turns : ℕ) (old new : Seen) (entries : List Entry) (calls : List WorldCall) : Type 0 where
+  pub agrees : Agrees (setting_of old) 0 (unlinked (past_in old)) entries calls (unlinked (past_in new))
+  pub turns_are : HasTurns turns calls
+
+-- the same, and where the log is told it goes on with calls that agree with these entries, in so many turns
+pub record Proceeds (turns : ℕ) (accepts : List Accepted) (answers : List Answer) (old new : Seen) (log_old log_new : Option (List WorldCall)) : Type 0 where
   pub entries : List Entry
   pub goes_on : GoesOnFor accepts answers old new entries
-  pub told : GoesOnWith (λ calls. Agrees (setting_of old) 0 (unlinked (past_in old)) entries calls (unlinked (past_in new))) log_old log_new
+  pub told : GoesOnWith (AgreesIn turns old new entries) log_old log_new
 
 -- the same, where want of memory cut it short: the calls agree with these entries, or are one call apart from them
 pub record BreaksOff (accepts : List Accepted) (answers : List Answer) (old new : Seen) (log_old log_new : Option (List WorldCall)) : Type 0 where
@@ -75,7 +85,7 @@ pub record BreaksOff (accepts : List Accepted) (answers : List Answer) (old new 
   pub goes_on : GoesOnFor accepts answers old new entries
   pub told : GoesOnWith (λ calls. NearlyAgrees (setting_of old) 0 (unlinked (past_in old)) entries calls) log_old log_new
 
--- a part of a turn is made whole, or is cut short; nobody asks and nobody is called in it
-abbrev pub Passes : {T : Type 0} → Result T NoMemory → Seen → Seen → Option (List WorldCall) → Option (List WorldCall) → Type 0
-Passes (Ok answer) old new log_old log_new = Proceeds [] [] old new log_old log_new
-Passes (Err e) old new log_old log_new = BreaksOff [] [] old new log_old log_new
+-- so many turns, or a part of one, are made whole or are cut short; nobody asks and nobody is called in them
+abbrev pub Passes : {T : Type 0} → ℕ → Result T NoMemory → Seen → Seen → Option (List WorldCall) → Option (List WorldCall) → Type 0
+Passes turns (Ok answer) old new log_old log_new = Proceeds turns [] [] old new log_old log_new
+Passes turns (Err e) old new log_old log_new = BreaksOff [] [] old new log_old log_new

@@ -12,7 +12,7 @@ ghost use Rattle.adig_tool.specs.Headline.{AcceptsFor, CallsOnce, IsFinished, Is
 ghost use Rattle.adig_tool.specs.Output.{GoesOn, IsOutputOf, wait_fault_text, stalled_text};
 ghost use Rattle.adig_tool.specs.Sessions.{Delivers, Finishes, MakesSession, MakesTurns};
 ghost use Rattle.adig_tool.specs.Setup.{setup};
-ghost use Rattle.adig_tool.specs.Steps.{GoesOnWith};
+ghost use Rattle.adig_tool.specs.Steps.{GoesOnWith, HasTurns};
 ghost use Rattle.adig_tool.specs.declared.ended.TheConstants.{USAGE, FILE_FAULT, SINK_FAULT};
 
 use crate::answers::Paused;
@@ -64,6 +64,7 @@ pub fn ask<W: World, K: Sink>(
     ensures sink_fault { result.status ≡ SINK_FAULT → Rose (K.faults sink.old) (K.faults sink.new) }
     ensures wait_fault { result.status ≡ WAIT_FAULT → Rose (W.wait_faults world.old) (W.wait_faults world.new) }
     ensures last_wait { result.status ≡ WAIT_FAULT → GoesOnWith LastWaitFailed (W.log world.old) (W.log world.new) }
+    ensures all_turns { result.status ≡ STALLED → GoesOnWith (HasTurns turns) (W.log world.old) (W.log world.new) }
     ensures stalled { result.status ≡ STALLED → left_pending asked.now.server result.journal ≢ [] }
     ensures output { IsOutputOf asked.now.word.now result.calls result.status (K.bytes sink.old) (K.bytes sink.new) }
     ensures wait_fault_text { result.status ≡ WAIT_FAULT → GoesOn (K.bytes sink.old) (K.bytes sink.new) wait_fault_text }
@@ -100,6 +101,7 @@ fn session<W: World>(
     ensures waits { W.wait_faults world.old ≤ W.wait_faults world.new }
     ensures wait_fault { result ≡ Ok LoopEnd.WaitFault → Rose (W.wait_faults world.old) (W.wait_faults world.new) }
     ensures last_wait { result ≡ Ok LoopEnd.WaitFault → GoesOnWith LastWaitFailed (W.log world.old) (W.log world.new) }
+    ensures all_turns { result ≡ Ok LoopEnd.Stalled → GoesOnWith (HasTurns turns) (W.log world.old) (W.log world.new) }
 {
     let mut runner = Runner::make(world, &asked.server)?;
     let spec = Spec::Query {
@@ -128,6 +130,7 @@ fn make_turns<W: World>(
     ensures waits { W.wait_faults world.old ≤ W.wait_faults world.new }
     ensures wait_fault { result ≡ Ok LoopEnd.WaitFault → Rose (W.wait_faults world.old) (W.wait_faults world.new) }
     ensures last_wait { result ≡ Ok LoopEnd.WaitFault → GoesOnWith LastWaitFailed (W.log world.old) (W.log world.new) }
+    ensures all_turns { result ≡ Ok LoopEnd.Stalled → GoesOnWith (HasTurns turns) (W.log world.old) (W.log world.new) }
 {
     deliver_all(channel, calls);
     for _ in 0..turns {

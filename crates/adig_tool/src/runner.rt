@@ -36,7 +36,7 @@ impl Runner {
     /// A runner that has told the network its server.
     #[tactic(auto, using(crate::proofs::PartsLemmas::serve_quiet))]
     pub fn make<W: World>(world: &mut W, server: &ServerAddr) -> Result<Runner, NoMemory>
-        ensures passes { (channel : Seen) → Passes result channel channel (W.log world.old) (W.log world.new) }
+        ensures passes { (channel : Seen) → Passes 0 result channel channel (W.log world.old) (W.log world.new) }
         ensures waits { W.wait_faults world.new ≡ W.wait_faults world.old }
     {
         world.serve(SERVER, server)?;
@@ -52,7 +52,7 @@ impl Runner {
         channel: &mut Channel,
         world: &mut W,
     ) -> Result<Turned, NoMemory>
-        ensures passes { Passes result channel.old channel.new (W.log world.old) (W.log world.new) }
+        ensures passes { Passes 1 result channel.old channel.new (W.log world.old) (W.log world.new) }
         ensures waits { W.wait_faults world.new ≡ W.wait_faults world.old }
     {
         if self.broken {
@@ -73,7 +73,7 @@ impl Runner {
         world: &mut W,
         slice: u64,
     ) -> Result<Paused, NoMemory>
-        ensures passes { Passes result channel.now channel.now (W.log world.old) (W.log world.new) }
+        ensures passes { Passes 0 result channel.now channel.now (W.log world.old) (W.log world.new) }
         ensures waits { W.wait_faults world.old ≤ W.wait_faults world.new }
         ensures wait_fault { result ≡ Ok Paused.WaitFault → Rose (W.wait_faults world.old) (W.wait_faults world.new) }
         ensures last_wait { result ≡ Ok Paused.WaitFault → GoesOnWith LastWaitFailed (W.log world.old) (W.log world.new) }
@@ -89,7 +89,7 @@ impl Runner {
 }
 
 fn turn_once<W: World>(channel: &mut Channel, world: &mut W) -> Result<Turned, NoMemory>
-    ensures passes { Passes result channel.old channel.new (W.log world.old) (W.log world.new) }
+    ensures passes { Passes 1 result channel.old channel.new (W.log world.old) (W.log world.new) }
     ensures waits { W.wait_faults world.new ≡ W.wait_faults world.old }
 {
     let reading = world.now()?;

@@ -44,7 +44,7 @@ pub fn run<W: World, F: Files, K: Sink>(
     ensures traffic { ForWords (map (λ word. word.now) words.now) (λ server text. GoesOnWith (IsTrafficOf server result.status result.journal) (W.log world.old) (W.log world.new)) }
 
     // The exit status has its cause, and the output is that of the answer; no file is read.
-    ensures status { HasCause (map (λ word. word.now) words.now) result.status result.journal result.calls (K.faults sink.old) (K.faults sink.new) (W.wait_faults world.old) (W.wait_faults world.new) (W.log world.old) (W.log world.new) }
+    ensures status { HasCause (map (λ word. word.now) words.now) turns result.status result.journal result.calls (K.faults sink.old) (K.faults sink.new) (W.wait_faults world.old) (W.wait_faults world.new) (W.log world.old) (W.log world.new) }
     ensures output { ForWords (map (λ word. word.now) words.now) (λ server text. IsOutputOf text result.calls result.status (K.bytes sink.old) (K.bytes sink.new)) }
     ensures wait_fault_text { result.status ≡ WAIT_FAULT → GoesOn (K.bytes sink.old) (K.bytes sink.new) wait_fault_text }
     ensures stalled_text { result.status ≡ STALLED → GoesOn (K.bytes sink.old) (K.bytes sink.new) stalled_text }

@@ -123,6 +123,10 @@ impl Name {
         requires room { wire_length self.old + length wire.now ≤ 255 }
         ensures { OnOk result (self.new ≡ self.old ++ labels_in wire.now) }
     {
+        // A chain of pointers has many runs without a label.
+        if count == 0 {
+            return Ok(());
+        }
         self.make_room(wire.len())?;
         self.wire.extend_from_slice(wire)?;
         self.count += count;

@@ -44,12 +44,7 @@ fn end_of_label(bytes: &[u8], start: usize, at: usize, taken: usize) -> Result<u
 }
 
 /// Adds the run's labels to the name that begins at `start`.
-fn add_run(
-    bytes: &[u8],
-    start: usize,
-    run: usize,
-    name: &mut Name,
-) -> Result<RunEnd, MessageFault>
+fn add_run(bytes: &[u8], start: usize, run: usize, name: &mut Name) -> Result<RunEnd, MessageFault>
     ensures read { MatchResult result
         (λ end. run_of bytes.now start run name.old ≡ Ok (name.new, end))
         (λ fault. fault ≢ MessageFault.NoMemory → run_of bytes.now start run name.old ≡ Err fault) }

@@ -12,7 +12,7 @@ const MOST: u64 = 65_536;
 /// Expires what is due at the reading. Answers how many attempts that were.
 #[tactic(auto, using(crate::proofs::StepsLemmas::proceeds_then, crate::proofs::StepsLemmas::proceeds_none, crate::proofs::PartsLemmas::expire_stands))]
 pub fn expire_all(channel: &mut Channel, reading: u64) -> Result<u64, NoMemory>
-    ensures passes { (log : Option (List WorldCall)) → Passes result channel.old channel.new log log }
+    ensures passes { (log : Option (List WorldCall)) → Passes 0 result channel.old channel.new log log }
 {
     for expired in 0..MOST {
         match channel.expire(reading)? {

@@ -18,7 +18,7 @@ pub fn pause_once<W: World>(
     world: &mut W,
     latest: u64,
 ) -> Result<Paused, NoMemory>
-    ensures passes { Passes result channel.now channel.now (W.log world.old) (W.log world.new) }
+    ensures passes { Passes 0 result channel.now channel.now (W.log world.old) (W.log world.new) }
     ensures waits { W.wait_faults world.old ≤ W.wait_faults world.new }
     ensures wait_fault { result ≡ Ok Paused.WaitFault → Rose (W.wait_faults world.old) (W.wait_faults world.new) }
     ensures last_wait { result ≡ Ok Paused.WaitFault → GoesOnWith LastWaitFailed (W.log world.old) (W.log world.new) }

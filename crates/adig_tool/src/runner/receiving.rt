@@ -15,7 +15,7 @@ pub fn receive_all<W: World>(
     world: &mut W,
     reading: u64,
 ) -> Result<u64, NoMemory>
-    ensures passes { Passes result channel.old channel.new (W.log world.old) (W.log world.new) }
+    ensures passes { Passes 0 result channel.old channel.new (W.log world.old) (W.log world.new) }
     ensures waits { W.wait_faults world.new ≡ W.wait_faults world.old }
 {
     for received in 0..MOST {
@@ -32,7 +32,7 @@ fn receive_one<W: World>(
     world: &mut W,
     reading: u64,
 ) -> Result<bool, NoMemory>
-    ensures passes { Passes result channel.old channel.new (W.log world.old) (W.log world.new) }
+    ensures passes { Passes 0 result channel.old channel.new (W.log world.old) (W.log world.new) }
     ensures waits { W.wait_faults world.new ≡ W.wait_faults world.old }
 {
     match world.receive()? {

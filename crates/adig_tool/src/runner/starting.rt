@@ -16,7 +16,7 @@ pub fn start_all<W: World>(
     world: &mut W,
     reading: u64,
 ) -> Result<u64, NoMemory>
-    ensures passes { Passes result channel.old channel.new (W.log world.old) (W.log world.new) }
+    ensures passes { Passes 0 result channel.old channel.new (W.log world.old) (W.log world.new) }
     ensures waits { W.wait_faults world.new ≡ W.wait_faults world.old }
 {
     for started in 0..MOST {
@@ -29,7 +29,7 @@ pub fn start_all<W: World>(
 
 /// Starts one attempt and sends its query, if a leg waits and an identifier is free. A failed send is a fault of its link.
 fn start_one<W: World>(channel: &mut Channel, world: &mut W, reading: u64) -> Result<bool, NoMemory>
-    ensures passes { Passes result channel.old channel.new (W.log world.old) (W.log world.new) }
+    ensures passes { Passes 0 result channel.old channel.new (W.log world.old) (W.log world.new) }
     ensures waits { W.wait_faults world.new ≡ W.wait_faults world.old }
 {
     let word = world.word()?;

@@ -17,7 +17,7 @@ pub returns-in_default-clause-called_once : goal.returns-in_default-clause-calle
 returns-in_default-clause-called_once g c = rw c.early.ensures (calls_none c.args.asked.now.server c.args.asked.now.word.now (g.W.World.log c.args.world.now))
 
 pub returns-in_default-clause-finished : goal.returns-in_default-clause-finished
-returns-in_default-clause-finished g c = rw c.early.ensures (finished_none c.args.asked.now.server c.args.asked.now.word.now (g.W.World.log c.args.world.now) _)
+returns-in_default-clause-finished g c = rw c.early.ensures (finished_none c.args.asked.now.server c.args.asked.now.word.now (g.W.World.log c.args.world.now))
 
 pub returns-in_default-clause-traffic : goal.returns-in_default-clause-traffic
 returns-in_default-clause-traffic g c = rw c.early.ensures (traffic_none c.args.asked.now.server c.args.asked.now.word.now (g.W.World.log c.args.world.now))
@@ -68,3 +68,6 @@ returns-clause-stalled g c = λ is none.
 
 pub returns-clause-last_wait : goal.returns-clause-last_wait
 returns-clause-last_wait g c = λ is. c.session-end.ensures.last_wait (c.report-status.ensures.wait_fault is).0
+
+pub returns-clause-all_turns : goal.returns-clause-all_turns
+returns-clause-all_turns g c = λ is. c.session-end.ensures.all_turns (c.report-status.ensures.stalled is).0

@@ -45,6 +45,7 @@ returns-in-Ok-Some-clause-status g c = record {
   sink_fault = c.ask.ensures.sink_fault;
   wait_fault = c.ask.ensures.wait_fault;
   last_wait = c.ask.ensures.last_wait;
+  all_turns = c.ask.ensures.all_turns;
   stalled = λ is. for_words _ (λ server text. left_pending server c.ask.result.journal ≢ []) _ _ (rw c.in-Ok-Some.field-0-is at c.in-Ok-Some.ensures.only) (c.ask.ensures.stalled is);
 }
 
@@ -103,7 +104,7 @@ pub returns-in-Err-clause-traffic : goal.returns-in-Err-clause-traffic
 returns-in-Err-clause-traffic g c = λ address text asks. rw c.early-in-Err.ensures (traffic_none (server_at address) text (g.W.World.log c.args.world.now))
 
 pub returns-in-Err-clause-finished : goal.returns-in-Err-clause-finished
-returns-in-Err-clause-finished g c = λ address text asks. rw c.early-in-Err.ensures (finished_none (server_at address) text (g.W.World.log c.args.world.now) _)
+returns-in-Err-clause-finished g c = λ address text asks. rw c.early-in-Err.ensures (finished_none (server_at address) text (g.W.World.log c.args.world.now))
 
 pub returns-in-Err-clause-output : goal.returns-in-Err-clause-output
 returns-in-Err-clause-output g c = λ address text asks. rw c.early-in-Err.ensures (nothing_put _ _ _ _ (omega arith))

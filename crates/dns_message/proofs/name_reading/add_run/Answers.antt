@@ -69,7 +69,7 @@ loop-at-preserved c =
     let room : at - run + byte_at bytes at + 2 ≤ 255 = omega (arith, c.in_ok-at.ensures.room, c.in_ok-at.ensures.end, c.wire_len-front.ensures.value, wire_some c.args.name.now) in
     let label = c.in_ok-at.ensures.label in
     let labels : labels_in (slice_range bytes run c.in_ok-at.at) ≡ labels_in (slice_range bytes run at) ++ label_of bytes at ∷ [] =
-        rw c.in_ok-at.ensures.end (run_labels bytes run at _ c.loop-at.invariant.from c.loop-at-test.true fits c.loop-at.invariant.wire label.0 label.1 room) in
+    rw c.in_ok-at.ensures.end (run_labels bytes run at _ c.loop-at.invariant.from c.loop-at-test.true fits c.loop-at.invariant.wire label.0 label.1 room) in
     record {
       name = c.loop-at.invariant.name;
       from = omega (arith, c.in_ok-at.ensures.end, c.loop-at.invariant.from);

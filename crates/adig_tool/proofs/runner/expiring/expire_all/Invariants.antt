@@ -5,4 +5,4 @@ use Rattle.adig_tool.specs.Steps.{Proceeds}
 use Rattle.adig_tool.proofs.runner.expiring.expire_all.Given as goal
 
 abbrev pub invariant-loop-expired : goal.invariant-loop-expired
-invariant-loop-expired l = (log : Option (List WorldCall)) → Proceeds [] [] l.initial.channel l.channel log log
+invariant-loop-expired l = (log : Option (List WorldCall)) → Proceeds 0 [] [] l.initial.channel l.channel log log

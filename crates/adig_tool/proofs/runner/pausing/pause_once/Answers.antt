@@ -3,7 +3,7 @@ use Rattle.adig_tool.proofs.StepsLemmas.{passes_err}
 use Rattle.adig_tool.proofs.runner.pausing.pause_once.Goals as goal
 
 pub returns-in_err-wait-clause-passes : goal.returns-in_err-wait-clause-passes
-returns-in_err-wait-clause-passes g c = passes_err _ c.from_residual.ensures.0 _ _ _ _ (broke_here _ _ _ (c.in_err-wait.ensures.log))
+returns-in_err-wait-clause-passes g c = passes_err _ _ c.from_residual.ensures.0 _ _ _ _ (broke_here _ _ _ (c.in_err-wait.ensures.log))
 
 pub returns-in-Woken-clause-passes : goal.returns-in-Woken-clause-passes
 returns-in-Woken-clause-passes g c = wait_quiet _ _ _ _ _ (c.in_ok-wait.ensures.log)

@@ -4,16 +4,16 @@ use Rattle.adig_tool.proofs.runner.receiving.receive_one.Goals.{in-Datagram+in_o
 use Rattle.adig_tool.proofs.runner.receiving.receive_one.Goals as goal
 
 pub returns-in_err-server-clause-passes : goal.returns-in_err-server-clause-passes
-returns-in_err-server-clause-passes g c = passes_err _ c.from_residual.ensures.0 _ _ _ _ (broke_here _ _ _ (c.in_err-server.ensures.log))
+returns-in_err-server-clause-passes g c = passes_err _ _ c.from_residual.ensures.0 _ _ _ _ (broke_here _ _ _ (c.in_err-server.ensures.log))
 
 pub returns-in_err-arrive-in-Datagram-clause-passes : goal.returns-in_err-arrive-in-Datagram-clause-passes
 returns-in_err-arrive-in-Datagram-clause-passes g c =
-    passes_err _ c.from_residual-in_err-arrive-in-Datagram.ensures.0 _ _ _ _
+    passes_err _ _ c.from_residual-in_err-arrive-in-Datagram.ensures.0 _ _ _ _
     (datagram_unkept _ _ _ _ _ _ (c.in_err-arrive-in-Datagram.ensures.same) (rw c.in-Datagram.is at (c.in_ok-server.ensures.log)))
 
 pub returns-in_err-fault-in-Failed-clause-passes : goal.returns-in_err-fault-in-Failed-clause-passes
 returns-in_err-fault-in-Failed-clause-passes g c =
-    passes_err _ c.from_residual-in_err-fault-in-Failed.ensures.0 _ _ _ _
+    passes_err _ _ c.from_residual-in_err-fault-in-Failed.ensures.0 _ _ _ _
     (failure_unkept _ _ _ _ _ _ (c.in_err-fault-in-Failed.ensures.same) (rw c.in-Failed.is at (c.in_ok-server.ensures.log)))
 
 pub returns-in-Nothing-clause-passes : goal.returns-in-Nothing-clause-passes
