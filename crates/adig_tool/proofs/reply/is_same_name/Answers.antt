@@ -1,4 +1,4 @@
-use Rattle.resolv_options.proofs.SearchLemmas.{same_is}
+use Rattle.dns_message.proofs.TestLemmas.{same_is}
 use Rattle.adig_tool.proofs.reply.is_same_name.Goals as goal
 
 pub returns : goal.returns
