@@ -1,6 +1,6 @@
 //! Runs over what a server may answer: messages of RFC 1035, section 4.1, and their pages.
 
-use super::{WORDS, ran};
+use super::{WORDS, network, ran};
 use crate::ended::{FAILURE, SUCCESS};
 use item_list::Bytes;
 use net_world::{Got, MemSink, ScriptWorld, Timed};
@@ -39,18 +39,24 @@ fn message(
     Ok(bytes)
 }
 
-/// The exit status and the page of a run whose first random word is 0x1234, where these datagrams come at moment 1.
-fn ran_over(alloc: Global, datagrams: &[&[u8]]) -> Result<(u8, Vec<u8>), AllocError> {
+/// A network as in the other runs, on which these two datagrams come at moment 1, in this order.
+fn network_of_two(alloc: Global, first: &[u8], second: &[u8]) -> Result<ScriptWorld, AllocError> {
     let mut items = Vec::new(alloc);
-    for bytes in datagrams {
-        items.push(Timed {
-            from: 1,
-            got: Got::Datagram(0, Bytes::from_vec(bytes.to_vec(alloc)?)),
-        })?;
-    }
-    let mut world = ScriptWorld::make([0x1234].to_vec(alloc)?, items, Vec::new(alloc));
+    items.push(Timed {
+        from: 1,
+        got: Got::Datagram(0, Bytes::from_vec(first.to_vec(alloc)?)),
+    })?;
+    items.push(Timed {
+        from: 1,
+        got: Got::Datagram(0, Bytes::from_vec(second.to_vec(alloc)?)),
+    })?;
+    Ok(ScriptWorld::make([0x1234].to_vec(alloc)?, items, Vec::new(alloc)))
+}
+
+/// The exit status and the page of a run over this network.
+fn ran_over(alloc: Global, world: &mut ScriptWorld) -> Result<(u8, Vec<u8>), AllocError> {
     let mut sink = MemSink::make(Vec::new(alloc));
-    let ended = ran(alloc, &WORDS, &mut world, &mut sink, 1000);
+    let ended = ran(alloc, &WORDS, world, &mut sink, 1000);
     Ok((ended.status, sink.bytes().to_vec(alloc)?))
 }
 
@@ -59,7 +65,8 @@ fn ran_over(alloc: Global, datagrams: &[&[u8]]) -> Result<(u8, Vec<u8>), AllocEr
 fn truncation_is_printed(rt: HostRuntime) -> Result<(), Fail> {
     let alloc = rt.alloc();
     let reply = message(alloc, 0x1234, 0x8380, [0, 0, 0], &[])?;
-    let (status, page) = ran_over(alloc, &[reply.as_slice()])?;
+    let mut world = network(alloc, Some(reply.as_slice()), &[])?;
+    let (status, page) = ran_over(alloc, &mut world)?;
     assert_eq!(rt; status, FAILURE);
     assert_eq!(rt;
         page.as_slice(),
@@ -73,7 +80,8 @@ fn truncation_is_printed(rt: HostRuntime) -> Result<(), Fail> {
 fn extended_code_is_a_bad_response(rt: HostRuntime) -> Result<(), Fail> {
     let alloc = rt.alloc();
     let reply = message(alloc, 0x1234, 0x8180, [0, 0, 1], &[BADVERS])?;
-    let (status, page) = ran_over(alloc, &[reply.as_slice()])?;
+    let mut world = network(alloc, Some(reply.as_slice()), &[])?;
+    let (status, page) = ran_over(alloc, &mut world)?;
     assert_eq!(rt; status, FAILURE);
     assert_eq!(rt;
         page.as_slice(),
@@ -87,7 +95,8 @@ fn extended_code_is_a_bad_response(rt: HostRuntime) -> Result<(), Fail> {
 fn two_opt_records_are_a_stray(rt: HostRuntime) -> Result<(), Fail> {
     let alloc = rt.alloc();
     let stray = message(alloc, 0x1234, 0x8180, [1, 0, 2], &[ADDRESS, OPT, OPT])?;
-    let (status, page) = ran_over(alloc, &[stray.as_slice()])?;
+    let mut world = network(alloc, Some(stray.as_slice()), &[])?;
+    let (status, page) = ran_over(alloc, &mut world)?;
     assert_eq!(rt; status, FAILURE);
     assert_eq!(rt;
         page.as_slice(),
@@ -116,7 +125,8 @@ fn each_error_has_its_status(rt: HostRuntime) -> Result<(), Fail> {
     ];
     for (flags, expected) in rows {
         let reply = message(alloc, 0x1234, flags, [0, 0, 0], &[])?;
-        let (status, page) = ran_over(alloc, &[reply.as_slice()])?;
+        let mut world = network(alloc, Some(reply.as_slice()), &[])?;
+        let (status, page) = ran_over(alloc, &mut world)?;
         assert_eq!(rt; status, FAILURE);
         assert_eq!(rt; page.as_slice(), expected);
     }
@@ -137,7 +147,8 @@ fn each_section_is_printed(rt: HostRuntime) -> Result<(), Fail> {
         b"\x04mail\xc0\x0c\x00\x01\x00\x01\x00\x00\x01\x2c\x00\x04\xc0\x00\x02\x02",
     ];
     let reply = message(alloc, 0x1234, 0x8180, [5, 1, 1], &records)?;
-    let (status, page) = ran_over(alloc, &[reply.as_slice()])?;
+    let mut world = network(alloc, Some(reply.as_slice()), &[])?;
+    let (status, page) = ran_over(alloc, &mut world)?;
     assert_eq!(rt; status, SUCCESS);
     assert_eq!(rt;
         page.as_slice(),
@@ -156,7 +167,8 @@ fn another_identifier_is_a_stray(rt: HostRuntime) -> Result<(), Fail> {
     let alloc = rt.alloc();
     let stray = message(alloc, 0x1235, 0x8183, [0, 0, 0], &[])?;
     let reply = message(alloc, 0x1234, 0x8180, [1, 0, 0], &[ADDRESS])?;
-    let (status, page) = ran_over(alloc, &[stray.as_slice(), reply.as_slice()])?;
+    let mut world = network_of_two(alloc, stray.as_slice(), reply.as_slice())?;
+    let (status, page) = ran_over(alloc, &mut world)?;
     assert_eq!(rt; status, SUCCESS);
     assert_eq!(rt; page.as_slice(), PAGE);
     Ok(())
@@ -167,7 +179,8 @@ fn another_identifier_is_a_stray(rt: HostRuntime) -> Result<(), Fail> {
 fn second_reply_is_a_stray(rt: HostRuntime) -> Result<(), Fail> {
     let alloc = rt.alloc();
     let reply = message(alloc, 0x1234, 0x8180, [1, 0, 0], &[ADDRESS])?;
-    let (status, page) = ran_over(alloc, &[reply.as_slice(), reply.as_slice()])?;
+    let mut world = network_of_two(alloc, reply.as_slice(), reply.as_slice())?;
+    let (status, page) = ran_over(alloc, &mut world)?;
     assert_eq!(rt; status, SUCCESS);
     assert_eq!(rt; page.as_slice(), PAGE);
     Ok(())
