@@ -23,7 +23,7 @@ each() {
 }
 
 printf '%-18s %12s\n' call instructions
-for task in decode-mixed decode-addresses encode-mixed encode-addresses query; do
+for task in decode-mixed decode-addresses encode-mixed encode-addresses query query-from-text mixed; do
     each $task 1000
 done
 each decode-chained 1

@@ -22,3 +22,6 @@ pub mod NameFaultLemmas
 pub mod FirstFaultLemmas
 pub mod WireLemmas
 pub mod SpelledLemmas
+pub mod MixingLemmas
+pub mod TextFaultLemmas
+pub mod Theorems

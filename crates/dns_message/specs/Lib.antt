@@ -1,8 +1,11 @@
 pub mod Name
+pub mod Numbers
+pub mod Mixing
 pub mod Wire
 pub mod Question
 pub mod NameText
 pub mod NameFaults
+pub mod TextFaults
 pub mod NamePrinting
 pub mod Faults
 pub mod Shapes

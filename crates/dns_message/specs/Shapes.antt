@@ -1,5 +1,6 @@
 -- The shapes of rdata, by kind and class (RFC 1035, sections 3.3 and 3.4; RFC 2782; RFC 3596).
 use Rattle.std.specs.Prelude.{ℕ, zero, suc, ◌+◌, ◌&&◌, ◌||◌, nat_lt, ◌==◌, if◌then◌else◌, Bool, false, List, [], ◌∷◌, length, drop, Option, Some, None, option_map}
+use Rattle.dns_message.specs.Numbers.{kind_a, kind_ns, kind_cname, kind_soa, kind_ptr, kind_hinfo, kind_mx, kind_txt, kind_aaaa, kind_srv, class_in}
 use Rattle.dns_message.specs.declared.shape.Shape.{Shape}
 use Rattle.dns_message.specs.declared.shape.Shape.TheVariants as shapes
 
@@ -11,14 +12,14 @@ names_shape front names back = shapes.Names (record { front = front; names = nam
 -- MX a number and a name, HINFO two strings and TXT any; all else is any bytes
 abbrev pub shape_by : ℕ → ℕ → Shape
 shape_by kind class =
-    if kind == 1 && class == 1 then shapes.Bytes 4
-    else (if kind == 28 && class == 1 then shapes.Bytes 16
-    else (if kind == 33 && class == 1 then names_shape 6 1 0
-    else (if kind == 2 || kind == 5 || kind == 12 then names_shape 0 1 0
-    else (if kind == 6 then names_shape 0 2 20
-    else (if kind == 13 then shapes.TwoStrings
-    else (if kind == 15 then names_shape 2 1 0
-    else (if kind == 16 then shapes.Strings
+    if kind == kind_a && class == class_in then shapes.Bytes 4
+    else (if kind == kind_aaaa && class == class_in then shapes.Bytes 16
+    else (if kind == kind_srv && class == class_in then names_shape 6 1 0
+    else (if kind == kind_ns || kind == kind_cname || kind == kind_ptr then names_shape 0 1 0
+    else (if kind == kind_soa then names_shape 0 2 20
+    else (if kind == kind_hinfo then shapes.TwoStrings
+    else (if kind == kind_mx then names_shape 2 1 0
+    else (if kind == kind_txt then shapes.Strings
     else shapes.Any)))))))
 
 -- how many strings the bytes are, if there are at most so many bytes: each is a length byte and so many bytes

@@ -9,9 +9,9 @@ ghost use Rattle.dns_message.specs.Validity.{IsValid};
 ghost use Rattle.dns_message.specs.Reading.{Gives, question_of, record_of, items_of, message_read};
 
 use crate::fault::MessageFault;
+use crate::fields::{part_at, u16_in, u32_in};
 use crate::message::{Message, Question, QuestionList, Record, RecordList};
 use crate::name_reading::name_at;
-use crate::numbers::{part_at, u16_in, u32_in};
 use crate::rdata::rdata_at;
 use crate::shape::shape_of;
 use item_list::ItemList;

@@ -9,8 +9,8 @@ ghost use Rattle.dns_message.specs.Spelling.{question_bytes, record_bytes, heade
 ghost use Rattle.byteorder.specs.Endian.{big_bytes};
 
 use crate::fault::EncodeFault;
+use crate::fields::{put_name, put_u16, put_u32};
 use crate::message::{Message, Question, Record};
-use crate::numbers::{put_name, put_u16, put_u32};
 use item_list::{Bytes, NoMemory};
 use std::alloc::Global;
 

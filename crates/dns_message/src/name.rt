@@ -94,6 +94,14 @@ impl Name {
         })
     }
 
+    /// The name of so many labels that stand one behind the other in bytes.
+    pub(crate) fn of_wire(wire: Vec<u8>, count: usize) -> Name
+        requires { IsWire wire.items count }
+        ensures { result ≡ labels_in wire.items }
+    {
+        Name { wire, count }
+    }
+
     /// Adds a label at the end.
     pub(crate) fn push_label(&mut self, label: &[u8]) -> Result<(), NoMemory>
         requires label { IsLabel label.now }

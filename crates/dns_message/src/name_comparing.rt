@@ -1,6 +1,6 @@
 //! Names that are the same, ignoring ASCII case (RFC 1035, section 2.3.3; RFC 4343).
 
-ghost use Rattle.std.specs.Prelude.{◌↔◌, IsTrue};
+ghost use Rattle.std.specs.Prelude.{◌≡◌, ◌↔◌, IsTrue};
 ghost use Rattle.dns_message.specs.Name.{SameName, LastIs};
 
 use crate::name::{Name, first_label};
@@ -11,7 +11,15 @@ impl Name {
     pub fn same(&self, other: &Name) -> bool
         ensures { IsTrue result ↔ SameName self.now other.now }
     {
-        self.as_wire().eq_ignore_ascii_case(other.as_wire())
+        self.equal(other) || self.as_wire().eq_ignore_ascii_case(other.as_wire())
+    }
+
+    /// Whether the names are equal, byte for byte.
+    #[tactic(auto, using(crate::proofs::WireLemmas::labels_back))]
+    pub fn equal(&self, other: &Name) -> bool
+        ensures { IsTrue result ↔ (self.now ≡ other.now) }
+    {
+        self.as_wire() == other.as_wire()
     }
 
     /// Whether the last label is this one, ignoring ASCII case. The root has none.

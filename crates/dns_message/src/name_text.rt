@@ -9,6 +9,7 @@ ghost use Rattle.dns_message.specs.NameText.{byte_of_digits, escaped, units_of, 
 use crate::fault::NameFault;
 use crate::name::{LABEL_MOST, Name, NameText};
 use crate::name_making::add_label;
+use arrayvec::ArrayVec;
 use std::alloc::Global;
 
 /// What a text is made of: dots that part labels, and bytes of labels.
@@ -21,7 +22,7 @@ pub(crate) enum TextUnit {
 /// A label in a text, and where it ends: at a dot, or with the text.
 #[derive(Drop)]
 struct TextLabel {
-    label: Vec<u8>,
+    label: ArrayVec<u8, LABEL_MOST>,
     end: usize,
     dotted: bool,
 }
@@ -78,7 +79,7 @@ fn unit_at(text: &[u8], at: usize) -> Result<(TextUnit, usize), NameFault>
 }
 
 /// The label at an offset, up to a dot or the end of the text.
-fn label_at(alloc: Global, text: &[u8], start: usize) -> Result<TextLabel, NameFault>
+fn label_at(text: &[u8], start: usize) -> Result<TextLabel, NameFault>
     requires { start ≤ length text.now }
     ensures read { IfOk result (λ found. MatchBool found.dotted
         (units_of (drop start text.now) ≡ label_before found.label.items (dot_before (units_of (drop (found.end + 1) text.now))))
@@ -92,7 +93,7 @@ fn label_at(alloc: Global, text: &[u8], start: usize) -> Result<TextLabel, NameF
         (λ fault. fault ≢ NameFault.NoMemory → (front : List (List ℕ)) → name_on (length text.now) front start [] (spots_of start (drop start text.now)) ≡ Err fault) }
     ensures last { IfOk result (λ found. MatchBool found.dotted (Unit {0}) (found.end ≡ length text.now)) }
 {
-    let mut label = Vec::with_capacity(alloc, LABEL_MOST.min(text.len() - start))?;
+    let mut label = ArrayVec::new();
     let mut at = start;
     while at < text.len() {
         let (unit, next) = unit_at(text, at)?;
@@ -108,7 +109,7 @@ fn label_at(alloc: Global, text: &[u8], start: usize) -> Result<TextLabel, NameF
                 if label.len() == LABEL_MOST {
                     return Err(NameFault::LongLabel(at as u64));
                 }
-                label.push(byte)?;
+                label.push(byte);
             }
         }
         at = next;
@@ -137,7 +138,7 @@ impl Name {
         }
         let mut start = 0;
         loop {
-            let found = label_at(alloc, text, start)?;
+            let found = label_at(text, start)?;
             let (end, dotted) = (found.end, found.dotted);
             add_label(&mut name, found.label.as_slice(), start as u64, end as u64)?;
             if !dotted || end + 1 == text.len() {

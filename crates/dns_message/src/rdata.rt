@@ -4,9 +4,9 @@ ghost use Rattle.std.specs.Prelude.{◌≡◌, ◌≢◌, ◌+◌, ◌<◌, ◌�
 ghost use Rattle.dns_message.specs.Reading.{Gives, or_else, expanded_name, names_rdata, rdata_of};
 
 use crate::fault::MessageFault;
+use crate::fields::put_name;
 use crate::name::NAME_ROOM;
 use crate::name_reading::name_at;
-use crate::numbers::put_name;
 use crate::shape::{NamesShape, Shape, string_count};
 use item_list::Bytes;
 use std::alloc::Global;

@@ -3,6 +3,11 @@
 ghost use Rattle.std.specs.Prelude.{◌≡◌};
 ghost use Rattle.dns_message.specs.Shapes.{names_shape, shape_by, strings_of};
 
+use crate::numbers::{
+    CLASS_IN, KIND_A, KIND_AAAA, KIND_CNAME, KIND_HINFO, KIND_MX, KIND_NS, KIND_PTR, KIND_SOA,
+    KIND_SRV, KIND_TXT,
+};
+
 /// What rdata is made of.
 #[derive(Clone, Copy)]
 pub(crate) enum Shape {
@@ -31,30 +36,19 @@ fn names(front: usize, names: usize, back: usize) -> Shape
     Shape::Names(NamesShape { front, names, back })
 }
 
-/// The class of the Internet (RFC 1035, section 3.2.4).
-const CLASS_IN: u16 = 1;
-
 /// The shape of a kind in a class. Kinds whose shape is one class's own have none in other classes.
 pub(crate) fn shape_of(kind: u16, class: u16) -> Shape
     ensures { result ≡ shape_by kind class }
 {
     match kind {
-        // A
-        1 if class == CLASS_IN => Shape::Bytes(4),
-        // NS, CNAME, PTR
-        2 | 5 | 12 => names(0, 1, 0),
-        // SOA
-        6 => names(0, 2, 20),
-        // HINFO
-        13 => Shape::TwoStrings,
-        // MX
-        15 => names(2, 1, 0),
-        // TXT
-        16 => Shape::Strings,
-        // AAAA
-        28 if class == CLASS_IN => Shape::Bytes(16),
-        // SRV
-        33 if class == CLASS_IN => names(6, 1, 0),
+        KIND_A if class == CLASS_IN => Shape::Bytes(4),
+        KIND_NS | KIND_CNAME | KIND_PTR => names(0, 1, 0),
+        KIND_SOA => names(0, 2, 20),
+        KIND_HINFO => Shape::TwoStrings,
+        KIND_MX => names(2, 1, 0),
+        KIND_TXT => Shape::Strings,
+        KIND_AAAA if class == CLASS_IN => Shape::Bytes(16),
+        KIND_SRV if class == CLASS_IN => names(6, 1, 0),
         _ => Shape::Any,
     }
 }

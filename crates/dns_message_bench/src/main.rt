@@ -5,7 +5,7 @@ mod messages;
 mod rounds;
 
 use messages::{address_reply, chained, mixed_reply};
-use rounds::{decode_often, encode_often, query_often};
+use rounds::{decode_often, encode_often, mixed_often, query_often, text_query_often};
 use std::{env, io};
 
 // With a task and how often as its arguments it does that, and else prints a line that is always the same.
@@ -29,6 +29,8 @@ fn main(rt: HostRuntime) -> io::Result<()> {
         "encode-mixed" => encode_often(alloc, mixed_reply(alloc)?.as_slice(), times),
         "encode-addresses" => encode_often(alloc, address_reply(alloc)?.as_slice(), times),
         "query" => query_often(alloc, times),
+        "query-from-text" => text_query_often(alloc, times),
+        "mixed" => mixed_often(alloc, times),
         _ => 0,
     };
     println!(rt; "{task} {times} {seen}")

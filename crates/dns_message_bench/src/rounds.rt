@@ -43,6 +43,36 @@ pub fn query_often(alloc: Global, times: u32) -> u64 {
     seen
 }
 
+/// Builds the bytes of a query for the address of `www.example.com` so many times, each time from the name's text.
+pub fn text_query_often(alloc: Global, times: u32) -> u64 {
+    let mut seen = 0u64;
+    for _ in 0..times {
+        if let Some(len) = text_query_len(alloc) {
+            seen = seen.wrapping_add(len as u64);
+        }
+    }
+    seen
+}
+
+/// Copies a name in mixed case so many times.
+pub fn mixed_often(alloc: Global, times: u32) -> u64 {
+    let mut seen = 0u64;
+    if let Ok(text) = Name::from_text(alloc, b"www.example.com") {
+        for _ in 0..times {
+            if let Ok(mixed) = text.name.mixed(alloc, 0x0a55) {
+                seen = seen.wrapping_add(mixed.wire_len() as u64);
+            }
+        }
+    }
+    seen
+}
+
+/// Reads a name, builds the bytes of its query, and answers how many there are.
+fn text_query_len(alloc: Global) -> Option<usize> {
+    let text = Name::from_text(alloc, b"www.example.com").ok()?;
+    query_len(alloc, &text.name)
+}
+
 /// Builds a query's bytes, and answers how many there are.
 fn query_len(alloc: Global, name: &Name) -> Option<usize> {
     let query = query_of(alloc, name).ok()?;

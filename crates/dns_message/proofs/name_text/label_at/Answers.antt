@@ -11,7 +11,7 @@ use Rattle.dns_message.proofs.name_text.label_at.Goals as goal
 
 pub returns-in_err-unit-clause-refused : goal.returns-in_err-unit-clause-refused
 returns-in_err-unit-clause-refused c =
-    let p = err_from_is_err_and c.from_residual-in_err-unit.result c.from_residual-in_err-unit.ensures.1 in
+    let p = err_from_is_err_and c.from_residual.result c.from_residual.ensures.1 in
     rw p.1 (name_cause _ p.0 (inl (c.loop-at.invariant.read ∙ ap (label_before c.loop-at.label.items) c.in_err-unit.ensures.refused)))
 
 pub returns-in-Dot-clause-read : goal.returns-in-Dot-clause-read
@@ -24,14 +24,14 @@ returns-then-len-eq-LABEL_MOST-clause-refused c =
     let label = c.loop-at.label.items in
     let behind = units_of (drop c.in_ok-unit.next c.args.text.now) in
     let read = c.loop-at.invariant.read ∙ ap (label_before label) (rw c.in-Byte.is at c.in_ok-unit.ensures.read) ∙ label_more label c.in-Byte.byte behind in
-    inr (label ++ c.in-Byte.byte ∷ [], behind, omega (arith, length-append label (c.in-Byte.byte ∷ []), c.loop-at.label.ok.0, c.len.ensures), read)
+    inr (label ++ c.in-Byte.byte ∷ [], behind, omega (arith, length-append label (c.in-Byte.byte ∷ []), c.len.ensures), read)
 
 pub returns-clause-read : goal.returns-clause-read
 returns-clause-read c = c.loop-at.invariant.read ∙ ap (label_before c.loop-at.label.items) (units_end c.args.text.now c.loop-at.at c.loop-at-test.false)
 
 pub returns-in_err-unit-clause-placed : goal.returns-in_err-unit-clause-placed
 returns-in_err-unit-clause-placed c =
-    let p = err_from_is_err_and c.from_residual-in_err-unit.result c.from_residual-in_err-unit.ensures.1 in
+    let p = err_from_is_err_and c.from_residual.result c.from_residual.ensures.1 in
     let found = c.in_err-unit.ensures.placed in
     rw (p.1, p.2) (λ ne front. c.loop-at.invariant.placed front ∙ rw (found.1, found.0) refl)
 
@@ -44,7 +44,7 @@ pub returns-then-len-eq-LABEL_MOST-clause-placed : goal.returns-then-len-eq-LABE
 returns-then-len-eq-LABEL_MOST-clause-placed c = λ ne front.
     c.loop-at.invariant.placed front
     ∙ ap (name_on (length c.args.text.now) front c.args.start c.loop-at.label.items) (rw c.in-Byte.is at c.in_ok-unit.ensures.placed)
-    ∙ on_long (length c.args.text.now) front c.args.start c.loop-at.label.items c.loop-at.at c.in-Byte.byte _ (omega (arith, c.if-len-eq-LABEL_MOST.true, c.len.ensures, c.loop-at.label.ok.0))
+    ∙ on_long (length c.args.text.now) front c.args.start c.loop-at.label.items c.loop-at.at c.in-Byte.byte _ (omega (arith, c.if-len-eq-LABEL_MOST.true, c.len.ensures))
 
 pub returns-clause-placed : goal.returns-clause-placed
 returns-clause-placed c = λ front.

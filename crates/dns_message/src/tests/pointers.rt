@@ -1,14 +1,9 @@
 //! Names of a message that are long, or go on at pointers.
-use super::*;
+use super::message_of;
+use crate::{MessageFault, decode};
 use std::alloc::Global;
+use std::process::Abort;
 use std::test::Fail;
-
-/// A header with the flag QR and so many questions, and the bytes behind it.
-fn message_of(alloc: Global, questions: u8, rest: &[u8]) -> Result<Vec<u8>, Fail> {
-    let mut bytes = Vec::from_slice(alloc, &[0, 0, 0x80, 0, 0, questions, 0, 0, 0, 0, 0, 0])?;
-    bytes.extend_from_slice(rest)?;
-    Ok(bytes)
-}
 
 /// How many questions the header counts, the bytes behind it, and the last question's name.
 /// The second name goes on in the header, at the count of questions.
@@ -23,15 +18,26 @@ const READ: [(u8, &[u8], &[u8]); 4] = [
     ),
 ];
 
+/// The last question's name of so many questions and these bytes is printed so.
+fn last_is(
+    rt: &impl Abort,
+    alloc: Global,
+    questions: u8,
+    rest: &[u8],
+    printed: &[u8],
+) -> Result<(), Fail> {
+    let message = decode(alloc, message_of(alloc, questions, rest)?.as_slice())?;
+    match message.questions.as_slice().last() {
+        Some(question) => assert_eq!(rt; question.name.to_text(alloc)?.as_slice(), printed),
+        None => assert!(rt; false),
+    }
+    Ok(())
+}
+
 #[test]
 fn names_that_go_on_elsewhere(rt: HostRuntime) -> Result<(), Fail> {
-    let alloc = rt.alloc();
     for (questions, rest, printed) in READ {
-        let message = decode(alloc, message_of(alloc, questions, rest)?.as_slice())?;
-        match message.questions.as_slice().last() {
-            Some(question) => assert_eq!(rt; question.name.to_text(alloc)?.as_slice(), printed),
-            None => assert!(rt; false),
-        }
+        last_is(&rt, rt.alloc(), questions, rest, printed)?;
     }
     Ok(())
 }
@@ -81,12 +87,23 @@ const LENGTHS: [(&[u8], &[u8], Option<MessageFault>); 6] = [
     (&[63, 63, 63], b"\x3faaa", Some(MessageFault::ShortPart(12))),
 ];
 
+/// Such a question has this first fault, or none.
+fn question_has(
+    rt: &impl Abort,
+    alloc: Global,
+    lengths: &[u8],
+    rest: &[u8],
+    fault: Option<MessageFault>,
+) -> Result<(), Fail> {
+    let bytes = long_question(alloc, lengths, rest)?;
+    assert!(rt; decode(alloc, bytes.as_slice()).err() == fault);
+    Ok(())
+}
+
 #[test]
 fn longest_names_of_a_message(rt: HostRuntime) -> Result<(), Fail> {
-    let alloc = rt.alloc();
     for (lengths, rest, fault) in LENGTHS {
-        let bytes = long_question(alloc, lengths, rest)?;
-        assert!(rt; decode(alloc, bytes.as_slice()).err() == fault);
+        question_has(&rt, rt.alloc(), lengths, rest, fault)?;
     }
     Ok(())
 }
