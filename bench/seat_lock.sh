@@ -1,10 +1,11 @@
 #!/usr/bin/env bash
 # What a turn of seat_lock costs beside std's Mutex, by the program seat_lock_bench.
-# Without contention: instructions a turn under callgrind, from the difference of two runs. With 2 and 4 threads: the ratio of the times in one run.
+# Without contention: instructions a turn under callgrind, from the difference of two runs.
+# With 1, 2 and 4 threads: the ratio of the times in one run, first alone and then beside as many busy loops as there are cores.
 # Build first: (cd crates/seat_lock_bench && rt run)
 set -euo pipefail
 cd "$(dirname "$0")/.."
-program=crates/seat_lock_bench/out/seat_lock_bench
+program=${1:-crates/seat_lock_bench/out/seat_lock_bench}
 few=10000
 many=110000
 
@@ -13,14 +14,26 @@ instructions() {
   valgrind --tool=callgrind --callgrind-out-file=/dev/null "$program" "$1" "$2" 2>&1 >/dev/null | awk '/Collected/ { print $4 }'
 }
 
+# ratios WHERE: the middle of seven runs for each number of threads
+ratios() {
+  for threads in 1 2 4; do
+    for run in 1 2 3 4 5 6 7; do
+      "$program" times "$threads" 50000
+    done | awk '{ printf "%.2f\n", $3 / $4 }' | sort -n |
+      awk -v t="$threads" -v w="$1" '{ ratio[NR] = $1 } END { print w ", " t " threads: " ratio[4] " times the time of the Mutex (seven runs: " ratio[1] " to " ratio[NR] ")" }'
+  done
+}
+
 for word in seat mutex; do
   a=$(instructions "$word" "$few")
   b=$(instructions "$word" "$many")
   echo "$word: $(((b - a) / (many - few))) instructions a turn"
 done
-for threads in 2 4; do
-  for run in 1 2 3 4 5; do
-    "$program" times "$threads" 200000
-  done | awk '{ printf "%.2f\n", $3 / $4 }' | sort -n |
-    awk -v t="$threads" '{ ratio[NR] = $1 } END { print t " threads: " ratio[3] " times the time of the Mutex (five runs: " ratio[1] " to " ratio[NR] ")" }'
+ratios "as the machine is"
+busy=()
+trap 'kill "${busy[@]}" 2>/dev/null || true' EXIT
+for _ in $(seq "$(nproc)"); do
+  (while :; do :; done) &
+  busy+=($!)
 done
+ratios "beside other work"

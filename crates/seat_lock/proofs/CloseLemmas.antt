@@ -13,8 +13,8 @@ use Rattle.seat_lock.specs.declared.view.Left.{Left}
 use Rattle.seat_lock.specs.declared.opened.Opened.{Opened}
 use Rattle.seat_lock.specs.declared.view.View.{View}
 use Rattle.seat_lock.specs.declared.view.Phase.TheVariants.{Idle}
-use Rattle.seat_lock.specs.History.{made_by, HasAll, IsWhole}
-use Rattle.seat_lock.specs.Rule.{IsFit, IsKept, has_turn, spent, known_by}
+use Rattle.seat_lock.specs.History.{made_by, HasAll, IsWholeHistory}
+use Rattle.seat_lock.specs.Rule.{IsFit, KeepsLockRule, has_turn, spent_view, seat_view}
 use Rattle.seat_lock.specs.Steps.{IsAware}
 use Rattle.seat_lock.proofs.ViewLemmas.{within, one_there, fits_here, some_setting}
 
@@ -41,8 +41,8 @@ module _ {E : Type 0} (maker : E → ℕ) where
       empty : (n : ℕ) → n < seats → made_by maker n p.0 ≡ []
       empty n lt = append_cancel_left (made_by maker n seen) (made_by maker n p.0) [] (sym (filter-append (λ e. maker e == n) seen p.0) ∙ (ap (made_by maker n) p.1 ∙ (same n lt ∙ sym (append-nil (made_by maker n seen)))))
 
-module _ {S E T : Type 0} (stands : S → List E) (maker : E → ℕ) (setting : S → T) (key : Opened S) (lock : TableId) (s : State (std.Option S) (View E T)) (k : IsKept stands maker setting key s) (id : ℕ) (v : View E T) (c : T)
-    (here : get_elem? s.views id ≡ some v) (idle : v.phase ≡ Idle) (is_set : v.setting ≡ Some c) (aware : IsAware maker v) (has : HasAll (known_by lock v)) where
+module _ {S E T : Type 0} (stands : S → List E) (maker : E → ℕ) (setting : S → T) (key : Opened S) (lock : TableId) (s : State (std.Option S) (View E T)) (k : KeepsLockRule stands maker setting key s) (id : ℕ) (v : View E T) (c : T)
+    (here : get_elem? s.views id ≡ some v) (idle : v.phase ≡ Idle) (is_set : v.setting ≡ Some c) (aware : IsAware maker v) (has : HasAll (seat_view lock v)) where
   -- the seat fits the history
   was : IsFit maker (setting key.state) key.seats k.log s.views id v
   was = fits_here v c is_set (k.fits id v here)
@@ -52,16 +52,16 @@ module _ {S E T : Type 0} (stands : S → List E) (maker : E → ℕ) (setting :
   each n lt = has n (omega (arith, lt, was.seats_are))
 
   -- the place of a joined seat is spent
-  spent_there : (n : ℕ) → Contains (map (λ j. j.number) v.joined) n → get_elem? s.views n ≡ some spent
-  spent_there n at = All-contains (λ m. get_elem? s.views m ≡ some spent) (map (λ j. j.number) v.joined) n
-      (All-map (λ m. get_elem? s.views m ≡ some spent) (λ (j : Left E). j.number) v.joined (λ i d lt. (was.joined i d lt).0)) at
+  spent_there : (n : ℕ) → Contains (map (λ j. j.number) v.joined) n → get_elem? s.views n ≡ some spent_view
+  spent_there n at = All-contains (λ m. get_elem? s.views m ≡ some spent_view) (map (λ j. j.number) v.joined) n
+      (All-map (λ m. get_elem? s.views m ≡ some spent_view) (λ (j : Left E). j.number) v.joined (λ i d lt. (was.joined i d lt).0)) at
 
   -- so none has the turn
   quiet : (i : ℕ) (u : View E T) → get_elem? s.views i ≡ some u → has_turn u.phase ≡ true → ⊥
   quiet i u at h =
       ⊎_elim
       (λ (e : i ≡ v.number). let no : false ≡ true = sym (ap has_turn idle) ∙ (ap (λ z. has_turn z.phase) (one_there s.views id v u here (ap (get_elem? s.views) (sym (e ∙ was.number)) ∙ at)) ∙ h) in absurd (cc))
-      (λ (e : Contains (map (λ j. j.number) v.joined) i). let no : false ≡ true = ap (λ z. has_turn z.phase) (one_there s.views i spent u (spent_there i e) at) ∙ h in absurd (cc))
+      (λ (e : Contains (map (λ j. j.number) v.joined) i). let no : false ≡ true = ap (λ z. has_turn z.phase) (one_there s.views i spent_view u (spent_there i e) at) ∙ h in absurd (cc))
       (each i (omega (arith, within s.views i u at, k.few)))
 
   -- the seat has seen all that each seat made
@@ -79,7 +79,7 @@ module _ {S E T : Type 0} (stands : S → List E) (maker : E → ℕ) (setting :
   all_seen = whole maker key.seats v.seen k.log was.seen k.makers same
 
   -- and accounts for it
-  whole_log : IsWhole maker (known_by lock v) k.log
+  whole_log : IsWholeHistory maker (seat_view lock v) k.log
   whole_log =
       record {
         seen = all_seen;
@@ -89,17 +89,17 @@ module _ {S E T : Type 0} (stands : S → List E) (maker : E → ℕ) (setting :
       }
 
   -- the state is at home, and is what the seat knows
-  pub closes : (x : S) × (s.homes ≡ some (Some x) ∷ []) × IsWhole maker (known_by lock v) (stands x) × (v.setting ≡ Some (setting x))
+  pub closes : (x : S) × (s.homes ≡ some (Some x) ∷ []) × IsWholeHistory maker (seat_view lock v) (stands x) × (v.setting ≡ Some (setting x))
   closes =
       ⊎_elim
-      (λ h. (h.0, h.1, subst (IsWhole maker (known_by lock v)) (sym h.2) whole_log, was.is_set ∙ ap (λ z. Some z) (sym h.3)))
+      (λ h. (h.0, h.1, subst (IsWholeHistory maker (seat_view lock v)) (sym h.2) whole_log, was.is_set ∙ ap (λ z. Some z) (sym h.3)))
       (λ h. absurd (quiet h.0 h.1 h.2 h.3))
       k.home
 
 -- what comes out of the slot at the end is the state
 pub found_is : {S E T : Type 0} (stands : S → List E) (maker : E → ℕ) (setting : S → T) (key : Opened S) (lock : TableId) (id : ℕ) (v : View E T) (words : List ℕ) (slots : List (std.Option S)) (found : std.Option S)
-    → v.phase ≡ Idle → IsSome v.setting → IsAware maker v → HasAll (known_by lock v) → Final (Seen (IsKept stands maker setting key) id v) words slots → get_elem? slots 0 ≡ some found
-    → (x : S) × (found ≡ Some x) × IsWhole maker (known_by lock v) (stands x) × (v.setting ≡ Some (setting x))
+    → v.phase ≡ Idle → IsSome v.setting → IsAware maker v → HasAll (seat_view lock v) → Final (Seen (KeepsLockRule stands maker setting key) id v) words slots → get_elem? slots 0 ≡ some found
+    → (x : S) × (found ≡ Some x) × IsWholeHistory maker (seat_view lock v) (stands x) × (v.setting ≡ Some (setting x))
 found_is stands maker setting key lock id v words slots found idle is_set aware has final at =
     let c = some_setting v.setting is_set in
     let end = closes stands maker setting key lock final.0 final.1.0 id v c.0 final.1.1 idle c.1 aware has in

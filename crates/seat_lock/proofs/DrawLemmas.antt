@@ -10,11 +10,11 @@ use Rattle.atomic_table.specs.Table.{State, Act, keeps, Valid, carried_after, ho
 use Rattle.seat_lock.specs.declared.opened.Opened.{Opened}
 use Rattle.seat_lock.specs.declared.view.View.{View}
 use Rattle.seat_lock.specs.declared.view.Phase.TheVariants.{Empty, Idle, Waits}
-use Rattle.seat_lock.specs.Rule.{IsQueued, IsFit, IsKept, ticket_of, has_turn}
+use Rattle.seat_lock.specs.Rule.{IsQueued, IsFit, KeepsLockRule, ticket_of, has_turn}
 use Rattle.seat_lock.specs.Steps.{Draws, in_phase}
 use Rattle.seat_lock.proofs.ViewLemmas.{changed, one_ticket, prefix_self, apart_after, tickets_after, fits_here, fits_after, left_after, home_after, queued_else}
 
-module _ {S E T : Type 0} (stands : S → List E) (maker : E → ℕ) (setting : S → T) (key : Opened S) (s : State (std.Option S) (View E T)) (k : IsKept stands maker setting key s) (id : ℕ) (v : View E T) (c : T) (idle : v.phase ≡ Idle) (is_set : v.setting ≡ Some c) (here : get_elem? s.views id ≡ some v) where
+module _ {S E T : Type 0} (stands : S → List E) (maker : E → ℕ) (setting : S → T) (key : Opened S) (s : State (std.Option S) (View E T)) (k : KeepsLockRule stands maker setting key s) (id : ℕ) (v : View E T) (c : T) (idle : v.phase ≡ Idle) (is_set : v.setting ≡ Some c) (here : get_elem? s.views id ≡ some v) where
   -- the seat, with the ticket at the end of the row
   abbrev next : View E T
   next = in_phase v (Waits k.drawn)
@@ -32,7 +32,7 @@ module _ {S E T : Type 0} (stands : S → List E) (maker : E → ℕ) (setting :
   queue = record { out = λ t q. let d : k.drawn ≡ t = one_ticket k.drawn t q in (omega (arith, k.count, d), omega (arith, d)); turn = λ h. absurd (cc); makes = λ n e. absurd (cc); first = λ e. absurd (cc) }
 
   -- the rule holds after the draw
-  drew : IsKept stands maker setting key (record { words = (k.drawn + 1) % 2 ^ 64 ∷ k.serving % 2 ^ 64 ∷ []; homes = s.homes; views = set s.views id next })
+  drew : KeepsLockRule stands maker setting key (record { words = (k.drawn + 1) % 2 ^ 64 ∷ k.serving % 2 ^ 64 ∷ []; homes = s.homes; views = set s.views id next })
   drew =
       record {
         drawn = k.drawn + 1;
@@ -53,7 +53,7 @@ module _ {S E T : Type 0} (stands : S → List E) (maker : E → ℕ) (setting :
   -- what the step owes, where the words are these
   abbrev Outcome : List ℕ → Type 0
   Outcome ws = (w : View E T) × (a : Act (std.Option S)) × Valid s.homes [] a
-      × IsKept stands maker setting key (record { words = set ws 0 ((slice_index ws 0 + 1) % 2 ^ 64); homes = homes_after s.homes [] a; views = set s.views id w })
+      × KeepsLockRule stands maker setting key (record { words = set ws 0 ((slice_index ws 0 + 1) % 2 ^ 64); homes = homes_after s.homes [] a; views = set s.views id w })
       × Draws {S = S} (v, []) (slice_index ws 0) (w, carried_after [] a)
 
   draws : Outcome (k.drawn % 2 ^ 64 ∷ k.serving % 2 ^ 64 ∷ [])

@@ -13,7 +13,7 @@ use Rattle.seat_lock.specs.declared.opened.Opened.{Opened}
 use Rattle.seat_lock.specs.declared.view.View.{View}
 use Rattle.seat_lock.specs.declared.view.Phase.TheVariants.{Empty, Makes, Idle}
 use Rattle.seat_lock.specs.History.{made_by, IsAccounted}
-use Rattle.seat_lock.specs.Rule.{IsQueued, IsFit, IsKept, ticket_of, has_turn, spent}
+use Rattle.seat_lock.specs.Rule.{IsQueued, IsFit, KeepsLockRule, ticket_of, has_turn, spent_view}
 use Rattle.seat_lock.specs.Steps.{CatchesUp, both, joined_by}
 use Rattle.seat_lock.proofs.ViewLemmas.{changed, within, prefix_self, apart_after, tickets_after, fits_here, fits_after, left_after, home_after, queued_else, IsLeft}
 
@@ -34,8 +34,8 @@ module _ {S E T : Type 0} (stands : S → List E) (maker : E → ℕ) (setting :
   changed_to s id w = record { words = s.words; homes = s.homes; views = set s.views id w }
 
   -- a seat without a ticket gets another view without a ticket
-  pub rests : (s : St) (k : IsKept stands maker setting key s) (id : ℕ) (v w : View E T) (c : T) → v.phase ≡ Idle → w.phase ≡ Idle → v.setting ≡ Some c → get_elem? s.views id ≡ some v
-      → (w ≡ spent) ⊎ IsFit maker (setting key.state) key.seats k.log (set s.views id w) id w → IsKept stands maker setting key (changed_to s id w)
+  pub rests : (s : St) (k : KeepsLockRule stands maker setting key s) (id : ℕ) (v w : View E T) (c : T) → v.phase ≡ Idle → w.phase ≡ Idle → v.setting ≡ Some c → get_elem? s.views id ≡ some v
+      → (w ≡ spent_view) ⊎ IsFit maker (setting key.state) key.seats k.log (set s.views id w) id w → KeepsLockRule stands maker setting key (changed_to s id w)
   rests s k id v w c idle idle_then is_set here fit =
       record {
         drawn = k.drawn;
@@ -68,7 +68,7 @@ module _ {S E T : Type 0} (stands : S → List E) (maker : E → ℕ) (setting :
             first = λ e. absurd (let no : Idle ≡ Empty = sym idle_then ∙ e in cc);
           }
 
-  module _ (s : St) (k : IsKept stands maker setting key s) (id : ℕ) (v : View E T) (c : T) (idle : v.phase ≡ Idle) (is_set : v.setting ≡ Some c) (here : get_elem? s.views id ≡ some v) where
+  module _ (s : St) (k : KeepsLockRule stands maker setting key s) (id : ℕ) (v : View E T) (c : T) (idle : v.phase ≡ Idle) (is_set : v.setting ≡ Some c) (here : get_elem? s.views id ≡ some v) where
     was : IsFit maker (setting key.state) key.seats k.log s.views id v
     was = fits_here v c is_set (k.fits id v here)
 
@@ -82,7 +82,7 @@ module _ {S E T : Type 0} (stands : S → List E) (maker : E → ℕ) (setting :
     -- what the step owes, where the words are these
     abbrev Outcome : List ℕ → Type 0
     Outcome ws = (w : View E T) × (a : Act (std.Option S)) × Valid s.homes [] a
-        × IsKept stands maker setting key (record { words = ws; homes = homes_after s.homes [] a; views = set s.views id w })
+        × KeepsLockRule stands maker setting key (record { words = ws; homes = homes_after s.homes [] a; views = set s.views id w })
         × CatchesUp {S = S} maker (v, []) (w, carried_after [] a)
 
     -- whatever the table is, learning the history keeps the rule
@@ -96,7 +96,7 @@ module _ {S E T : Type 0} (stands : S → List E) (maker : E → ℕ) (setting :
           record {
             is = refl;
             further = was.seen;
-            aware = record { own = was.own ∙ ap (λ n. made_by maker n k.log) (sym was.number); joined = All-weaker (λ j. (get_elem? s.views j.number ≡ some spent) × IsAccounted maker k.log j) (IsAccounted maker k.log) (λ j l. l.1) v.joined was.joined };
+            aware = record { own = was.own ∙ ap (λ n. made_by maker n k.log) (sym was.number); joined = All-weaker (λ j. (get_elem? s.views j.number ≡ some spent_view) × IsAccounted maker k.log j) (IsAccounted maker k.log) (λ j l. l.1) v.joined was.joined };
           },
         )
       where
@@ -110,29 +110,29 @@ module _ {S E T : Type 0} (stands : S → List E) (maker : E → ℕ) (setting :
 
       -- the table once the other seat is spent
       abbrev first : St
-      first = changed_to s other spent
+      first = changed_to s other spent_view
 
-      first_kept : IsKept stands maker setting key first
-      first_kept = rests s k other w spent d idle_too refl is_set_too there (inl refl)
+      first_kept : KeepsLockRule stands maker setting key first
+      first_kept = rests s k other w spent_view d idle_too refl is_set_too there (inl refl)
 
       -- this seat is as before
-      still : get_elem? (set s.views other spent) id ≡ some v
-      still = set_else s.views other id spent (λ e. ne (sym e)) ∙ here
+      still : get_elem? (set s.views other spent_view) id ≡ some v
+      still = set_else s.views other id spent_view (λ e. ne (sym e)) ∙ here
 
       -- the views once this seat has what the other leaves
       abbrev last : List (View E T)
-      last = set (set s.views other spent) id (both v w)
+      last = set (set s.views other spent_view) id (both v w)
 
       -- what earlier joined seats left stays
       lefts : (js : List (Left E)) → All (IsLeft maker (setting key.state) key.seats k.log s.views) js → All (IsLeft maker (setting key.state) key.seats k.log last) js
       lefts js all =
-          left_after maker (setting key.state) key.seats (set s.views other spent) id v (both v w) c still is_set k.log k.log (prefix_self k.log) (λ n no. refl) js
-          (left_after maker (setting key.state) key.seats s.views other w spent d there is_set_too k.log k.log (prefix_self k.log) (λ n no. refl) js all)
+          left_after maker (setting key.state) key.seats (set s.views other spent_view) id v (both v w) c still is_set k.log k.log (prefix_self k.log) (λ n no. refl) js
+          (left_after maker (setting key.state) key.seats s.views other w spent_view d there is_set_too k.log k.log (prefix_self k.log) (λ n no. refl) js all)
 
       -- what the other leaves is in order
       its : IsLeft maker (setting key.state) key.seats k.log last (joined_by w)
       its = (
-        subst (λ n. get_elem? last n ≡ some spent) (sym was_too.number) (set_else (set s.views other spent) id other (both v w) ne ∙ set_here s.views other spent (within s.views other w there)),
+        subst (λ n. get_elem? last n ≡ some spent_view) (sym was_too.number) (set_else (set s.views other spent_view) id other (both v w) ne ∙ set_here s.views other spent_view (within s.views other w there)),
         record { own = was_too.own ∙ ap (λ n. made_by maker n k.log) (sym was_too.number); seen = was_too.seen },
       )
 
@@ -148,6 +148,6 @@ module _ {S E T : Type 0} (stands : S → List E) (maker : E → ℕ) (setting :
           }
 
       -- whatever the table is, the join keeps the rule
-      pub merged : IsKept stands maker setting key (record { words = s.words; homes = s.homes; views = set (set s.views id (both v w)) other spent })
+      pub merged : KeepsLockRule stands maker setting key (record { words = s.words; homes = s.homes; views = set (set s.views id (both v w)) other spent_view })
       unfolding first_kept rests
-      merged = subst (λ vs. IsKept stands maker setting key (record { words = s.words; homes = s.homes; views = vs })) (sym (set_swap s.views id other (both v w) spent (λ e. ne (sym e)))) (rests first first_kept id v (both v w) c idle idle is_set still (inr fit_both))
+      merged = subst (λ vs. KeepsLockRule stands maker setting key (record { words = s.words; homes = s.homes; views = vs })) (sym (set_swap s.views id other (both v w) spent_view (λ e. ne (sym e)))) (rests first first_kept id v (both v w) c idle idle is_set still (inr fit_both))

@@ -13,8 +13,8 @@ use Rattle.atomic_table.specs.Table.{State, Act, gives, Valid, carried_after, ho
 use Rattle.seat_lock.specs.declared.opened.Opened.{Opened}
 use Rattle.seat_lock.specs.declared.view.View.{View}
 use Rattle.seat_lock.specs.declared.view.Phase.TheVariants.{Empty, Idle}
-use Rattle.seat_lock.specs.History.{made_by, Adds, IsAccounted}
-use Rattle.seat_lock.specs.Rule.{IsQueued, IsFit, IsKept, ticket_of, has_turn, spent}
+use Rattle.seat_lock.specs.History.{made_by, AddsAtMostOne, IsAccounted}
+use Rattle.seat_lock.specs.Rule.{IsQueued, IsFit, KeepsLockRule, ticket_of, has_turn, spent_view}
 use Rattle.seat_lock.specs.Steps.{Leaves, IsAware}
 use Rattle.seat_lock.proofs.ViewLemmas.{changed, within, apart_after, tickets_after, fits_here, fits_after, left_after}
 use Rattle.seat_lock.proofs.EntryLemmas.{else_after, mine_after, makers_after, behind}
@@ -35,8 +35,8 @@ pub same_some : {A : Type 0} (a b : A) → ◌≡◌ {A = std.Option A} (Some a)
 unfolding of_some
 same_some a b e = ap (λ o. of_some o a) e
 
-module _ {S E T : Type 0} (stands : S → List E) (maker : E → ℕ) (setting : S → T) (key : Opened S) (s : State (std.Option S) (View E T)) (k : IsKept stands maker setting key s) (id : ℕ) (v : View E T) (x : S)
-    (has : has_turn v.phase ≡ true) (is_set : v.setting ≡ Some (setting x)) (adds : Adds maker v.number v.seen (stands x)) (here : get_elem? s.views id ≡ some v) where
+module _ {S E T : Type 0} (stands : S → List E) (maker : E → ℕ) (setting : S → T) (key : Opened S) (s : State (std.Option S) (View E T)) (k : KeepsLockRule stands maker setting key s) (id : ℕ) (v : View E T) (x : S)
+    (has : has_turn v.phase ≡ true) (is_set : v.setting ≡ Some (setting x)) (adds : AddsAtMostOne maker v.number v.seen (stands x)) (here : get_elem? s.views id ≡ some v) where
   was : IsFit maker (setting key.state) key.seats k.log s.views id v
   was = fits_here v (setting x) is_set (k.fits id v here)
 
@@ -100,7 +100,7 @@ module _ {S E T : Type 0} (stands : S → List E) (maker : E → ℕ) (setting :
   silent j u ne at false h = refl
 
   -- the rule holds after the step
-  left : IsKept stands maker setting key (record { words = k.drawn % 2 ^ 64 ∷ (k.serving + 1) % 2 ^ 64 ∷ []; homes = some (Some x) ∷ []; views = after })
+  left : KeepsLockRule stands maker setting key (record { words = k.drawn % 2 ^ 64 ∷ (k.serving + 1) % 2 ^ 64 ∷ []; homes = some (Some x) ∷ []; views = after })
   left =
       record {
         drawn = k.drawn;
@@ -123,13 +123,13 @@ module _ {S E T : Type 0} (stands : S → List E) (maker : E → ℕ) (setting :
   aware =
       record {
         own = own ∙ ap (λ n. made_by maker n (stands x)) (sym was.number);
-        joined = All-weaker (λ j. (get_elem? after j.number ≡ some spent) × IsAccounted maker (stands x) j) (IsAccounted maker (stands x)) (λ j l. l.1) v.joined fit.joined;
+        joined = All-weaker (λ j. (get_elem? after j.number ≡ some spent_view) × IsAccounted maker (stands x) j) (IsAccounted maker (stands x)) (λ j l. l.1) v.joined fit.joined;
       }
 
   -- what the step owes, where the words are these
   abbrev Outcome : List ℕ → Type 0
   Outcome ws = (w : View E T) × (a : Act (std.Option S)) × Valid s.homes ((0, Some x) ∷ []) a
-      × IsKept stands maker setting key (record { words = set ws 1 ((slice_index ws 1 + 1) % 2 ^ 64); homes = homes_after s.homes ((0, Some x) ∷ []) a; views = set s.views id w })
+      × KeepsLockRule stands maker setting key (record { words = set ws 1 ((slice_index ws 1 + 1) % 2 ^ 64); homes = homes_after s.homes ((0, Some x) ∷ []) a; views = set s.views id w })
       × Leaves stands maker (v, (0, Some x) ∷ []) (w, carried_after ((0, Some x) ∷ []) a)
 
   leaves : length s.homes ≡ 1 → Outcome (k.drawn % 2 ^ 64 ∷ k.serving % 2 ^ 64 ∷ [])

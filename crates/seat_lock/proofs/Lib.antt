@@ -8,5 +8,5 @@ mod MakingLemmas
 mod TurnLemmas
 mod CloseLemmas
 mod NewLemmas
-mod RowLemmas
-pub mod AddsLemmas
+mod SeatRowLemmas
+pub mod Theorems

@@ -12,11 +12,11 @@ use Rattle.atomic_table.proofs.Lists.{one_turn, set_again, set_here}
 use Rattle.seat_lock.specs.declared.opened.Opened.{Opened}
 use Rattle.seat_lock.specs.declared.view.View.{View}
 use Rattle.seat_lock.specs.declared.view.Phase.TheVariants.{Empty, Makes, Waits, Holds}
-use Rattle.seat_lock.specs.Rule.{IsQueued, IsFit, IsKept, ticket_of, has_turn}
-use Rattle.seat_lock.specs.Steps.{Looks, is_served, served}
+use Rattle.seat_lock.specs.Rule.{IsQueued, IsFit, KeepsLockRule, ticket_of, has_turn}
+use Rattle.seat_lock.specs.Steps.{LooksForTurn, is_served, served}
 use Rattle.seat_lock.proofs.ViewLemmas.{changed, within, one_there, one_ticket, prefix_self, apart_after, alone_with, tickets_after, tickets_few, fits_here, fits_after, left_after, queued_else}
 
-module _ {S E T : Type 0} (stands : S → List E) (maker : E → ℕ) (setting : S → T) (key : Opened S) (s : State (std.Option S) (View E T)) (k : IsKept stands maker setting key s) (id t : ℕ) (v : View E T) (c : T) (waits : v.phase ≡ Waits t) (is_set : v.setting ≡ Some c) (here : get_elem? s.views id ≡ some v) where
+module _ {S E T : Type 0} (stands : S → List E) (maker : E → ℕ) (setting : S → T) (key : Opened S) (s : State (std.Option S) (View E T)) (k : KeepsLockRule stands maker setting key s) (id t : ℕ) (v : View E T) (c : T) (waits : v.phase ≡ Waits t) (is_set : v.setting ≡ Some c) (here : get_elem? s.views id ≡ some v) where
   mine : ticket_of v.phase ≡ t ∷ []
   mine = ap ticket_of waits
 
@@ -53,7 +53,7 @@ module _ {S E T : Type 0} (stands : S → List E) (maker : E → ℕ) (setting :
     queue = record { out = λ n q. let d : k.serving ≡ n = one_ticket k.serving n (sym its ∙ q) in (omega (arith, d), omega (arith, d, turn, out.1)); turn = λ h. (its, stands_for); makes = λ n e. absurd (let no : Holds t ≡ Makes n = sym has ∙ e in cc); first = λ e. absurd (let no : Holds t ≡ Empty = sym has ∙ e in cc) }
 
     -- the rule holds with the state out
-    took : IsKept stands maker setting key (record { words = k.drawn % 2 ^ 64 ∷ k.serving % 2 ^ 64 ∷ []; homes = none ∷ []; views = after })
+    took : KeepsLockRule stands maker setting key (record { words = k.drawn % 2 ^ 64 ∷ k.serving % 2 ^ 64 ∷ []; homes = none ∷ []; views = after })
     took =
         record {
           drawn = k.drawn;
@@ -74,8 +74,8 @@ module _ {S E T : Type 0} (stands : S → List E) (maker : E → ℕ) (setting :
   -- what the step owes, where the words and the slot are these
   abbrev Outcome : List ℕ → List (Option (std.Option S)) → Type 0
   Outcome ws hs = (w : View E T) × (a : Act (std.Option S)) × Valid hs [] a
-      × IsKept stands maker setting key (record { words = set ws 1 (slice_index ws 1); homes = homes_after hs [] a; views = set s.views id w })
-      × Looks stands setting (v, []) (slice_index ws 1) (w, carried_after [] a)
+      × KeepsLockRule stands maker setting key (record { words = set ws 1 (slice_index ws 1); homes = homes_after hs [] a; views = set s.views id w })
+      × LooksForTurn stands setting (v, []) (slice_index ws 1) (w, carried_after [] a)
 
   -- the words by the rule
   abbrev Words : List ℕ
@@ -83,7 +83,7 @@ module _ {S E T : Type 0} (stands : S → List E) (maker : E → ℕ) (setting :
 
   -- before its turn the seat changes nothing
   same : is_served v.phase (k.serving % 2 ^ 64) ≡ false → Outcome Words s.homes
-  same wrong = (v, keeps, tt, subst (λ (p : List ℕ × List (View E T)). IsKept stands maker setting key (record { words = p.0; homes = s.homes; views = p.1 })) (λ i. (k.words i, sym (set_again s.views id v here) i)) k, rw wrong refl)
+  same wrong = (v, keeps, tt, subst (λ (p : List ℕ × List (View E T)). KeepsLockRule stands maker setting key (record { words = p.0; homes = s.homes; views = p.1 })) (λ i. (k.words i, sym (set_again s.views id v here) i)) k, rw wrong refl)
 
   -- at its turn the seat finds the state at home
   my_turn : is_served v.phase (k.serving % 2 ^ 64) ≡ true → k.serving ≡ t → Outcome Words s.homes

@@ -13,7 +13,7 @@ use Rattle.seat_lock.specs.declared.view.View.{View}
 use Rattle.seat_lock.specs.declared.view.Phase.{Phase}
 use Rattle.seat_lock.specs.declared.view.Phase.TheVariants.{Empty, Makes, Idle}
 use Rattle.seat_lock.specs.History.{made_by, IsAccounted}
-use Rattle.seat_lock.specs.Rule.{IsQueued, IsFit, IsKept, AreApart, ticket_of, has_turn, tickets, spent, first_view}
+use Rattle.seat_lock.specs.Rule.{IsQueued, IsFit, KeepsLockRule, AreApart, ticket_of, has_turn, tickets, spent_view, first_view}
 use Rattle.seat_lock.specs.Steps.{in_phase}
 use Rattle.seat_lock.specs.Making.{Founds, founder, next_seat, made, more}
 use Rattle.seat_lock.proofs.ViewLemmas.{changed, within, one_ticket, prefix_self, apart_after, alone_with, tickets_after, fits_here, fits_after, left_after, queued_else, IsLeft}
@@ -43,7 +43,7 @@ apart_grown {E} {T} vs w idle apart i j t u x ei ej tu tx = apart i j t u x (bef
 
 module _ {S E T : Type 0} (stands : S → List E) (maker : E → ℕ) (setting : S → T) (key : Opened S) where
   -- the rule holds at the start
-  pub opened : 0 < key.seats → key.seats ≤ 64 → IsKept stands maker setting key (opening (1 ∷ 0 ∷ []) (None ∷ []) (first_view (setting key.state) key.seats))
+  pub opened : 0 < key.seats → key.seats ≤ 64 → KeepsLockRule stands maker setting key (opening (1 ∷ 0 ∷ []) (None ∷ []) (first_view (setting key.state) key.seats))
   opened some_seats few =
       record {
         drawn = 1;
@@ -72,9 +72,9 @@ module _ {S E T : Type 0} (stands : S → List E) (maker : E → ℕ) (setting :
       queue = record { out = λ t q. let d : 0 ≡ t = one_ticket 0 t q in (omega arith, omega (arith, d)); turn = λ h. (refl, refl); makes = λ n e. absurd (cc); first = λ e. refl }
 
       fit : IsFit maker (setting key.state) key.seats [] (first_view (setting key.state) key.seats ∷ []) 0 (first_view (setting key.state) key.seats)
-      fit = record { number = refl; seats_are = refl; is_set = refl; own = refl; seen = prefix_self []; joined = All-nil (λ j. (get_elem? (first_view (setting key.state) key.seats ∷ []) j.number ≡ some spent) × IsAccounted maker [] j) }
+      fit = record { number = refl; seats_are = refl; is_set = refl; own = refl; seen = prefix_self []; joined = All-nil (λ j. (get_elem? (first_view (setting key.state) key.seats ∷ []) j.number ≡ some spent_view) × IsAccounted maker [] j) }
 
-  module _ (s : State (std.Option S) (View E T)) (k : IsKept stands maker setting key s) (id : ℕ) (v : View E T) (c : T) (is_set : v.setting ≡ Some c) (here : get_elem? s.views id ≡ some v) where
+  module _ (s : State (std.Option S) (View E T)) (k : KeepsLockRule stands maker setting key s) (id : ℕ) (v : View E T) (c : T) (is_set : v.setting ≡ Some c) (here : get_elem? s.views id ≡ some v) where
     was : IsFit maker (setting key.state) key.seats k.log s.views id v
     was = fits_here v c is_set (k.fits id v here)
 
@@ -112,7 +112,7 @@ module _ {S E T : Type 0} (stands : S → List E) (maker : E → ℕ) (setting :
           made_is a b e = ap made e
 
       -- the rule holds with the slot out
-      founded : IsKept stands maker setting key (record { words = s.words; homes = none ∷ []; views = begun_views })
+      founded : KeepsLockRule stands maker setting key (record { words = s.words; homes = none ∷ []; views = begun_views })
       founded =
           record {
             drawn = k.drawn;
@@ -133,7 +133,7 @@ module _ {S E T : Type 0} (stands : S → List E) (maker : E → ℕ) (setting :
       -- what the step owes, where the words and the slot are these
       abbrev Outcome : List ℕ → List (Option (std.Option S)) → Type 0
       Outcome ws hs = (w : View E T) × (a : Act (std.Option S)) × Valid hs [] a
-          × IsKept stands maker setting key (record { words = ws; homes = homes_after hs [] a; views = set s.views id w })
+          × KeepsLockRule stands maker setting key (record { words = ws; homes = homes_after hs [] a; views = set s.views id w })
           × Founds {S = S} (v, []) (w, carried_after [] a)
 
       -- whatever the table is, taking the empty slot keeps the rule
@@ -210,7 +210,7 @@ module _ {S E T : Type 0} (stands : S → List E) (maker : E → ℕ) (setting :
             is_set = f.is_set;
             own = f.own;
             seen = f.seen;
-            joined = All-weaker (IsLeft maker (setting key.state) key.seats k.log firsts) (IsLeft maker (setting key.state) key.seats k.log all) (λ l i. (at_longer firsts (right ∷ []) l.number spent i.0, i.1)) u.joined f.joined;
+            joined = All-weaker (IsLeft maker (setting key.state) key.seats k.log firsts) (IsLeft maker (setting key.state) key.seats k.log all) (λ l i. (at_longer firsts (right ∷ []) l.number spent_view i.0, i.1)) u.joined f.joined;
           }
 
       -- the new seat fits: it has made nothing, and there is nothing
@@ -226,7 +226,7 @@ module _ {S E T : Type 0} (stands : S → List E) (maker : E → ℕ) (setting :
           }
 
       -- whatever the table is, making a seat keeps the rule
-      pub split : IsKept stands maker setting key (record { words = s.words; homes = s.homes; views = all })
+      pub split : KeepsLockRule stands maker setting key (record { words = s.words; homes = s.homes; views = all })
       split =
           record {
             drawn = k.drawn;
@@ -239,7 +239,7 @@ module _ {S E T : Type 0} (stands : S → List E) (maker : E → ℕ) (setting :
             log = k.log;
             makers = k.makers;
             queued = grown (λ i u. IsQueued k.serving k.drawn k.log (length all) u) firsts right queue_right (changed (λ i u. IsQueued k.serving k.drawn k.log (length all) u) s.views id left queue_left queue_other);
-            fits = grown (λ i u. (u ≡ spent) ⊎ IsFit maker (setting key.state) key.seats k.log all i u) firsts right (inr fit_right)
+            fits = grown (λ i u. (u ≡ spent_view) ⊎ IsFit maker (setting key.state) key.seats k.log all i u) firsts right (inr fit_right)
                 (λ j u at. ⊎_elim (λ e. inl e) (λ f. inr (longer j u f)) (fits_after maker (setting key.state) key.seats s.views id v left c here is_set k.log k.log (prefix_self k.log) (λ m ne. refl) k.fits (inr (fit_in (more v.phase))) j u at));
             home = inr (id, left, at_longer firsts (right ∷ []) id left (set_here s.views id left (within s.views id v here)), ap has_turn left_phase);
             blank = grown (λ i u. u.phase ≡ Empty → s.homes ≡ some None ∷ []) firsts right (λ e. absurd (cc)) (changed (λ i u. u.phase ≡ Empty → s.homes ≡ some None ∷ []) s.views id left (λ e. absurd (let no : Makes (n + 1) ≡ Empty = sym left_phase ∙ e in cc)) (λ j u ne at. k.blank j u at));

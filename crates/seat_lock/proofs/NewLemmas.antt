@@ -7,8 +7,8 @@ use Rattle.atomic_table.specs.Table.{Me}
 use Rattle.atomic_table.specs.Seated.{TableId}
 use Rattle.seat_lock.specs.declared.view.View.{View}
 use Rattle.seat_lock.specs.declared.view.Phase.TheVariants.{Makes}
-use Rattle.seat_lock.specs.History.{Known, newcomer, IsNewLock}
-use Rattle.seat_lock.specs.Rule.{first_view, known_by}
+use Rattle.seat_lock.specs.History.{SeatView, newcomer, IsNewLock}
+use Rattle.seat_lock.specs.Rule.{first_view, seat_view}
 use Rattle.seat_lock.specs.Steps.{in_phase, after_leave}
 use Rattle.seat_lock.specs.Making.{Founds, others}
 
@@ -23,25 +23,25 @@ module _ {S E T : Type 0} (stands : S → List E) (lock : TableId) (c : T) (seat
   others_length (suc m) = let r = others_length m in omega (arith, r, length-append (others lock begun m) (newcomer lock c seats (m + 1) ∷ []))
 
   -- each of them is a newcomer with its number
-  pub others_at : (m k : ℕ) (d : Known E T) → k < m → get_or (others lock begun m) k d ≡ newcomer lock c seats (k + 1)
+  pub others_at : (m k : ℕ) (d : SeatView E T) → k < m → get_or (others lock begun m) k d ≡ newcomer lock c seats (k + 1)
   others_at zero k d lt = absurd (omega (arith, lt))
   others_at (suc m) k d lt =
       dite (ℕ_discrete k m)
       (λ e. get_or_push (others lock begun m) (newcomer lock c seats (m + 1)) d k (others_length m ∙ sym e) ∙ ap (λ n. newcomer lock c seats (n + 1)) (sym e))
       (λ ne. get_or_append_left (others lock begun m) (newcomer lock c seats (m + 1) ∷ []) d k (let r = others_length m in omega (arith, ne, lt, r)) ∙ others_at m k d (omega (arith, ne, lt)))
 
-  module _ (some_seats : 0 < seats) (state : S) (empty : stands state ≡ []) (first founded added given : Me (Option S) (View E T)) (items : List (Known E T))
+  module _ (some_seats : 0 < seats) (state : S) (empty : stands state ≡ []) (first founded added given : Me (Option S) (View E T)) (items : List (SeatView E T))
       (firsts : first ≡ (first_view c seats, [])) (founds : Founds first founded) (adds : added ≡ (in_phase founded.0 (Makes seats), founded.1)) (gives : given ≡ (after_leave stands added.0 ((0, Some state) ∷ []), []))
-      (are : items ≡ known_by lock given.0 ∷ others lock founded.0 (seats - 1)) where
+      (are : items ≡ seat_view lock given.0 ∷ others lock founded.0 (seats - 1)) where
     is_begun : founded.0 ≡ begun
     is_begun = ap (λ m. m.0) founds ∙ ap (λ m. in_phase m.0 (Makes 1)) firsts
 
     -- the first seat is one too, once the state is there
-    is_first : known_by lock given.0 ≡ newcomer lock c seats 0
+    is_first : seat_view lock given.0 ≡ newcomer lock c seats 0
     is_first =
-        ap (λ m. known_by lock m.0) gives
-        ∙ (ap (λ m. known_by lock (after_leave stands m.0 ((0, Some state) ∷ []))) adds
-        ∙ (ap (λ v. known_by lock (after_leave stands (in_phase v (Makes seats)) ((0, Some state) ∷ []))) is_begun
+        ap (λ m. seat_view lock m.0) gives
+        ∙ (ap (λ m. seat_view lock (after_leave stands m.0 ((0, Some state) ∷ []))) adds
+        ∙ (ap (λ v. seat_view lock (after_leave stands (in_phase v (Makes seats)) ((0, Some state) ∷ []))) is_begun
         ∙ ap (λ l. record { lock = lock; number = 0; seats = seats; setting = Some c; own = drop 0 l; seen = l; joined = [] }) empty))
 
     items_are : items ≡ newcomer lock c seats 0 ∷ others lock begun (seats - 1)
@@ -56,6 +56,6 @@ module _ {S E T : Type 0} (stands : S → List E) (lock : TableId) (c : T) (seat
           each = each;
         })
       where
-        each : (k : ℕ) (d : Known E T) → k < seats → get_or (newcomer lock c seats 0 ∷ others lock begun (seats - 1)) k d ≡ newcomer lock c seats k
+        each : (k : ℕ) (d : SeatView E T) → k < seats → get_or (newcomer lock c seats 0 ∷ others lock begun (seats - 1)) k d ≡ newcomer lock c seats k
         each zero d lt = refl
         each (suc k) d lt = others_at (seats - 1) k d (omega (arith, lt)) ∙ ap (newcomer lock c seats) (omega arith)

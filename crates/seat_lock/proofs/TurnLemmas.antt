@@ -8,9 +8,9 @@ use Rattle.atomic_table.specs.Table.{Me}
 use Rattle.atomic_table.specs.Seated.{TableId}
 use Rattle.seat_lock.specs.declared.view.View.{View}
 use Rattle.seat_lock.specs.declared.view.Phase.TheVariants.{Idle, Waits}
-use Rattle.seat_lock.specs.History.{Known, Adds, IsTurn, IsJoin, IsAccounted}
-use Rattle.seat_lock.specs.Rule.{known_by}
-use Rattle.seat_lock.specs.Steps.{TakesOut, CatchesUp, IsAware, after_leave, served, in_phase, both, joined_by}
+use Rattle.seat_lock.specs.History.{SeatView, AddsAtMostOne, IsSeatTurn, IsJoin, IsAccounted}
+use Rattle.seat_lock.specs.Rule.{seat_view}
+use Rattle.seat_lock.specs.Steps.{TakesStateOut, CatchesUp, IsAware, after_leave, served, in_phase, both, joined_by}
 use Rattle.seat_lock.proofs.EntryLemmas.{behind}
 
 -- what holds of all elements of a list holds of one in its midst
@@ -20,8 +20,8 @@ all_at P (x ∷ xs) y ys all = all_at P xs y ys (All-tail P x (xs ++ y ∷ ys) a
 
 module _ {S E T : Type 0} (stands : S → List E) (maker : E → ℕ) (setting : S → T) (lock : TableId) (v : View E T) where
   module _ {R : Type 0} (means : T → List E → ℕ → R → List E → Type 0) (drawn taken given : Me (Option S) (View E T)) (t seat : ℕ) (state after : S) (reply : R) (c : List (ℕ × Option S))
-      (number : seat ≡ v.number) (draws : drawn ≡ (in_phase v (Waits t), c)) (takes : TakesOut stands setting drawn state taken)
-      (meant : means (setting state) (stands state) seat reply (stands after)) (adds : Adds maker seat (stands state) (stands after))
+      (number : seat ≡ v.number) (draws : drawn ≡ (in_phase v (Waits t), c)) (takes : TakesStateOut stands setting drawn state taken)
+      (meant : means (setting state) (stands state) seat reply (stands after)) (adds : AddsAtMostOne maker seat (stands state) (stands after))
       (gives : given ≡ (after_leave stands taken.0 ((0, Some after) ∷ []), [])) (aware : IsAware maker given.0) where
     -- what the seat knows after its turn
     abbrev last : View E T
@@ -41,7 +41,7 @@ module _ {S E T : Type 0} (stands : S → List E) (maker : E → ℕ) (setting :
     added = behind (stands state) (stands after) (option_to_list adds.0) adds.1
 
     -- that is one turn
-    turn_last : IsTurn maker means (known_by lock v) reply (known_by lock last)
+    turn_last : IsSeatTurn maker means (seat_view lock v) reply (seat_view lock last)
     turn_last =
         record {
           setting = setting state;
@@ -58,9 +58,9 @@ module _ {S E T : Type 0} (stands : S → List E) (maker : E → ℕ) (setting :
         }
 
     -- each step keeps the lock
-    pub turn_is : (one two now : TableId) → one ≡ lock → two ≡ one → now ≡ two → IsTurn maker means (known_by lock v) reply (known_by now given.0)
+    pub turn_is : (one two now : TableId) → one ≡ lock → two ≡ one → now ≡ two → IsSeatTurn maker means (seat_view lock v) reply (seat_view now given.0)
     turn_is one two now drew took gave =
-        let same : now ≡ lock = gave ∙ (took ∙ drew) in subst (λ (k : Known E T). IsTurn maker means (known_by lock v) reply k) (λ i. known_by (sym same i) (sym is_last i)) turn_last
+        let same : now ≡ lock = gave ∙ (took ∙ drew) in subst (λ (k : SeatView E T). IsSeatTurn maker means (seat_view lock v) reply k) (λ i. seat_view (sym same i) (sym is_last i)) turn_last
 
   module _ (w : View E T) (other : TableId) (merged caught : Me (Option S) (View E T)) (merges : merged ≡ (both v w, [])) (catches : CatchesUp maker merged caught) where
     -- what the left seat knows after the join
@@ -74,7 +74,7 @@ module _ {S E T : Type 0} (stands : S → List E) (maker : E → ℕ) (setting :
     aware_final = subst (IsAware maker) is_final catches.aware
 
     -- that is one join
-    join_final : IsJoin (known_by lock v) (known_by other w) (known_by lock final)
+    join_final : IsJoin (seat_view lock v) (seat_view other w) (seat_view lock final)
     join_final =
         record {
           seen_left = subst (λ l. IsPrefix l caught.0.seen) (ap (λ m. m.0.seen) merges) catches.further;
@@ -84,6 +84,6 @@ module _ {S E T : Type 0} (stands : S → List E) (maker : E → ℕ) (setting :
         }
 
     -- each step keeps the lock
-    pub join_is : (one now : TableId) → one ≡ lock → now ≡ one → IsJoin (known_by lock v) (known_by other w) (known_by now caught.0)
+    pub join_is : (one now : TableId) → one ≡ lock → now ≡ one → IsJoin (seat_view lock v) (seat_view other w) (seat_view now caught.0)
     join_is one now merging catching =
-        let same : now ≡ lock = catching ∙ merging in subst (λ (k : Known E T). IsJoin (known_by lock v) (known_by other w) k) (λ i. known_by (sym same i) (sym is_final i)) join_final
+        let same : now ≡ lock = catching ∙ merging in subst (λ (k : SeatView E T). IsJoin (seat_view lock v) (seat_view other w) k) (λ i. seat_view (sym same i) (sym is_final i)) join_final

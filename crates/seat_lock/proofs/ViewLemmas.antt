@@ -16,7 +16,7 @@ use Rattle.seat_lock.specs.declared.view.View.{View}
 use Rattle.seat_lock.specs.declared.view.Phase.{Phase}
 use Rattle.seat_lock.specs.declared.view.Phase.TheVariants.{Empty, Makes, Idle, Waits, Holds}
 use Rattle.seat_lock.specs.History.{made_by, IsAccounted}
-use Rattle.seat_lock.specs.Rule.{IsQueued, IsFit, IsHome, AreApart, spent, ticket_of, has_turn, tickets}
+use Rattle.seat_lock.specs.Rule.{IsQueued, IsFit, IsHome, AreApart, spent_view, ticket_of, has_turn, tickets}
 
 -- what holds of a changed element, and of the others as they were, holds of each
 pub changed : {A : Type 0} (P : ℕ → A → Type 0) (l : List A) (i : ℕ) (a : A) → P i a → ((j : ℕ) (b : A) → j ≢ i → get_elem? l j ≡ some b → P j b)
@@ -82,21 +82,21 @@ module _ {E T : Type 0} where
   tickets_few (x ∷ xs) = let r = tickets_few xs in omega (arith, r, one_each x.phase)
 
   -- a view that has a setting is not spent
-  pub not_spent : (v : View E T) (c : T) → v.setting ≡ Some c → v ≡ spent → ⊥
+  pub not_spent : (v : View E T) (c : T) → v.setting ≡ Some c → v ≡ spent_view → ⊥
   not_spent v c s e = let no : ◌≡◌ {A = Option T} None (Some c) = sym (ap (λ z. z.setting) e) ∙ s in absurd (cc)
 
   -- and fits
-  pub fits_here : {F : Type 0} (v : View E T) (c : T) → v.setting ≡ Some c → (v ≡ spent) ⊎ F → F
+  pub fits_here : {F : Type 0} (v : View E T) (c : T) → v.setting ≡ Some c → (v ≡ spent_view) ⊎ F → F
   fits_here v c s f = ⊎_elim (λ e. absurd (not_spent v c s e)) (λ x. x) f
 
   module _ (maker : E → ℕ) (setting : T) (seats : ℕ) where
     -- each view is spent or fits
     abbrev pub FitAll : List E → List (View E T) → Type 0
-    FitAll log vs = (i : ℕ) (v : View E T) → get_elem? vs i ≡ some v → (v ≡ spent) ⊎ IsFit maker setting seats log vs i v
+    FitAll log vs = (i : ℕ) (v : View E T) → get_elem? vs i ≡ some v → (v ≡ spent_view) ⊎ IsFit maker setting seats log vs i v
 
     -- a joined seat's place is spent, and its entries are accounted for
     abbrev pub IsLeft : List E → List (View E T) → Left E → Type 0
-    IsLeft log vs j = (get_elem? vs j.number ≡ some spent) × IsAccounted maker log j
+    IsLeft log vs j = (get_elem? vs j.number ≡ some spent_view) × IsAccounted maker log j
 
     -- what joined seats left stays, where a view changes that is not spent, and the history goes on with entries of that seat
     pub left_after : (vs : List (View E T)) (id : ℕ) (v w : View E T) (c : T) → get_elem? vs id ≡ some v → v.setting ≡ Some c → (log after : List E) → IsPrefix log after → ((n : ℕ) → n ≢ id → made_by maker n after ≡ made_by maker n log)
@@ -105,13 +105,13 @@ module _ {E T : Type 0} where
       where
         one : (j : Left E) → IsLeft log vs j → IsLeft after (set vs id w) j
         one j l =
-            let ne : j.number ≢ id = (λ e. not_spent v c is_set (one_there vs id v spent here (ap (get_elem? vs) (sym e) ∙ l.0))) in
+            let ne : j.number ≢ id = (λ e. not_spent v c is_set (one_there vs id v spent_view here (ap (get_elem? vs) (sym e) ∙ l.0))) in
             (set_else vs id j.number w ne ∙ l.0, record { own = l.1.own ∙ sym (same j.number ne); seen = prefix_trans j.seen log after l.1.seen on })
 
     -- all views fit, where one changes that is not spent, and the history goes on with entries of that seat
     pub fits_after : (vs : List (View E T)) (id : ℕ) (v w : View E T) (c : T) → get_elem? vs id ≡ some v → v.setting ≡ Some c → (log after : List E) → IsPrefix log after → ((n : ℕ) → n ≢ id → made_by maker n after ≡ made_by maker n log)
-        → FitAll log vs → (w ≡ spent) ⊎ IsFit maker setting seats after (set vs id w) id w → FitAll after (set vs id w)
-    fits_after vs id v w c here is_set log after on same all mine = changed (λ i u. (u ≡ spent) ⊎ IsFit maker setting seats after (set vs id w) i u) vs id w mine others
+        → FitAll log vs → (w ≡ spent_view) ⊎ IsFit maker setting seats after (set vs id w) id w → FitAll after (set vs id w)
+    fits_after vs id v w c here is_set log after on same all mine = changed (λ i u. (u ≡ spent_view) ⊎ IsFit maker setting seats after (set vs id w) i u) vs id w mine others
       where
         other : (j : ℕ) (u : View E T) → j ≢ id → IsFit maker setting seats log vs j u → IsFit maker setting seats after (set vs id w) j u
         other j u ne f =
@@ -124,7 +124,7 @@ module _ {E T : Type 0} where
               joined = left_after vs id v w c here is_set log after on same u.joined f.joined;
             }
 
-        others : (j : ℕ) (u : View E T) → j ≢ id → get_elem? vs j ≡ some u → (u ≡ spent) ⊎ IsFit maker setting seats after (set vs id w) j u
+        others : (j : ℕ) (u : View E T) → j ≢ id → get_elem? vs j ≡ some u → (u ≡ spent_view) ⊎ IsFit maker setting seats after (set vs id w) j u
         others j u ne at = ⊎_elim (λ e. inl e) (λ f. inr (other j u ne f)) (all j u at)
 
   -- where the state lies, and who has the turn, stays as a view changes in other things

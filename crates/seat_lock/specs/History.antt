@@ -7,7 +7,7 @@ use Rattle.seat_lock.specs.declared.view.Left.{Left}
 
 -- what a seat knows: its lock, its number, how many seats the lock has, the state's setting, the entries that it made,
 -- the history that it has seen, and what the seats that were joined into it left
-pub record Known (E T : Type 0) : Type 0 where
+pub record SeatView (E T : Type 0) : Type 0 where
   pub lock : TableId
   pub number : ℕ
   pub seats : ℕ
@@ -21,24 +21,24 @@ abbrev pub made_by : {E : Type 0} → (E → ℕ) → ℕ → List E → List E
 made_by maker number log = filter (λ e. maker e == number) log
 
 -- an operation of this seat leaves the entries as they were, or adds one, which this seat made
-abbrev pub Adds : {E : Type 0} → (E → ℕ) → ℕ → List E → List E → Type 0
-Adds {E} maker seat before after = (made : Option E) × (after ≡ before ++ option_to_list made) × IfSome made (λ e. maker e ≡ seat)
+abbrev pub AddsAtMostOne : {E : Type 0} → (E → ℕ) → ℕ → List E → List E → Type 0
+AddsAtMostOne {E} maker seat before after = (made : Option E) × (after ≡ before ++ option_to_list made) × IfSome made (λ e. maker e ≡ seat)
 
 -- the seat with this number, as it is made
-abbrev pub newcomer : {E T : Type 0} → TableId → T → ℕ → ℕ → Known E T
+abbrev pub newcomer : {E T : Type 0} → TableId → T → ℕ → ℕ → SeatView E T
 newcomer lock setting seats number = record { lock = lock; number = number; seats = seats; setting = Some setting; own = []; seen = []; joined = [] }
 
 -- these are all of the lock's seats, numbered from 0, and none has made or seen an entry
-pub record IsNewLock {E T : Type 0} (lock : TableId) (setting : T) (count : ℕ) (seats : List (Known E T)) : Type 0 where
+pub record IsNewLock {E T : Type 0} (lock : TableId) (setting : T) (count : ℕ) (seats : List (SeatView E T)) : Type 0 where
   pub all : length seats ≡ count
-  pub each : (k : ℕ) (d : Known E T) → k < count → slice_index_or seats k d ≡ newcomer lock setting count k
+  pub each : (k : ℕ) (d : SeatView E T) → k < count → slice_index_or seats k d ≡ newcomer lock setting count k
 
 -- the seat is the same: its lock, number, setting and joined seats stay, and only what it made and has seen may be other
-abbrev pub IsSameSeat : {E T : Type 0} → Known E T → Known E T → Type 0
+abbrev pub IsSameSeat : {E T : Type 0} → SeatView E T → SeatView E T → Type 0
 IsSameSeat old new = new ≡ record old { own = new.own; seen = new.seen }
 
 -- one turn of a seat that knew `old`, was answered `reply`, and then knows `new`
-pub record IsTurn {E T R : Type 0} (maker : E → ℕ) (means : T → List E → ℕ → R → List E → Type 0) (old : Known E T) (reply : R) (new : Known E T) : Type 0 where
+pub record IsSeatTurn {E T R : Type 0} (maker : E → ℕ) (means : T → List E → ℕ → R → List E → Type 0) (old : SeatView E T) (reply : R) (new : SeatView E T) : Type 0 where
   -- the state's setting
   pub setting : T
   pub is_set : old.setting ≡ Some setting
@@ -57,20 +57,20 @@ pub record IsTurn {E T R : Type 0} (maker : E → ℕ) (means : T → List E →
   pub same : IsSameSeat old new
 
 -- what a seat leaves as it is joined into another
-abbrev pub left_by : {E T : Type 0} → Known E T → Left E
-left_by k = record { number = k.number; own = k.own; seen = k.seen }
+abbrev pub left_behind : {E T : Type 0} → SeatView E T → Left E
+left_behind k = record { number = k.number; own = k.own; seen = k.seen }
 
 -- the left seat after the right one was joined into it
-pub record IsJoin {E T : Type 0} (left right now : Known E T) : Type 0 where
+pub record IsJoin {E T : Type 0} (left right now : SeatView E T) : Type 0 where
   -- it knows what both had seen
   pub seen_left : IsPrefix left.seen now.seen
   pub seen_right : IsPrefix right.seen now.seen
   -- and which seats were joined into either, the right one itself among them
-  pub joined : now.joined ≡ left.joined ++ left_by right ∷ right.joined
+  pub joined : now.joined ≡ left.joined ++ left_behind right ∷ right.joined
   pub rest : now ≡ record left { seen = now.seen; joined = now.joined }
 
 -- the seat is the lock's only one, or every other one was joined into it, directly or through others
-abbrev pub HasAll : {E T : Type 0} → Known E T → Type 0
+abbrev pub HasAll : {E T : Type 0} → SeatView E T → Type 0
 HasAll k = (n : ℕ) → n < k.seats → (n ≡ k.number) ⊎ Contains (map (λ j. j.number) k.joined) n
 
 -- what stands at the end for a seat that was joined: its own entries are all that the history has of it, and it had seen a beginning
@@ -79,7 +79,7 @@ pub record IsAccounted {E : Type 0} (maker : E → ℕ) (log : List E) (j : Left
   pub seen : IsPrefix j.seen log
 
 -- the history at the end, for the seat that has all others
-pub record IsWhole {E T : Type 0} (maker : E → ℕ) (k : Known E T) (log : List E) : Type 0 where
+pub record IsWholeHistory {E T : Type 0} (maker : E → ℕ) (k : SeatView E T) (log : List E) : Type 0 where
   -- it is what the seat has seen
   pub seen : log ≡ k.seen
   -- the seat's own entries, and those of each joined seat, are its filter

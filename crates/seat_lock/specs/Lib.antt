@@ -2,4 +2,4 @@ pub mod History
 pub mod Rule
 pub mod Steps
 pub mod Making
-pub mod Row
+pub mod SeatRow

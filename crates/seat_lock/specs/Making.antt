@@ -5,8 +5,8 @@ use Rattle.atomic_table.specs.Seated.{TableId}
 use Rattle.seat_lock.specs.declared.view.View.{View}
 use Rattle.seat_lock.specs.declared.view.Phase.{Phase}
 use Rattle.seat_lock.specs.declared.view.Phase.TheVariants.{Empty, Makes, Idle, Waits, Holds}
-use Rattle.seat_lock.specs.History.{Known}
-use Rattle.seat_lock.specs.Rule.{known_by}
+use Rattle.seat_lock.specs.History.{SeatView}
+use Rattle.seat_lock.specs.Rule.{seat_view}
 use Rattle.seat_lock.specs.Steps.{in_phase}
 
 module _ {S E T : Type 0} where
@@ -53,6 +53,6 @@ module _ {E T : Type 0} where
     pub joined : v.joined ≡ []
 
   -- what the n seats know that a first seat makes
-  abbrev pub others : TableId → View E T → ℕ → List (Known E T)
+  abbrev pub others : TableId → View E T → ℕ → List (SeatView E T)
   others lock v zero = []
-  others lock v (suc n) = others lock v n ++ known_by lock (record v { phase = Idle; number = n + 1; own = []; joined = [] }) ∷ []
+  others lock v (suc n) = others lock v n ++ seat_view lock (record v { phase = Idle; number = n + 1; own = []; joined = [] }) ∷ []

@@ -11,19 +11,19 @@ use Rattle.seat_lock.specs.declared.opened.Opened.{Opened}
 use Rattle.seat_lock.specs.declared.view.View.{View}
 use Rattle.seat_lock.specs.declared.view.Phase.{Phase}
 use Rattle.seat_lock.specs.declared.view.Phase.TheVariants.{Empty, Makes, Idle, Waits, Holds}
-use Rattle.seat_lock.specs.History.{Known, made_by, IsAccounted}
+use Rattle.seat_lock.specs.History.{SeatView, made_by, IsAccounted}
 
 -- what contracts see of a view
-abbrev pub known_by : {E T : Type 0} → TableId → View E T → Known E T
-known_by lock v = record { lock = lock; number = v.number; seats = v.seats; setting = v.setting; own = v.own; seen = v.seen; joined = v.joined }
+abbrev pub seat_view : {E T : Type 0} → TableId → View E T → SeatView E T
+seat_view lock v = record { lock = lock; number = v.number; seats = v.seats; setting = v.setting; own = v.own; seen = v.seen; joined = v.joined }
 
 -- the first seat of a lock that has no state yet
 abbrev pub first_view : {E T : Type 0} → T → ℕ → View E T
 first_view setting seats = record { phase = Empty; number = 0; seats = seats; setting = Some setting; own = []; seen = []; joined = [] }
 
 -- what is left of a seat that was joined into another
-abbrev pub spent : {E T : Type 0} → View E T
-spent = record { phase = Idle; number = 0; seats = 0; setting = None; own = []; seen = []; joined = [] }
+abbrev pub spent_view : {E T : Type 0} → View E T
+spent_view = record { phase = Idle; number = 0; seats = 0; setting = None; own = []; seen = []; joined = [] }
 
 -- the ticket of a seat that has one; whoever makes the lock has the first
 abbrev pub ticket_of : Phase → List ℕ
@@ -62,7 +62,7 @@ pub record IsFit {E T : Type 0} (maker : E → ℕ) (setting : T) (seats : ℕ) 
   pub own : v.own ≡ made_by maker at log
   pub seen : IsPrefix v.seen log
   -- the place of each joined seat has the spent view
-  pub joined : All (λ j. (get_elem? views j.number ≡ some spent) × IsAccounted maker log j) v.joined
+  pub joined : All (λ j. (get_elem? views j.number ≡ some spent_view) × IsAccounted maker log j) v.joined
 
 -- no two seats have one ticket
 abbrev pub AreApart : {E T : Type 0} → List (View E T) → Type 0
@@ -75,7 +75,7 @@ module _ {S E T : Type 0} (stands : S → List E) (maker : E → ℕ) (setting :
       ((x : S) × (homes ≡ some (Some x) ∷ []) × (stands x ≡ log) × (setting x ≡ c) × ((i : ℕ) (v : View E T) → get_elem? views i ≡ some v → has_turn v.phase ≡ false))
       ⊎ ((i : ℕ) × (v : View E T) × (get_elem? views i ≡ some v) × (has_turn v.phase ≡ true))
 
-  pub record IsKept (key : Opened S) (s : State (Option S) (View E T)) : Type 0 where
+  pub record KeepsLockRule (key : Opened S) (s : State (Option S) (View E T)) : Type 0 where
     -- the tickets out are the numbers from `serving` up to `drawn`, which the two words count modulo 2^64
     pub drawn : ℕ
     pub serving : ℕ
@@ -87,7 +87,7 @@ module _ {S E T : Type 0} (stands : S → List E) (maker : E → ℕ) (setting :
     pub log : List E
     pub makers : All (λ e. maker e < key.seats) log
     pub queued : (i : ℕ) (v : View E T) → get_elem? s.views i ≡ some v → IsQueued serving drawn log (length s.views) v
-    pub fits : (i : ℕ) (v : View E T) → get_elem? s.views i ≡ some v → (v ≡ spent) ⊎ IsFit maker (setting key.state) key.seats log s.views i v
+    pub fits : (i : ℕ) (v : View E T) → get_elem? s.views i ≡ some v → (v ≡ spent_view) ⊎ IsFit maker (setting key.state) key.seats log s.views i v
     pub home : IsHome (setting key.state) log s.homes s.views
     -- before there is a state, the slot has nothing
     pub blank : (i : ℕ) (v : View E T) → get_elem? s.views i ≡ some v → v.phase ≡ Empty → s.homes ≡ some None ∷ []

@@ -7,7 +7,7 @@ use Rattle.seat_lock.specs.declared.view.Left.{Left}
 use Rattle.seat_lock.specs.declared.view.View.{View}
 use Rattle.seat_lock.specs.declared.view.Phase.{Phase}
 use Rattle.seat_lock.specs.declared.view.Phase.TheVariants.{Empty, Makes, Idle, Waits, Holds}
-use Rattle.seat_lock.specs.History.{made_by, Adds, IsAccounted}
+use Rattle.seat_lock.specs.History.{made_by, AddsAtMostOne, IsAccounted}
 use Rattle.seat_lock.specs.Rule.{has_turn}
 
 -- what the seat made, and what the seats joined into it made, is what the history that it has seen has of them
@@ -56,14 +56,14 @@ pub record CanLeave {S E T : Type 0} (stands : S → List E) (maker : E → ℕ)
   pub state : S
   pub carried : me.1 ≡ (0, Some state) ∷ []
   pub is_set : me.0.setting ≡ Some (setting state)
-  pub adds : Adds maker me.0.number me.0.seen (stands state)
+  pub adds : AddsAtMostOne maker me.0.number me.0.seen (stands state)
 
 -- a seat that has had the state, which is now at hand with what the seat's operation added
 pub record CanGive {S E T : Type 0} (stands : S → List E) (maker : E → ℕ) (setting : S → T) (me : Me (Option S) (View E T)) (state : S) : Type 0 where
   pub turn : has_turn me.0.phase ≡ true
   pub carried : me.1 ≡ (0, None) ∷ []
   pub is_set : me.0.setting ≡ Some (setting state)
-  pub adds : Adds maker me.0.number me.0.seen (stands state)
+  pub adds : AddsAtMostOne maker me.0.number me.0.seen (stands state)
 
 module _ {S E T : Type 0} where
   -- the seat has the ticket whose word was found
@@ -71,22 +71,22 @@ module _ {S E T : Type 0} where
   Draws v found w = (t : ℕ) × (found ≡ t % 2 ^ 64) × (w ≡ (in_phase v.0 (Waits t), v.1))
 
   -- the seat has the state, which has the setting that it knows and stands for what it now has seen
-  pub record Takes (stands : S → List E) (setting : S → T) (v w : Me (Option S) (View E T)) : Type 0 where
+  pub record TakesState (stands : S → List E) (setting : S → T) (v w : Me (Option S) (View E T)) : Type 0 where
     pub state : S
     pub is : w ≡ (record v.0 { phase = served v.0.phase; seen = stands state }, (0, Some state) ∷ [])
     pub further : IsPrefix v.0.seen (stands state)
     pub is_set : v.0.setting ≡ Some (setting state)
 
   -- the same, and the state is out of its slot
-  pub record TakesOut (stands : S → List E) (setting : S → T) (v : Me (Option S) (View E T)) (state : S) (w : Me (Option S) (View E T)) : Type 0 where
+  pub record TakesStateOut (stands : S → List E) (setting : S → T) (v : Me (Option S) (View E T)) (state : S) (w : Me (Option S) (View E T)) : Type 0 where
     pub is : w ≡ (record v.0 { phase = served v.0.phase; seen = stands state }, (0, None) ∷ [])
     pub turn : has_turn w.0.phase ≡ true
     pub further : IsPrefix v.0.seen (stands state)
     pub is_set : v.0.setting ≡ Some (setting state)
 
   -- at its turn the seat takes the state; before it nothing changes
-  abbrev pub Looks : (S → List E) → (S → T) → Me (Option S) (View E T) → ℕ → Me (Option S) (View E T) → Type 0
-  Looks stands setting v found w = MatchBool (is_served v.0.phase found) (Takes stands setting v w) (w ≡ v)
+  abbrev pub LooksForTurn : (S → List E) → (S → T) → Me (Option S) (View E T) → ℕ → Me (Option S) (View E T) → Type 0
+  LooksForTurn stands setting v found w = MatchBool (is_served v.0.phase found) (TakesState stands setting v w) (w ≡ v)
 
   -- a view once the seat has given back what it carries
   abbrev pub after_leave : (S → List E) → View E T → List (ℕ × Option S) → View E T

@@ -1,6 +1,6 @@
 //! What a state under the lock is, and what one operation on it is.
 ghost use Rattle.std.specs.Prelude.{◌≡◌, List, ℕ};
-ghost use Rattle.seat_lock.specs.History.{Adds};
+ghost use Rattle.seat_lock.specs.History.{AddsAtMostOne};
 
 /// A state that stands for a list of entries, each made by one seat, and that has a setting.
 pub trait Kept {
@@ -30,6 +30,6 @@ pub trait Op<S: Kept> {
     /// Runs the operation for the seat with this number.
     fn run(self, state: &mut S, seat: u64) -> Self::Reply
         ensures means { means self (S.setting state.old) (S.stands state.old) seat result (S.stands state.new) }
-        ensures adds { Adds S.maker seat (S.stands state.old) (S.stands state.new) }
+        ensures adds { AddsAtMostOne S.maker seat (S.stands state.old) (S.stands state.new) }
         ensures setting { S.setting state.new ≡ S.setting state.old };
 }

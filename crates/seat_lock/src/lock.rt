@@ -1,17 +1,20 @@
 //! The lock: turns, joined seats, and the state back at the end.
 ghost use Rattle.std.specs.Prelude.{◌≡◌, Some};
-ghost use Rattle.seat_lock.specs.History.{IsTurn, IsJoin, HasAll, IsWhole};
+ghost use Rattle.seat_lock.specs.History.{IsSeatTurn, IsJoin, HasAll, IsWholeHistory};
 
 use crate::kept::{Kept, Op};
 use crate::rule::LockTable;
 use crate::seat::Seat;
 use crate::steps::{catch_up, draw, give, merge, take};
 use std::marker::Model;
-use std::sync::Wait;
+use std::sync::{Mutex, Wait};
 
 /// A state that is changed by one operation at a time, in the order of tickets. Contracts see which lock it is.
+///
+/// Threads wait at the gate, as a `Mutex` lets them: its holder alone draws a ticket, which is served at once.
 #[derive(Drop)]
 pub struct SeatLock<S: Kept> {
+    pub(crate) gate: Mutex<()>,
     pub(crate) table: LockTable<S>,
 }
 
@@ -32,13 +35,14 @@ impl<S: Kept> SeatLock<S> {
     /// Waits for the seat's turn, and runs the operation once, alone.
     pub fn turn<R: Wait, O: Op<S>>(&self, rt: &R, seat: &mut Seat<S>, op: O) -> O::Reply
         requires { seat.old.lock ≡ self.now }
-        ensures { IsTurn S.maker (O.means op) seat.old result seat.new }
+        ensures { IsSeatTurn S.maker (O.means op) seat.old result seat.new }
     {
-        let desk = &self.table.shared;
-        let ticket = draw(desk, &mut seat.token);
-        let mut state = take(rt, desk, &mut seat.token, ticket);
+        let _inside = self.gate.lock(rt);
+        let shared = &self.table.shared;
+        let ticket = draw(shared, &mut seat.token);
+        let mut state = take(rt, shared, &mut seat.token, ticket);
         let reply = op.run(&mut state, seat.number);
-        give(desk, &mut seat.token, state);
+        give(shared, &mut seat.token, state);
         reply
     }
 
@@ -62,10 +66,10 @@ impl<S: Kept> SeatLock<S> {
     pub fn close(self, seat: Seat<S>) -> S
         requires lock { seat.lock ≡ self }
         requires all { HasAll seat }
-        ensures history { IsWhole S.maker seat (S.stands result) }
+        ensures history { IsWholeHistory S.maker seat (S.stands result) }
         ensures setting { seat.setting ≡ Some (S.setting result) }
     {
-        let SeatLock { table } = self;
+        let SeatLock { gate: _, table } = self;
         let Seat { number: _, token } = seat;
         let mut closed = table.close_with(token);
         let found = closed.take(0);

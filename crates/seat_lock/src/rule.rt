@@ -8,10 +8,13 @@ use std::alloc::Global;
 use std::marker::PhantomData;
 
 /// What a thread steps with: a token of no bytes.
-pub type Token<S> = atomic_table::Seat<Option<S>, View<<S as Kept>::Entry, <S as Kept>::Setting>>;
+pub type LockToken<S> = atomic_table::Seat<
+    Option<S>,
+    View<<S as Kept>::Entry, <S as Kept>::Setting>,
+>;
 
 /// The two words, `ticket` and `serving`, and the slot with the state.
-pub type Desk<S> = Shared<
+pub type LockShared<S> = Shared<
     Option<S>,
     View<<S as Kept>::Entry, <S as Kept>::Setting>,
     Opened<S>,
@@ -33,9 +36,9 @@ pub struct LockRule<S: Kept> {
 }
 
 impl<S: Kept> TableRule<Option<S>, View<S::Entry, S::Setting>, Opened<S>> for LockRule<S> {
-    ghost use Rattle.seat_lock.specs.Rule.{IsKept, first_view};
+    ghost use Rattle.seat_lock.specs.Rule.{KeepsLockRule, first_view};
 
-    ghost holds = { λ key s. IsKept S.stands S.maker S.setting key s };
+    ghost holds = { λ key s. KeepsLockRule S.stands S.maker S.setting key s };
 
     ghost first = { λ key. first_view (S.setting key.state) key.seats };
 }
@@ -57,9 +60,9 @@ pub struct Look<S: Kept> {
 }
 
 impl<S: Kept> Play<Option<S>, View<S::Entry, S::Setting>> for Look<S> {
-    ghost use Rattle.seat_lock.specs.Steps.{Looks};
+    ghost use Rattle.seat_lock.specs.Steps.{LooksForTurn};
 
-    ghost then = { λ s v found w. Looks S.stands S.setting v found w };
+    ghost then = { λ s v found w. LooksForTurn S.stands S.setting v found w };
 }
 
 /// The step that gives the state back and serves the next ticket.
@@ -115,9 +118,9 @@ pub struct Merge<S: Kept> {
 
 impl<S: Kept> Join<View<S::Entry, S::Setting>> for Merge<S> {
     ghost use Rattle.seat_lock.specs.Steps.{both};
-    ghost use Rattle.seat_lock.specs.Rule.{spent};
+    ghost use Rattle.seat_lock.specs.Rule.{spent_view};
 
     ghost both = { both };
 
-    ghost spent = { spent };
+    ghost spent = { spent_view };
 }

@@ -2,25 +2,25 @@
 ghost use Rattle.std.specs.Prelude.{◌≡◌};
 
 use crate::kept::Kept;
-use crate::rule::Token;
+use crate::rule::LockToken;
 use std::marker::Model;
 
 /// One of a lock's seats. It can't be copied. Contracts see what it knows.
 #[derive(Drop)]
 pub struct Seat<S: Kept> {
     pub(crate) number: u64,
-    pub(crate) token: Token<S>,
+    pub(crate) token: LockToken<S>,
 }
 
 impl<S: Kept> Model for Seat<S> {
     ghost use Rattle.std.specs.Prelude.{◌≡◌};
-    ghost use Rattle.seat_lock.specs.History.{Known};
-    ghost use Rattle.seat_lock.specs.Rule.{known_by};
+    ghost use Rattle.seat_lock.specs.History.{SeatView};
+    ghost use Rattle.seat_lock.specs.Rule.{seat_view};
     ghost use Rattle.seat_lock.specs.Steps.{IsResting};
 
-    ghost Value = { Known S.Entry S.Setting };
+    ghost Value = { SeatView S.Entry S.Setting };
 
-    ghost view = { λ s. known_by s.token.table_id s.token.me.0 };
+    ghost view = { λ s. seat_view s.token.table_id s.token.me.0 };
 
     ghost invariant = { λ s. (s.number ≡ s.token.me.0.number) × IsResting S.maker s.token.me };
 }

@@ -1,7 +1,7 @@
 //! A tally under the lock, kept by one seat, by four and by sixty-four.
-ghost use Rattle.std.specs.Prelude.{◌≡◌, ◌<◌, ◌≤◌, ◌++◌, [], ◌∷◌, MatchBool, vec_len};
+ghost use Rattle.std.specs.Prelude.{◌≡◌, ◌<◌, ◌≤◌, ◌++◌, [], ◌∷◌, MatchBool, length, vec_len};
 ghost use Rattle.seat_lock.specs.History.{HasAll, IsSameSeat};
-ghost use Rattle.seat_lock.specs.Row.{AreSeats};
+ghost use Rattle.seat_lock.specs.SeatRow.{AreSeats};
 
 use super::*;
 use std::alloc::Global;
@@ -66,6 +66,28 @@ fn join_all<S: Kept>(lock: &SeatLock<S>, mut seats: Vec<Seat<S>>) -> Seat<S>
     all
 }
 
+/// Counts in up to four threads, so many times on each of these seats.
+fn count_on_each<R: Threads + Wait + Sync>(
+    rt: &R,
+    lock: &SeatLock<Tally>,
+    seats: &mut [Seat<Tally>],
+    times: u64,
+)
+    requires { AreSeats lock.now (length seats.old) seats.old }
+    ensures all { AreSeats lock.now (length seats.old) seats.new }
+    ensures len { length seats.new ≡ length seats.old }
+{
+    for_each_mut(
+        rt,
+        seats,
+        4,
+        &|_, seat: &mut Seat<Tally>|
+            requires { seat.now.lock ≡ lock.now }
+            ensures { IsSameSeat seat.entry.now seat.exit.now }
+        { count_up(rt, lock, seat, times) },
+    );
+}
+
 /// Counts in up to four threads, so many times on each seat, and answers who counted when.
 fn counted<R: Threads + Wait + Sync>(
     rt: &R,
@@ -80,16 +102,7 @@ fn counted<R: Threads + Wait + Sync>(
         name: 7,
     };
     let (lock, mut seats) = make(alloc, state, count).ok()?;
-    let shared = &lock;
-    for_each_mut(
-        rt,
-        seats.as_mut_slice(),
-        4,
-        &|_, seat: &mut Seat<Tally>|
-            requires { seat.now.lock ≡ shared.now }
-            ensures { IsSameSeat seat.entry.now seat.exit.now }
-        { count_up(rt, shared, seat, times) },
-    );
+    count_on_each(rt, &lock, seats.as_mut_slice(), times);
     let seat = join_all(&lock, seats);
     Some(lock.close(seat).marks)
 }

@@ -7,5 +7,5 @@ pub fetch_add-requires : goal.fetch_add-requires
 fetch_add-requires g c = (
   c.requires.table.0,
   omega (arith, c.requires.table.1),
-  rw c.requires.idle.empty (λ s k len here fits. let is = some_setting c.args.token.now.me.0.setting c.requires.idle.is_set in draw_allows g.S.Kept.stands g.S.Kept.maker g.S.Kept.setting c.args.desk.now.key s k c.args.token.now.id c.args.token.now.me.0 is.0 c.requires.idle.idle is.1 here),
+  rw c.requires.idle.empty (λ s k len here fits. let is = some_setting c.args.token.now.me.0.setting c.requires.idle.is_set in draw_allows g.S.Kept.stands g.S.Kept.maker g.S.Kept.setting c.args.shared.now.key s k c.args.token.now.id c.args.token.now.me.0 is.0 c.requires.idle.idle is.1 here),
 )

@@ -8,5 +8,5 @@ load-requires g c =
     let w = c.requires.waits in (
       c.requires.table.0,
       omega (arith, c.requires.table.1),
-      rw w.1 (λ s k len here fits. let is = some_setting c.args.token.now.me.0.setting w.2 in look_allows g.S.Kept.stands g.S.Kept.maker g.S.Kept.setting c.args.desk.now.key s k c.args.token.now.id w.0.0 c.args.token.now.me.0 is.0 w.0.1 is.1 here),
+      rw w.1 (λ s k len here fits. let is = some_setting c.args.token.now.me.0.setting w.2 in look_allows g.S.Kept.stands g.S.Kept.maker g.S.Kept.setting c.args.shared.now.key s k c.args.token.now.id w.0.0 c.args.token.now.me.0 is.0 w.0.1 is.1 here),
     )

@@ -15,5 +15,5 @@ join_seat-requires g c =
       omega (arith, c.requires.table.2),
       λ s k here ne there.
           let p = some_setting a.me.0.setting l.is_set in let q = some_setting b.me.0.setting r.is_set in
-          merged g.S.Kept.stands g.S.Kept.maker g.S.Kept.setting c.args.desk.now.key s k a.id a.me.0 p.0 l.idle p.1 here b.id b.me.0 q.0 r.idle q.1 ne (sym (set_else s.views a.id b.id (both a.me.0 b.me.0) ne) ∙ there),
+          merged g.S.Kept.stands g.S.Kept.maker g.S.Kept.setting c.args.shared.now.key s k a.id a.me.0 p.0 l.idle p.1 here b.id b.me.0 q.0 r.idle q.1 ne (sym (set_else s.views a.id b.id (both a.me.0 b.me.0) ne) ∙ there),
     )

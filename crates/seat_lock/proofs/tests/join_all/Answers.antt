@@ -1,7 +1,7 @@
 use Rattle.std.proofs.Common.{◌∙◌, ◌++◌, ap, subst, vec_len}
 use Rattle.std.specs.Option.{option_to_list}
-use Rattle.seat_lock.specs.Row.{HasRest}
-use Rattle.seat_lock.proofs.RowLemmas.{goes_on}
+use Rattle.seat_lock.specs.SeatRow.{HasRest}
+use Rattle.seat_lock.proofs.SeatRowLemmas.{goes_on}
 use Rattle.seat_lock.proofs.tests.join_all.Goals as goal
 
 pub loop-next-preserved : goal.loop-next-preserved

@@ -1,5 +1,5 @@
 use Rattle.std.proofs.Common.{vec_len}
-use Rattle.seat_lock.specs.Row.{HasRest}
+use Rattle.seat_lock.specs.SeatRow.{HasRest}
 use Rattle.seat_lock.proofs.tests.join_all.Given as goal
 
 abbrev pub invariant-loop-next : goal.invariant-loop-next

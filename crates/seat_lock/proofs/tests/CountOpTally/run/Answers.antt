@@ -1,5 +1,5 @@
 use Rattle.std.proofs.Common.{is_ok, refl}
-use Rattle.seat_lock.proofs.AddsLemmas.{adds_if}
+use Rattle.seat_lock.proofs.Theorems.{adds_if}
 use Rattle.seat_lock.proofs.tests.CountOpTally.run.Goals as goal
 
 pub returns-clause-adds : goal.returns-clause-adds
