@@ -17,3 +17,14 @@ for keys in 1000 65536; do
         printf "%8s  %-6s %8.2f %10.2f %9.2f\n", "", "ratio", $2 / $6, $3 / $7, $4 / $8
     }'
 done
+
+# In the pattern of a channel: instructions of a put, a first_due and a drop_key together, from the difference of two runs.
+instructions() {
+    valgrind --tool=callgrind --callgrind-out-file=/dev/null crates/timeout_queue_bench/out/timeout_queue_bench "$1" "$2" \
+        2>&1 >/dev/null | awk '/Collected/ { print $4 }'
+}
+for keys in 100 10000; do
+    few=$((keys * 6))
+    many=$((few + 60000))
+    echo "channel, $keys keys: $((($(instructions "$keys" "$many") - $(instructions "$keys" "$few")) / 60000)) instructions a step"
+done

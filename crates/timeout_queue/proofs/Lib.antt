@@ -1,3 +1,4 @@
-pub mod KeyLemmas
-pub mod QueueLemmas
-pub mod TreeLemmas
+pub mod Theorems
+mod KeyLemmas
+mod RowsLemmas
+mod MomentLemmas

@@ -1,14 +1,10 @@
 -- A queue as a finite map from keys to due moments, and which deadline of it is the first.
-use Rattle.std.specs.Prelude.{◌≡◌, ℕ, IsTrue, nat_eq, Some}
-use Rattle.std.specs.BTreeMap.{BTreeMap, get}
-use Rattle.std.specs.BTreeSet.{BTreeSet, contains}
+use Rattle.std.specs.Prelude.{◌≡◌, ℕ, IsTrue, Some}
 use Rattle.std.specs.Coded.{Coded, coded_ℕ}
 use Rattle.std.specs.FinMap as map
-use Rattle.std.specs.Option.{option_eq}
 use Rattle.std.specs.Ordering.{nat_cmp, ordering_then, is_le}
 use Rattle.timeout_queue.specs.declared.key.Key.{Key}
-use Rattle.timeout_queue.specs.declared.key.Deadline.{Deadline}
-use Rattle.timeout_queue.specs.Key.{key_cmp, deadline_cmp, key_code}
+use Rattle.timeout_queue.specs.Key.{key_cmp, key_code}
 
 -- for each key that is in the queue, the moment at which it is due
 abbrev pub Deadlines : Type 0
@@ -23,8 +19,3 @@ pub record IsFirst (deadlines : Deadlines) (key : Key) (due : ℕ) : Type 0 wher
   pub there : map.get deadlines key ≡ Some due
   pub least : (other : Key) (moment : ℕ) → map.get deadlines other ≡ Some moment
       → IsTrue (is_le (ordering_then (nat_cmp due moment) (key_cmp key other)))
-
--- the set has a deadline exactly where the tree has its moment at its key
-abbrev pub HaveSameDeadlines : BTreeMap Key ℕ → BTreeSet Deadline → Type 0
-HaveSameDeadlines by_key by_due = (key : Key) (due : ℕ) →
-    contains deadline_cmp by_due (record { due = due; key = key }) ≡ option_eq nat_eq (get key_cmp by_key key) (Some due)

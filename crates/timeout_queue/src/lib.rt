@@ -3,6 +3,7 @@
 
 mod key;
 mod queue;
+mod rows;
 #[cfg(test)]
 mod tests;
 

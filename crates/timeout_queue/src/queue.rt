@@ -1,34 +1,33 @@
-//! The queue: a tree by keys, and a tree by due moments that has the same deadlines.
-ghost use Rattle.std.specs.Prelude.{◌≡◌, true, false, MatchOption, None, OnOk, OnErr};
-ghost use Rattle.std.specs.BTreeMap as tree;
-ghost use Rattle.std.specs.BTreeSet as set;
+//! The queue: the moments by their keys, and the deadlines in their order.
+ghost use Rattle.std.specs.Prelude.{◌≡◌, false, MatchOption, OnOk, OnErr};
 ghost use Rattle.std.specs.FinMap as map;
-ghost use Rattle.timeout_queue.specs.Key.{key_cmp, deadline_cmp};
 ghost use Rattle.timeout_queue.specs.Queue.{IsFirst};
 
 use crate::key::{Deadline, Key};
+use crate::rows::Rows;
 use std::alloc::{AllocError, Global};
-use std::collections::{BTreeMap, BTreeSet};
+use std::collections::HashMap;
 use std::marker::Model;
 
 /// Deadlines: for each key that is in the queue, the moment at which it is due, in milliseconds.
 #[derive(Drop)]
 pub struct Queue {
-    by_key: BTreeMap<Key, u64>,
-    by_due: BTreeSet<Deadline>,
+    moments: HashMap<Key, u64>,
+    rows: Rows,
 }
 
 impl Model for Queue {
     ghost use Rattle.std.specs.FinMap as map;
-    ghost use Rattle.timeout_queue.specs.Queue.{Deadlines, deadlines_code, HaveSameDeadlines};
+    ghost use Rattle.timeout_queue.specs.Queue.{Deadlines, deadlines_code};
+    ghost use Rattle.timeout_queue.specs.Rows.{HaveLive, is_live};
 
     ghost Value = { Deadlines };
 
     ghost coded = { deadlines_code };
 
-    ghost view = { λ q. map.from_entries q.by_key.entries };
+    ghost view = { λ q. map.from_entries q.moments.entries };
 
-    ghost invariant = { λ q. HaveSameDeadlines q.by_key q.by_due };
+    ghost invariant = { λ q. HaveLive (is_live q.moments) q.rows };
 }
 
 impl Queue {
@@ -37,8 +36,8 @@ impl Queue {
         ensures { result ≡ map.empty }
     {
         Queue {
-            by_key: BTreeMap::new(alloc),
-            by_due: BTreeSet::new(alloc),
+            moments: HashMap::new(alloc),
+            rows: Rows::new(alloc),
         }
     }
 
@@ -46,26 +45,32 @@ impl Queue {
     pub fn has(&self, key: Key) -> bool
         ensures { result ≡ map.contains_key self.now key }
     {
-        self.by_key.contains_key(&key)
+        self.moments.contains_key(&key)
     }
 
     /// Puts in a key that isn't in the queue, due at a moment in milliseconds. `AllocError` is want of memory.
+    #[inline]
     pub fn put(&mut self, key: Key, due: u64) -> Result<(), AllocError>
         requires absent { map.contains_key self.old key ≡ false }
         ensures ok { OnOk result (self.new ≡ map.insert self.old key due) }
         ensures err { OnErr result (self.new ≡ self.old) }
     {
-        fill(&mut self.by_key, &mut self.by_due, Deadline { due, key })
+        self.moments.reserve(1)?;
+        self.rows.add(&self.moments, Deadline { due, key })?;
+        let taken_in: Result<_, _> = self.moments.insert(key, due);
+        taken_in.unwrap();
+        Ok(())
     }
 
     /// Takes the key out, and answers whether it was in the queue.
+    #[inline]
     pub fn drop_key(&mut self, key: Key) -> bool
         ensures taken { self.new ≡ map.remove self.old key }
         ensures was_there { result ≡ map.contains_key self.old key }
     {
-        match self.by_key.remove(&key) {
+        match self.moments.remove(&key) {
             Some(due) => {
-                self.by_due.remove(&Deadline { due, key });
+                self.rows.remove(&self.moments, Deadline { due, key });
                 true
             }
             None => false,
@@ -73,31 +78,11 @@ impl Queue {
     }
 
     /// The first deadline, as its key and its moment: the least by moment, then by number, then by leg.
+    #[inline]
     pub fn first_due(&self) -> Option<(Key, u64)>
         ensures { MatchOption result (self.now ≡ map.empty) (λ first. IsFirst self.now first.0 first.1) }
     {
-        match self.by_due.first() {
-            Some(first) => Some((first.key, first.due)),
-            None => None,
-        }
+        let first = self.rows.first()?;
+        Some((first.key, first.due))
     }
-}
-
-// Takes a place in each tree before it fills either. A refusal by the second gives back the first one's place.
-fn fill(
-    by_key: &mut BTreeMap<Key, u64>,
-    by_due: &mut BTreeSet<Deadline>,
-    deadline: Deadline,
-) -> Result<(), AllocError>
-    requires { tree.get key_cmp by_key.old deadline.key ≡ None }
-    ensures moment { OnOk result (by_key.new.entries
-        ≡ tree.insert_entry key_cmp by_key.old.entries deadline.key deadline.due) }
-    ensures deadline { OnOk result (set.Updates deadline_cmp by_due.old by_due.new deadline true) }
-    ensures same_moments { OnErr result (tree.IsUnchanged by_key.old by_key.new) }
-    ensures same_deadlines { OnErr result (set.IsUnchanged by_due.old by_due.new) }
-{
-    let place = by_key.entry(deadline.key)?;
-    let moment = by_due.insert(deadline).map(|_| deadline.due);
-    place.or_try_insert_with(|| moment)?;
-    Ok(())
 }

@@ -1,13 +1,12 @@
 -- How the numbers of a queue's keys stay below n.
 use Rattle.std.proofs.Common.{◌≡◌, ℕ, ◌+◌, inl, inr, is_some, Some, None, cond, arith, ap, sym, ◌∙◌}
 use Rattle.std.specs.FinMap as map
-use Rattle.std.specs.Cmp.{Equal-is}
 use Rattle.std.specs.Ordering.{eq_by_cmp}
 use Rattle.std.proofs.lemmas.Bool.{cases_Bool, false≢true}
 use Rattle.timeout_queue.specs.declared.key.Key.{Key}
 use Rattle.timeout_queue.specs.Key.{key_cmp}
 use Rattle.timeout_queue.specs.Queue.{Deadlines}
-use Rattle.timeout_queue.proofs.KeyLemmas.{key_cmp_total, key_cmp-IsAntisymmetric}
+use Rattle.timeout_queue.proofs.Theorems.{key_cmp_total, tied_keys}
 use Rattle.timeout_queue_bench.specs.Numbers.{AreBelow}
 
 pub AreBelow-empty : (n : ℕ) → AreBelow n map.empty
@@ -17,7 +16,7 @@ pub AreBelow-insert : (deadlines : Deadlines) (key : Key) (due : ℕ) → AreBel
 AreBelow-insert deadlines key due below q there =
     let found = ap is_some (sym (map.get-insert key_cmp_total deadlines key due q)) ∙ there in
     elim (cases_Bool (eq_by_cmp key_cmp q key)) [
-      | inl tie ↦ let same : q.number ≡ key.number = ap (λ k. k.number) (key_cmp-IsAntisymmetric q key ((Equal-is (key_cmp q key)).0 tie)) in omega arith
+      | inl tie ↦ let same : q.number ≡ key.number = ap (λ k. k.number) (tied_keys q key tie) in omega arith
       | inr apart ↦ let was = ap (λ b. is_some (cond b (Some due) (map.get deadlines q))) (sym apart) ∙ found in omega (arith, below q was)
     ]
 

@@ -2,15 +2,27 @@
 #![tactic(auto)]
 
 mod calls;
+mod channel;
 mod rounds;
 
 use rounds::{run, tenths};
 use std::{env, io};
 
-// With a number of keys as its argument it prints their times, and else a line that is always the same.
+/// The number that a word spells.
+fn number(word: Option<String>) -> Option<u32> {
+    word?.as_str().parse().ok()
+}
+
+// With a number of keys it prints their times, with a number of steps besides it takes these in the pattern of a channel,
+// and with no word it prints a line that is always the same.
 fn main(rt: HostRuntime) -> io::Result<()> {
-    let word = env::args(&rt)?.nth(1);
-    let Some(keys) = word.and_then(|word| word.parse::<u32>().ok()) else {
+    let mut words = env::args(&rt)?.skip(1);
+    let keys = number(words.next());
+    if let (Some(keys), Some(steps)) = (keys, number(words.next())) {
+        let left = channel::run(rt.alloc(), u64::from(keys), u64::from(steps))?;
+        return println!(rt; "{left}");
+    }
+    let Some(keys) = keys else {
         let spent = run(&rt, rt.alloc(), 64, 8, 100)?;
         return println!(rt; "{} deadlines put in and taken out", spent.dropped);
     };

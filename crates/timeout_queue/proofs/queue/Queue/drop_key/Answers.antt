@@ -1,23 +1,23 @@
 use Rattle.std.proofs.Common.{ap, is_some, sym, ◌∙◌}
-use Rattle.timeout_queue.proofs.QueueLemmas.{get-seen, seen_taken, same_taken}
+use Rattle.timeout_queue.specs.Rows.{is_live}
+use Rattle.timeout_queue.proofs.MomentLemmas.{get-seen, seen_taken, drops_live}
 use Rattle.timeout_queue.proofs.queue.Queue.drop_key.Goals as goal
 
--- the key was there: it leaves the tree, and its deadline the set
-pub invariant_of-self : goal.invariant_of-self
-invariant_of-self c =
+-- the key was there: its deadline is live no longer
+pub remove-requires-in-Some : goal.remove-requires-in-Some
+remove-requires-in-Some c =
     let q = c.self.inside in
-    same_taken q.by_key c.remove.new.self q.by_due c.remove-in-Some.new.self c.self.invariant _ _
-    (sym c.in-Some.ensures.value) c.remove.ensures.updates.0 c.remove-in-Some.ensures.updates
+    (is_live q.moments, c.self.invariant, drops_live q.moments c.remove.new.self _ _ (sym c.in-Some.ensures.value) c.remove.ensures.updates.0)
 
 pub returns-in-Some-clause-taken : goal.returns-in-Some-clause-taken
-returns-in-Some-clause-taken c = seen_taken c.self.inside.by_key c.remove.new.self _ _ c.self.view_is c.remove.ensures.updates.0
+returns-in-Some-clause-taken c = seen_taken c.self.inside.moments c.remove.new.self _ c.self.view_is c.args.key c.remove.ensures.updates.0
 
 pub returns-in-Some-clause-was_there : goal.returns-in-Some-clause-was_there
-returns-in-Some-clause-was_there c = ap is_some (c.in-Some.ensures.value ∙ sym (get-seen c.self.inside.by_key _ c.self.view_is c.args.key))
+returns-in-Some-clause-was_there c = ap is_some (c.in-Some.ensures.value ∙ sym (get-seen c.self.inside.moments _ c.self.view_is c.args.key))
 
 -- it was not
 pub returns-in-None-clause-taken : goal.returns-in-None-clause-taken
-returns-in-None-clause-taken c = seen_taken c.self.inside.by_key c.remove.new.self _ _ c.self.view_is c.remove.ensures.updates.0
+returns-in-None-clause-taken c = seen_taken c.self.inside.moments c.remove.new.self _ c.self.view_is c.args.key c.remove.ensures.updates.0
 
 pub returns-in-None-clause-was_there : goal.returns-in-None-clause-was_there
-returns-in-None-clause-was_there c = ap is_some (c.in-None.ensures.value ∙ sym (get-seen c.self.inside.by_key _ c.self.view_is c.args.key))
+returns-in-None-clause-was_there c = ap is_some (c.in-None.ensures.value ∙ sym (get-seen c.self.inside.moments _ c.self.view_is c.args.key))

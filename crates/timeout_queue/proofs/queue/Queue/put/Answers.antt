@@ -1,23 +1,24 @@
-use Rattle.std.proofs.lemmas.Result.{on_ok_weaker}
-use Rattle.timeout_queue.proofs.KeyLemmas.{key_cmp_total}
-use Rattle.timeout_queue.proofs.QueueLemmas.{get_absent, seen_put, same_filled}
-use Rattle.timeout_queue.proofs.TreeLemmas.{Sets-insert_entry}
+use Rattle.std.proofs.Common.{◌∙◌}
+use Rattle.timeout_queue.specs.Rows.{is_live}
+use Rattle.timeout_queue.proofs.MomentLemmas.{get_absent, seen_again, seen_put, have_again, adds_live, on_err, at_ok}
 use Rattle.timeout_queue.proofs.queue.Queue.put.Goals as goal
 
-pub fill-requires : goal.fill-requires
-fill-requires c = get_absent c.self.inside.by_key _ c.self.view_is c.args.key c.requires.absent
+-- room for one more leaves the moments as they were
+pub add-requires : goal.add-requires
+add-requires c = have_again c.self.inside.moments c.reserve.new.self c.self.inside.rows c.in_ok-reserve.ensures.entries.2 c.self.invariant
 
-pub invariant_of-self : goal.invariant_of-self
-invariant_of-self c =
-    let q = c.self.inside in
-    let absent = get_absent q.by_key _ c.self.view_is c.args.key c.requires.absent in
-    let facts = c.fill.ensures in
-    same_filled q.by_key c.fill.new.by_key q.by_due c.fill.new.by_due c.self.invariant c.args.key c.args.due
-    c.fill.result absent facts.moment facts.deadline facts.same_moments facts.same_deadlines
+pub returns-in_err-add-clause-err : goal.returns-in_err-add-clause-err
+returns-in_err-add-clause-err c = on_err _ _ (seen_again c.self.inside.moments c.reserve.new.self _ c.self.view_is c.in_ok-reserve.ensures.entries.2)
+
+-- with room the key takes its moment
+pub invariant_of-self-2 : goal.invariant_of-self-2
+invariant_of-self-2 c =
+    let sets = at_ok _ _ _ c.unwrap.ensures c.insert-taken_in.ensures.updates in
+    let absent = c.in_ok-reserve.ensures.entries.2 c.args.key ∙ get_absent c.self.inside.moments _ c.self.view_is c.args.key c.requires.absent in
+    c.in_ok-add.ensures.ok (is_live c.insert-taken_in.new.self) (adds_live c.reserve.new.self c.insert-taken_in.new.self _ _ absent sets.0)
 
 pub returns-clause-ok : goal.returns-clause-ok
 returns-clause-ok c =
-    let q = c.self.inside in
-    on_ok_weaker c.fill.result (λ inserted.
-    let sets = Sets-insert_entry key_cmp_total q.by_key c.fill.new.by_key _ _ inserted in
-    seen_put q.by_key c.fill.new.by_key _ _ c.self.view_is _ sets) c.fill.ensures.moment
+    let sets = at_ok _ _ _ c.unwrap.ensures c.insert-taken_in.ensures.updates in
+    let seen = seen_again c.self.inside.moments c.reserve.new.self _ c.self.view_is c.in_ok-reserve.ensures.entries.2 in
+    seen_put c.reserve.new.self c.insert-taken_in.new.self _ seen c.args.key c.args.due sets.0
