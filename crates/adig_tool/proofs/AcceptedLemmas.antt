@@ -26,14 +26,14 @@ use Rattle.adig_tool.specs.Kept.{IsKept}
 use Rattle.adig_tool.specs.Opening.{Opens, OpensName, OpensRead, StageOf, IsWaitingFor}
 use Rattle.adig_tool.specs.Setup.{setup}
 use Rattle.adig_tool.specs.Stages.{kept_for_destroy, kept_for_take, IsReadyWith}
-use Rattle.adig_tool.specs.Stands.{IsAsked, IsDone, IsOpen, StandsAt, MayBe, owed}
+use Rattle.adig_tool.specs.Stands.{IsAsked, IsDone, IsOpen, StandsAtStage, MayBe, owed}
 use Rattle.adig_tool.proofs.JournalLemmas.{asked_more, taken_same}
 use Rattle.channel_model.proofs.JournalLemmas.{lawful_push}
 use Rattle.adig_tool.proofs.PastLemmas.{along}
 use Rattle.adig_tool.proofs.StandsLemmas.{asks, answers}
 
 -- without an accepted request the stage is the first
-pub fresh_only : (setting : Setting) (stage : Stage) (past : Past) → StandsAt setting stage past → accepted past ≡ [] → stage ≡ Fresh
+pub fresh_only : (setting : Setting) (stage : Stage) (past : Past) → StandsAtStage setting stage past → accepted past ≡ [] → stage ≡ Fresh
 fresh_only setting Fresh past stands none = refl
 fresh_only setting (Pending request) past stands none = let some = stands.stands.accepts in absurd cc
 fresh_only setting (Ready ticket) past stands none = let some = stands.0.accepts in absurd cc
@@ -41,7 +41,7 @@ fresh_only setting Taken past stands none = let some = stands.1.accepts in absur
 
 -- the stage behind an Accept: it stands, and a Take is owed
 record Opened (setting : Setting) (new : Stage) (past : Past) : Type 0 where
-  stands : StandsAt setting new past
+  stands : StandsAtStage setting new past
   may_be : MayBe new false
   owes : owed new ≡ 1
 
@@ -108,7 +108,7 @@ kept_accepted old new spec opening server open_before open_still none added open
     let balance : length (asked_in old.entries.items) ≡ length (taken_in old.entries.items) + 0 = rw first at kept.balanced in
     record {
       lawful = rw server (lawful_push (setup old.server) old.entries.items new.entries.items (own_entry (Accept 1 spec (blank 0))) kept.lawful added (rw (kept.closed, open_before) refl, rw none refl));
-      stands = rw server (along (StandsAt (setup old.server) new.stage) old.entries.items new.entries.items (Accept 1 spec (blank 0)) added now.stands);
+      stands = rw server (along (StandsAtStage (setup old.server) new.stage) old.entries.items new.entries.items (Accept 1 spec (blank 0)) added now.stands);
       closed = along (λ past. is_destroyed past ≡ new.closed) old.entries.items new.entries.items (Accept 1 spec (blank 0)) added (kept.closed ∙ (open_before ∙ sym open_still));
       may_be = rw open_still now.may_be;
       balanced = omega (arith, ap length asked, ap length taken, length-append (asked_in old.entries.items) (spec ∷ []));

@@ -9,7 +9,7 @@ use mathlib.Core.List.{IsPrefix}
 use Rattle.chan_types.specs.declared.answer.Answer.{Answer}
 use Rattle.chan_types.specs.declared.journal.Entry.{Entry}
 use Rattle.chan_types.specs.declared.journal.What.{What}
-use Rattle.chan_types.specs.declared.journal.What.TheVariants.{Accept, Arrive, Cancel, Destroy, Expire, Fault, Start, Take}
+use Rattle.chan_types.specs.declared.journal.What.TheVariants.{Accept, Arrive, Cancel, Destroy, Expire, Fault, Start, Take, Servers}
 use Rattle.chan_types.specs.declared.script.Script.{Script}
 use Rattle.chan_types.specs.declared.spec.Spec.{Spec}
 use Rattle.channel_model.specs.AtOnce.{at_once}
@@ -74,10 +74,11 @@ module _ (setting : Setting) (request : ℕ) where
   completed_known Cancel past answer is = known_later request past Cancel (spec_known request past (mapped_of _ (spec_of request past) answer is))
   completed_known Destroy past answer is = known_later request past Destroy (spec_known request past (mapped_of _ (spec_of request past) answer is))
   completed_known (Take number) past answer is = absurd (cc is)
-  completed_known (Start number leg server link id moment) past answer is = absurd (cc is)
+  completed_known (Start number leg server link id mix moment) past answer is = absurd (cc is)
   completed_known (Arrive server link bytes) past answer is = searched_known (Arrive server link bytes ∷ past) answer is
   completed_known (Expire number leg moment) past answer is = searched_known (Expire number leg moment ∷ past) answer is
   completed_known (Fault server link moment) past answer is = searched_known (Fault server link moment ∷ past) answer is
+  completed_known (Servers list) past answer is = absurd (cc is)
 
   -- a request with a fate was accepted
   pub fate_known : (past : Past) (answer : Answer) → fate setting request past ≡ Some answer → IsKnown request past
@@ -119,10 +120,11 @@ taken_same (e ∷ journal) = by_what e.what (taken_same journal)
     by_what Cancel rest = rest
     by_what Destroy rest = rest
     by_what (Take number) rest = ap (λ l. number ∷ l) rest
-    by_what (Start number leg server link id moment) rest = rest
+    by_what (Start number leg server link id mix moment) rest = rest
     by_what (Arrive server link bytes) rest = rest
     by_what (Expire number leg moment) rest = rest
     by_what (Fault server link moment) rest = rest
+    by_what (Servers list) rest = rest
 
 -- the requests that were asked, either way
 pub asked_same : (journal : List Entry) → asked_in journal ≡ map (λ r. r.spec) (accepted_in journal)
@@ -135,10 +137,11 @@ asked_same (e ∷ journal) = by_what e.what (asked_same journal)
     by_what Cancel rest = rest
     by_what Destroy rest = rest
     by_what (Take number) rest = rest
-    by_what (Start number leg server link id moment) rest = rest
+    by_what (Start number leg server link id mix moment) rest = rest
     by_what (Arrive server link bytes) rest = rest
     by_what (Expire number leg moment) rest = rest
     by_what (Fault server link moment) rest = rest
+    by_what (Servers list) rest = rest
 
 -- as many calls as requests, each with a fate: one each
 one_each : (setting : Setting) (text : List ℕ) (past : Past) (xs : List Accepted) (calls : List Answer) →

@@ -17,7 +17,7 @@ use Rattle.adig_tool.specs.declared.channel.stage.Stage.{Stage}
 use Rattle.adig_tool.specs.declared.channel.stage.Stage.TheVariants.{Fresh, Pending, Ready, Taken}
 use Rattle.adig_tool.specs.Setup.{setup}
 use Rattle.adig_tool.specs.Stages.{attempt_of, deadline_of, is_there, Completes, IsReadyWith}
-use Rattle.adig_tool.specs.Stands.{IsAsked, StandsAt, MayBe, flown, the_leg}
+use Rattle.adig_tool.specs.Stands.{IsAsked, StandsAtStage, MayBe, flown, the_leg}
 use Rattle.adig_tool.proofs.FollowsLemmas.{Follows, stands_on, asked_ends, stands_ended, expire_only, fault_only}
 
 -- a fault that isn't where the attempt is
@@ -29,7 +29,7 @@ not_there setting (Some attempt) sender link moment past there = there
 -- the deadline of a request's attempt is the first
 due_asked : (server : ServerAddr) (question : Question) (past : Past) (attempt : Attempt) → IsAsked (setup server) question (Some attempt) past →
     first_due (setup server) past ≡ Some (record { at = deadline_of attempt; leg = the_leg })
-due_asked server question past attempt stands = rw (stands.stands.starts, stands.stands.flies, stands.stands.closes) refl
+due_asked server question past attempt stands = rw (stands.stands.starts, stands.stands.flies, stands.stands.falls_due) refl
 
 module _ (server : ServerAddr) (closed : Bool) where
   -- a fault on the link of a pending request's attempt ends it
@@ -40,7 +40,7 @@ module _ (server : ServerAddr) (closed : Bool) where
       asked_ends server closed (Fault sender link moment) request new past attempt (Failed ConnRefused) ConnRefused (fault_only server closed sender link moment past) stands there refl (inl refl) completes
 
   -- a fault on the attempt's link ends it
-  pub stands_failed : (sender link moment : ℕ) (stage new : Stage) (past : Past) → StandsAt (setup server) stage past → is_there (attempt_of stage) sender link ≡ true →
+  pub stands_failed : (sender link moment : ℕ) (stage new : Stage) (past : Past) → StandsAtStage (setup server) stage past → is_there (attempt_of stage) sender link ≡ true →
       Completes ConnRefused [] stage new → Follows (setup server) closed stage new (Fault sender link moment ∷ past)
   stands_failed sender link moment Fresh new past stands there completes = absurd cc
   stands_failed sender link moment (Pending request) new past stands there completes = failed_asked sender link moment request.attempt request new past stands there completes
@@ -48,13 +48,13 @@ module _ (server : ServerAddr) (closed : Bool) where
   stands_failed sender link moment Taken new past stands there completes = absurd cc
 
   -- a fault elsewhere ends nothing
-  pub stands_elsewhere : (sender link moment : ℕ) (stage : Stage) (past : Past) → MayBe stage closed → StandsAt (setup server) stage past → is_there (attempt_of stage) sender link ≡ false →
+  pub stands_elsewhere : (sender link moment : ℕ) (stage : Stage) (past : Past) → MayBe stage closed → StandsAtStage (setup server) stage past → is_there (attempt_of stage) sender link ≡ false →
       Follows (setup server) closed stage stage (Fault sender link moment ∷ past)
   stands_elsewhere sender link moment stage past may stands there =
       stands_on server closed (Fault sender link moment) stage past (fault_only server closed sender link moment past) may stands (not_there (setup server) (attempt_of stage) sender link moment past there)
 
   -- the deadline of the attempt in flight is the first
-  pub first_due_at : (stage : Stage) (past : Past) (attempt : Attempt) → StandsAt (setup server) stage past → attempt_of stage ≡ Some attempt →
+  pub first_due_at : (stage : Stage) (past : Past) (attempt : Attempt) → StandsAtStage (setup server) stage past → attempt_of stage ≡ Some attempt →
       first_due (setup server) past ≡ Some (record { at = deadline_of attempt; leg = the_leg })
   first_due_at Fresh past attempt stands is = absurd cc
   first_due_at (Pending request) past attempt stands is = due_asked server request.question past attempt (rw is at stands)
@@ -62,7 +62,7 @@ module _ (server : ServerAddr) (closed : Bool) where
   first_due_at Taken past attempt stands is = absurd cc
 
   -- an attempt that expires ends
-  pub stands_expired : (moment : ℕ) (stage new : Stage) (past : Past) (attempt : Attempt) → StandsAt (setup server) stage past → attempt_of stage ≡ Some attempt →
+  pub stands_expired : (moment : ℕ) (stage new : Stage) (past : Past) (attempt : Attempt) → StandsAtStage (setup server) stage past → attempt_of stage ≡ Some attempt →
       Completes TimedOut [] stage new → Follows (setup server) closed stage new (Expire 1 0 moment ∷ past)
   stands_expired moment stage new past attempt stands is completes =
       stands_ended server closed (Expire 1 0 moment) stage new past attempt (Failed TimedOut) TimedOut (expire_only server closed 1 0 moment past) stands is refl refl (inl refl) completes

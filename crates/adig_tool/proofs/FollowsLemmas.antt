@@ -16,6 +16,7 @@ use Rattle.channel_model.specs.Merge.{bare}
 use Rattle.channel_model.specs.Past.{Closing, bytes_of, closing_of, outcome_of, with_closing}
 use Rattle.channel_model.specs.declared.judged.Judged.{Judged}
 use Rattle.channel_model.specs.Search.{search_answer}
+use Rattle.channel_model.specs.Servers.{servers_set_by}
 use Rattle.channel_model.specs.Setting.{Setting}
 use Rattle.adig_tool.specs.declared.channel.stage.Attempt.{Attempt}
 use Rattle.adig_tool.specs.declared.channel.stage.Request.{Request}
@@ -23,14 +24,14 @@ use Rattle.adig_tool.specs.declared.channel.stage.Stage.{Stage}
 use Rattle.adig_tool.specs.declared.channel.stage.Stage.TheVariants.{Fresh, Pending, Ready, Taken}
 use Rattle.adig_tool.specs.Setup.{setup}
 use Rattle.adig_tool.specs.Stages.{attempt_of, kept_for_take, Completes, IsReadyWith}
-use Rattle.adig_tool.specs.Stands.{IsAsked, IsDone, StandsAt, MayBe, flown, owed}
+use Rattle.adig_tool.specs.Stands.{IsAsked, IsDone, StandsAtStage, MayBe, flown, owed}
 use Rattle.adig_tool.proofs.EndingLemmas.{by_search, destroyed, flies_on, lands, no_closing, none_flies_on}
 use Rattle.adig_tool.proofs.StandsLemmas.{LeavesReady, ends, fresh_stays, rests, stays}
 use Rattle.adig_tool.proofs.VerdictLemmas.{EndsWith, end_of_one}
 
 -- the stage behind an entry: what the past says then, that it may be, and what is owed and kept for it as before
 pub record Follows (setting : Setting) (closed : Bool) (stage new : Stage) (past : Past) : Type 0 where
-  pub stands : StandsAt setting new past
+  pub stands : StandsAtStage setting new past
   pub may_be : MayBe new closed
   pub owes : owed new ≡ owed stage
   pub keeps : kept_for_take new ≡ kept_for_take stage
@@ -44,9 +45,9 @@ ready_with setting closed request answer (Ready ticket) past one is done = recor
 ready_with setting closed request answer Taken past one is done = absurd is
 
 -- a Destroy completes a pending request, and leaves any other as it is
-pub stands_destroyed : (setting : Setting) (stage new : Stage) (past : Past) → StandsAt setting stage past → Completes Destruction [] stage new → Follows setting true stage new (Destroy ∷ past)
+pub stands_destroyed : (setting : Setting) (stage new : Stage) (past : Past) → StandsAtStage setting stage past → Completes Destruction [] stage new → Follows setting true stage new (Destroy ∷ past)
 stands_destroyed setting Fresh new past stands completes =
-    rw completes (record { stands = fresh_stays setting Destroy past refl refl (λ waiting is. rw is refl) (rw stands.accepts refl) stands; may_be = tt; owes = refl; keeps = refl })
+    rw completes (record { stands = fresh_stays setting Destroy past refl refl (λ waiting is. rw is refl) (rw stands.accepts refl) refl stands; may_be = tt; owes = refl; keeps = refl })
 stands_destroyed setting (Pending request) new past stands completes =
     ready_with setting true request (bare 1 Destruction []) new (Destroy ∷ past) refl completes
     (ends setting Destroy past stands.text request.question _ _ (bare 1 Destruction []) refl refl (λ waiting is. rw is refl) (none_flies_on setting past _) (destroyed setting stands.text request.question past _ _ stands.stands) stands.stands)
@@ -61,6 +62,7 @@ module _ (server : ServerAddr) (closed : Bool) where
     pub accepts : accepted_by what ≡ None
     pub begins : begun_by what ≡ None
     pub leaves : LeavesReady (setup server) what past
+    pub sets : servers_set_by what ≡ None
     pub searches : completed_by (setup server) 1 what past ≡ search_answer (setup server) 1 (what ∷ past)
 
   -- so does it leave a pending request
@@ -71,7 +73,7 @@ module _ (server : ServerAddr) (closed : Bool) where
     absolute = stands.absolute;
     named = stands.named;
     stands = stays (setup server) what past stands.text question false None only.accepts only.begins only.leaves refl refl
-        (only.searches ∙ by_search (setup server) stands.text question stands.absolute stands.named what past false None None only.accepts stands.stands refl) stands.stands;
+        (only.searches ∙ by_search (setup server) stands.text question stands.absolute stands.named what past false None None only.accepts stands.stands refl) only.sets stands.stands;
   }
   waits_on what question (Some attempt) past only stands closes = record {
     text = stands.text;
@@ -80,14 +82,14 @@ module _ (server : ServerAddr) (closed : Bool) where
     stands = stays (setup server) what past stands.text question true (Some (flown attempt)) only.accepts only.begins only.leaves
         (flies_on (setup server) what past (flown attempt) closes) (no_closing (setup server) what past (flown attempt) closes)
         (only.searches ∙ by_search (setup server) stands.text question stands.absolute stands.named what past true (Some (flown attempt)) None only.accepts stands.stands
-        (ap end_of (no_closing (setup server) what past (flown attempt) closes))) stands.stands;
+        (ap end_of (no_closing (setup server) what past (flown attempt) closes))) only.sets stands.stands;
   }
 
   -- an entry that closes no attempt leaves the stage as it is
-  pub stands_on : (what : What) (stage : Stage) (past : Past) → EndsOnly what past → MayBe stage closed → StandsAt (setup server) stage past →
+  pub stands_on : (what : What) (stage : Stage) (past : Past) → EndsOnly what past → MayBe stage closed → StandsAtStage (setup server) stage past →
       IfSome (attempt_of stage) (λ attempt. closes (setup server) (flown attempt) what past ≡ false) → Follows (setup server) closed stage stage (what ∷ past)
   stands_on what Fresh past only may stands closes = record {
-    stands = fresh_stays (setup server) what past only.accepts only.begins only.leaves (rw (only.searches, stands.accepts, only.accepts) refl) stands;
+    stands = fresh_stays (setup server) what past only.accepts only.begins only.leaves (rw (only.searches, stands.accepts, only.accepts) refl) only.sets stands;
     may_be = tt;
     owes = refl;
     keeps = refl;
@@ -119,7 +121,7 @@ module _ (server : ServerAddr) (closed : Bool) where
   asked_ends what request new past attempt judged status only stands closes outcome with is =
       let closing : Closing = closing_of (setup server) (flown attempt) what past [] in
       let ended : end_of (with_closing (setup server) what past (Some (flown attempt)) []) ≡ Some (record { status = status; reply = bytes_of what }) =
-      rw closes (end_of_one closing judged status refl outcome with) in
+      rw closes (end_of_one closing judged status (rw stands.stands.lists refl) outcome with) in
       ready_with (setup server) closed request (bare 1 status (bytes_of what)) new (what ∷ past) refl is
       (ends (setup server) what past stands.text request.question true (Some (flown attempt)) (bare 1 status (bytes_of what)) only.accepts only.begins only.leaves
       (lands (setup server) what past (flown attempt) closes)
@@ -128,7 +130,7 @@ module _ (server : ServerAddr) (closed : Bool) where
 
   -- an entry that ends the attempt in flight, and with it the request
   pub stands_ended : (what : What) (stage new : Stage) (past : Past) (attempt : Attempt) (judged : Judged) (status : Status) →
-      EndsOnly what past → StandsAt (setup server) stage past → attempt_of stage ≡ Some attempt →
+      EndsOnly what past → StandsAtStage (setup server) stage past → attempt_of stage ≡ Some attempt →
       closes (setup server) (flown attempt) what past ≡ true → outcome_of (setup server) (flown attempt) what past [] ≡ Some judged → EndsWith judged status →
       Completes status (bytes_of what) stage new → Follows (setup server) closed stage new (what ∷ past)
   stands_ended what Fresh new past attempt judged status only stands is closes outcome with completes = absurd cc
@@ -139,10 +141,10 @@ module _ (server : ServerAddr) (closed : Bool) where
 
   -- messages, expiries and faults are such entries
   pub arrive_only : (sender link : ℕ) (bytes : List ℕ) (past : Past) → EndsOnly (Arrive sender link bytes) past
-  arrive_only sender link bytes past = record { accepts = refl; begins = refl; leaves = λ waiting is. rw is refl; searches = refl }
+  arrive_only sender link bytes past = record { accepts = refl; begins = refl; leaves = λ waiting is. rw is refl; sets = refl; searches = refl }
 
   pub expire_only : (request leg moment : ℕ) (past : Past) → EndsOnly (Expire request leg moment) past
-  expire_only request leg moment past = record { accepts = refl; begins = refl; leaves = λ waiting is. rw is refl; searches = refl }
+  expire_only request leg moment past = record { accepts = refl; begins = refl; leaves = λ waiting is. rw is refl; sets = refl; searches = refl }
 
   pub fault_only : (sender link moment : ℕ) (past : Past) → EndsOnly (Fault sender link moment) past
-  fault_only sender link moment past = record { accepts = refl; begins = refl; leaves = λ waiting is. rw is refl; searches = refl }
+  fault_only sender link moment past = record { accepts = refl; begins = refl; leaves = λ waiting is. rw is refl; sets = refl; searches = refl }

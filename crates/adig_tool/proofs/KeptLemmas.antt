@@ -10,7 +10,7 @@ use Rattle.adig_tool.specs.Entries.{asked_by, taken_by, own_entry}
 use Rattle.adig_tool.specs.Kept.{IsKept}
 use Rattle.adig_tool.specs.Setup.{setup}
 use Rattle.adig_tool.specs.Stages.{kept_for_destroy, kept_for_take}
-use Rattle.adig_tool.specs.Stands.{StandsAt}
+use Rattle.adig_tool.specs.Stands.{StandsAtStage}
 use Rattle.adig_tool.proofs.JournalLemmas.{balanced_more}
 use Rattle.channel_model.proofs.JournalLemmas.{lawful_push}
 use Rattle.adig_tool.proofs.PastLemmas.{along}
@@ -24,7 +24,7 @@ pub kept_more : (old new : Inside) (what : What) →
     vec_len new.entries + kept_for_take old.stage + kept_for_destroy new.closed ≤ vec_capacity new.entries → IsKept new
 kept_more old new what server added asks takes kept allowed closed follows room = record {
   lawful = rw server (lawful_push (setup old.server) old.entries.items new.entries.items (own_entry what) kept.lawful added allowed);
-  stands = rw server (along (StandsAt (setup old.server) new.stage) old.entries.items new.entries.items what added follows.stands);
+  stands = rw server (along (StandsAtStage (setup old.server) new.stage) old.entries.items new.entries.items what added follows.stands);
   closed = along (λ past. is_destroyed past ≡ new.closed) old.entries.items new.entries.items what added (ap (λ before. is_destroy what || before) kept.closed ∙ closed);
   may_be = follows.may_be;
   balanced = balanced_more old.entries.items new.entries.items what _ _ added asks takes follows.owes kept.balanced;

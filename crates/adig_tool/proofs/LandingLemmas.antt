@@ -5,7 +5,7 @@ use Rattle.chan_types.specs.declared.journal.What.TheVariants.{Arrive}
 use Rattle.chan_types.specs.declared.status.Status.{Status}
 use Rattle.dns_message.specs.declared.message.Question.{Question}
 use Rattle.net_addr.specs.declared.addr.ServerAddr.{ServerAddr}
-use Rattle.channel_model.specs.Flight.{closes}
+use Rattle.channel_model.specs.Flight.{answer_to, closes}
 use Rattle.channel_model.specs.Journal.{Past}
 use Rattle.channel_model.specs.Merge.{bare}
 use Rattle.channel_model.specs.Verdict.{verdict_of}
@@ -14,10 +14,10 @@ use Rattle.adig_tool.specs.declared.channel.stage.Attempt.{Attempt}
 use Rattle.adig_tool.specs.declared.channel.stage.Request.{Request}
 use Rattle.adig_tool.specs.declared.channel.stage.Stage.{Stage}
 use Rattle.adig_tool.specs.declared.channel.stage.Stage.TheVariants.{Fresh, Pending, Ready, Taken}
-use Rattle.adig_tool.specs.Reply.{reply_to, status_of_reply}
+use Rattle.adig_tool.specs.Reply.{status_of_reply}
 use Rattle.adig_tool.specs.Setup.{setup, setup_flags}
 use Rattle.adig_tool.specs.Stages.{attempt_of, ended_by, ending_by, Completes, CompletesIf, IsReadyWith}
-use Rattle.adig_tool.specs.Stands.{IsAsked, StandsAt, MayBe, flown}
+use Rattle.adig_tool.specs.Stands.{IsAsked, StandsAtStage, MayBe, flown}
 use Rattle.adig_tool.proofs.VerdictLemmas.{judged_once}
 use Rattle.adig_tool.proofs.FollowsLemmas.{Follows, stands_on, asked_ends, arrive_only}
 
@@ -41,7 +41,7 @@ unmatched false read is = refl
 module _ (server : ServerAddr) (closed : Bool) (sender link : ℕ) (bytes : List ℕ) (past : Past) where
   -- a reply to a pending request's attempt ends it
   answered_by : (attempt : Attempt) (request : Request) (new : Stage) (reply : Reply) (status : Status) → IsAsked (setup server) request.question (Some attempt) past →
-      (0 == sender) && (0 == link) ≡ true → reply_to attempt.id request.question bytes ≡ Some reply → status_of_reply reply ≡ status →
+      (0 == sender) && (0 == link) ≡ true → answer_to attempt.id false (Some request.question) bytes ≡ Some reply → status_of_reply reply ≡ status →
       IsReadyWith (bare 1 status bytes) new → Follows (setup server) closed (Pending request) new (Arrive sender link bytes ∷ past)
   answered_by attempt request new reply status stands went reads means completes =
       asked_ends server closed (Arrive sender link bytes) request new past attempt (verdict_of setup_flags false false None reply) status (arrive_only server closed sender link bytes past) stands
@@ -53,11 +53,11 @@ module _ (server : ServerAddr) (closed : Bool) (sender link : ℕ) (bytes : List
       ended_by attempt request.question sender link bytes ≡ Some status → IsReadyWith (bare 1 status bytes) new → Follows (setup server) closed (Pending request) new (Arrive sender link bytes ∷ past)
   answered_asked None request new status stands is completes = absurd cc
   answered_asked (Some attempt) request new status stands is completes =
-      let found : Matches ((0 == sender) && (0 == link)) (reply_to attempt.id request.question bytes) status = matches _ _ status is in
+      let found : Matches ((0 == sender) && (0 == link)) (answer_to attempt.id false (Some request.question) bytes) status = matches _ _ status is in
       answered_by attempt request new found.reply status stands found.went found.reads found.ends completes
 
   -- the reply to the attempt in flight ends it
-  pub stands_answered : (stage new : Stage) (status : Status) → StandsAt (setup server) stage past → ending_by stage sender link bytes ≡ Some status →
+  pub stands_answered : (stage new : Stage) (status : Status) → StandsAtStage (setup server) stage past → ending_by stage sender link bytes ≡ Some status →
       Completes status bytes stage new → Follows (setup server) closed stage new (Arrive sender link bytes ∷ past)
   stands_answered Fresh new status stands is completes = absurd cc
   stands_answered (Pending request) new status stands is completes = answered_asked request.attempt request new status stands is completes
@@ -68,9 +68,9 @@ module _ (server : ServerAddr) (closed : Bool) (sender link : ℕ) (bytes : List
   missed_asked : (attempt : Option Attempt) (question : Question) → IsAsked (setup server) question attempt past →
       ended_by attempt question sender link bytes ≡ None → IfSome attempt (λ attempt. closes (setup server) (flown attempt) (Arrive sender link bytes) past ≡ false)
   missed_asked None question stands is = tt
-  missed_asked (Some attempt) question stands is = rw (stands.stands.accepts, stands.named) (unmatched ((0 == sender) && (0 == link)) (reply_to attempt.id question bytes) is)
+  missed_asked (Some attempt) question stands is = rw (stands.stands.accepts, stands.named) (unmatched ((0 == sender) && (0 == link)) (answer_to attempt.id false (Some question) bytes) is)
 
-  missed : (stage : Stage) → StandsAt (setup server) stage past → ending_by stage sender link bytes ≡ None →
+  missed : (stage : Stage) → StandsAtStage (setup server) stage past → ending_by stage sender link bytes ≡ None →
       IfSome (attempt_of stage) (λ attempt. closes (setup server) (flown attempt) (Arrive sender link bytes) past ≡ false)
   missed Fresh stands is = tt
   missed (Pending request) stands is = missed_asked request.attempt request.question stands is
@@ -78,13 +78,13 @@ module _ (server : ServerAddr) (closed : Bool) (sender link : ℕ) (bytes : List
   missed Taken stands is = tt
 
   -- a stray changes nothing
-  pub stands_missed : (stage : Stage) → MayBe stage closed → StandsAt (setup server) stage past → ending_by stage sender link bytes ≡ None →
+  pub stands_missed : (stage : Stage) → MayBe stage closed → StandsAtStage (setup server) stage past → ending_by stage sender link bytes ≡ None →
       Follows (setup server) closed stage stage (Arrive sender link bytes ∷ past)
   stands_missed stage may stands is =
       stands_on server closed (Arrive sender link bytes) stage past (arrive_only server closed sender link bytes past) may stands (missed stage stands is)
 
   -- a message that came ends the attempt that it answers, or changes nothing
-  pub stands_arrived : (ending : Option Status) (stage new : Stage) → MayBe stage closed → StandsAt (setup server) stage past → ending_by stage sender link bytes ≡ ending →
+  pub stands_arrived : (ending : Option Status) (stage new : Stage) → MayBe stage closed → StandsAtStage (setup server) stage past → ending_by stage sender link bytes ≡ ending →
       CompletesIf ending bytes stage new → Follows (setup server) closed stage new (Arrive sender link bytes ∷ past)
   stands_arrived None stage new may stands is completes = rw completes (stands_missed stage may stands is)
   stands_arrived (Some status) stage new may stands is completes = stands_answered stage new status stands is completes

@@ -54,20 +54,22 @@ module _ (setting : Setting) (text : List ℕ) (journal : List Entry) (at_most :
       by xs (inr is) = rw is (found (1 == n))
 
   module _ (orders : Orders) (last : ℕ) (own : list_all is_own journal ≡ true) where
-    performed_one : (n : ℕ) → n ≡ 1 → IsPerformed setting journal orders last (nobody_commanded n)
+    performed_one : (n : ℕ) → n ≡ 1 → IsPerformed setting journal 1 orders last (nobody_commanded n)
     performed_one n one = record {
+      seated = omega arith;
       became = rw (no_command orders n) tt;
       entries_are = none_by n one 0 journal own;
       of_seat = all_pass is_own (λ entry. not (entry.by == n) || (entry.seat == 0)) (λ e h. seated (not (e.by == n)) (e.seat == 0) (both_hold (e.seat == 0) (e.by == 0) h).0) journal own;
       in_time = refl;
       behind_take = refl;
+      before_other_work = refl;
     }
       where
         seated : (a b : Bool) → b ≡ true → (a || b) ≡ true
         seated true b h = refl
         seated false b h = h
 
-    performed_all : (ns : List ℕ) → list_all (λ n. n == 1) ns ≡ true → ArePerformed setting journal orders last (map nobody_commanded ns)
+    performed_all : (ns : List ℕ) → list_all (λ n. n == 1) ns ≡ true → ArePerformed setting journal 1 orders last (map nobody_commanded ns)
     performed_all [] ones = tt
     performed_all (n ∷ ns) ones =
         let now = first_passes (λ m. m == 1) n ns ones in
@@ -101,7 +103,7 @@ none_lost (n ∷ ns) =
     omega (arith, none, none_lost ns, sum_by-cons (λ p. count_by is_lost p.outcomes) (nobody_commanded n) (map nobody_commanded ns))
 
 pub obeyed : (setting : Setting) (text : List ℕ) (journal : List Entry) (calls : List Answer) (orders : Orders) (last : ℕ) → IsPrefix (accepted (past_of journal)) (request_for text ∷ []) →
-    list_all is_own journal ≡ true → taken_from journal ≡ numbers_of calls → AreFates setting (past_of journal) calls → ObeysOrders setting journal orders last 0
+    list_all is_own journal ≡ true → taken_from journal ≡ numbers_of calls → AreFates setting (past_of journal) calls → ObeysOrders setting journal 1 orders last 0
 obeyed setting text journal calls orders last at_most own takes fates = record {
   performances = map nobody_commanded (numbers_of calls);
   requests_are = requests_same (numbers_of calls) ∙ sym takes ∙ sym (taken_later [] journal);

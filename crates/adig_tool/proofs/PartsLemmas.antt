@@ -128,7 +128,7 @@ expire_stands a b l request leg moment adds = record {
 
 -- the attempt of a Start over datagrams
 abbrev attempt_at : ℕ → ℕ → ℕ → ℕ → ℕ → Attempt
-attempt_at request leg server id moment = record { leg = leg_of request leg; server = server; link = 0; id = id; moment = moment }
+attempt_at request leg server id moment = record { leg = leg_of request leg; server = server; link = 0; id = id; mix = None; moment = moment }
 
 -- the query that was begun is the one that the journal means
 query_is : (setting : Setting) (past : Past) (request leg server id moment : ℕ) (bytes : List ℕ) →
@@ -136,11 +136,11 @@ query_is : (setting : Setting) (past : Past) (request leg server id moment : ℕ
 query_is setting past request leg server id moment bytes is = rw is.asked (sym is.spelled)
 
 -- an attempt was begun and its query was sent
-pub query_goes : (a b : Seen) (l m : Option (List WorldCall)) (word moment request leg server link id : ℕ) (bytes : List ℕ) →
-    Begins a b word moment (leg_of request leg) server link id bytes → AddsCall l m (Send server bytes WasSent) → Proceeds 0 [] [] a b l m
-query_goes a b l m word moment request leg server link id bytes begins log =
-    let adds : Adds a b (Start request leg server 0 id moment) = subst (λ k. Adds a b (Start request leg server k id moment)) begins.over_datagrams begins.adds in
-    entry_call a b (Start request leg server 0 id moment) adds (record { open' = refl; accepts = refl; takes = refl }) l m (Send server bytes WasSent) refl
+pub query_goes : (a b : Seen) (l m : Option (List WorldCall)) (word moment request leg server : ℕ) (address : ServerAddr) (link id : ℕ) (bytes : List ℕ) →
+    Begins a b word moment (leg_of request leg) server address link id bytes → AddsCall l m (Send server bytes WasSent) → Proceeds 0 [] [] a b l m
+query_goes a b l m word moment request leg server address link id bytes begins log =
+    let adds : Adds a b (Start request leg server 0 id None moment) = subst (λ k. Adds a b (Start request leg server k id None moment)) begins.over_datagrams begins.adds in
+    entry_call a b (Start request leg server 0 id None moment) adds (record { open' = refl; accepts = refl; takes = refl }) l m (Send server bytes WasSent) refl
     (record {
       past_is = refl;
       held_are = refl;
@@ -185,17 +185,17 @@ broke_here a l m same = subst (λ k. BreaksOff [] [] a a l k) (sym same) (breaks
 
 -- what a Start asks over a link
 abbrev asked_over : Seen → ℕ → ℕ → ℕ → ℕ → ℕ → ℕ → List ℕ
-asked_over a request leg server id moment k = noted 0 (queued (setting_of a) k) (past_in a) (own_entry (Start request leg server 0 id moment) ∷ [])
+asked_over a request leg server id moment k = noted 0 (queued (setting_of a) k) (past_in a) (own_entry (Start request leg server 0 id None moment) ∷ [])
 
 -- an attempt was begun, and its query wasn't sent any more
-pub query_unsent : (a b : Seen) (l m : Option (List WorldCall)) (word moment request leg server link id : ℕ) (bytes : List ℕ) →
-    Begins a b word moment (leg_of request leg) server link id bytes → m ≡ l → BreaksOff [] [] a b l m
-query_unsent a b l m word moment request leg server link id bytes begins same =
-    let adds : Adds a b (Start request leg server 0 id moment) = subst (λ k. Adds a b (Start request leg server k id moment)) begins.over_datagrams begins.adds in
+pub query_unsent : (a b : Seen) (l m : Option (List WorldCall)) (word moment request leg server : ℕ) (address : ServerAddr) (link id : ℕ) (bytes : List ℕ) →
+    Begins a b word moment (leg_of request leg) server address link id bytes → m ≡ l → BreaksOff [] [] a b l m
+query_unsent a b l m word moment request leg server address link id bytes begins same =
+    let adds : Adds a b (Start request leg server 0 id None moment) = subst (λ k. Adds a b (Start request leg server k id None moment)) begins.over_datagrams begins.adds in
     subst (λ k. BreaksOff [] [] a b l k) (sym same) (record {
-      entries = own_entry (Start request leg server 0 id moment) ∷ [];
-      goes_on = goes_one a b (Start request leg server 0 id moment) adds (record { open' = refl; accepts = refl; takes = refl });
-      told = told_none (NearFrom a (own_entry (Start request leg server 0 id moment) ∷ [])) (record {
+      entries = own_entry (Start request leg server 0 id None moment) ∷ [];
+      goes_on = goes_one a b (Start request leg server 0 id None moment) adds (record { open' = refl; accepts = refl; takes = refl });
+      told = told_none (NearFrom a (own_entry (Start request leg server 0 id None moment) ∷ [])) (record {
         arrivals = inl refl;
         sends = inr (inl (record { last = record { server = server; link = 0; bytes = query_bytes (setting_of a) (past_in a) (attempt_at request leg server id moment) }; is_behind = refl }));
         links = inl refl;
@@ -205,14 +205,14 @@ query_unsent a b l m word moment request leg server link id bytes begins same =
     })
 
 -- an attempt was begun, its query failed, and the Fault found no memory
-pub failed_unkept : (a b c : Seen) (l m : Option (List WorldCall)) (word moment request leg server link id : ℕ) (bytes : List ℕ) →
-    Begins a b word moment (leg_of request leg) server link id bytes → AddsCall l m (Send server bytes NotSent) → c ≡ b → BreaksOff [] [] a c l m
-failed_unkept a b c l m word moment request leg server link id bytes begins log same =
-    let adds : Adds a b (Start request leg server 0 id moment) = subst (λ k. Adds a b (Start request leg server k id moment)) begins.over_datagrams begins.adds in
+pub failed_unkept : (a b c : Seen) (l m : Option (List WorldCall)) (word moment request leg server : ℕ) (address : ServerAddr) (link id : ℕ) (bytes : List ℕ) →
+    Begins a b word moment (leg_of request leg) server address link id bytes → AddsCall l m (Send server bytes NotSent) → c ≡ b → BreaksOff [] [] a c l m
+failed_unkept a b c l m word moment request leg server address link id bytes begins log same =
+    let adds : Adds a b (Start request leg server 0 id None moment) = subst (λ k. Adds a b (Start request leg server k id None moment)) begins.over_datagrams begins.adds in
     subst (λ k. BreaksOff [] [] a k l m) (sym same) (record {
-      entries = own_entry (Start request leg server 0 id moment) ∷ [];
-      goes_on = goes_one a b (Start request leg server 0 id moment) adds (record { open' = refl; accepts = refl; takes = refl });
-      told = told_one (NearFrom a (own_entry (Start request leg server 0 id moment) ∷ [])) l m (Send server bytes NotSent) log (record {
+      entries = own_entry (Start request leg server 0 id None moment) ∷ [];
+      goes_on = goes_one a b (Start request leg server 0 id None moment) adds (record { open' = refl; accepts = refl; takes = refl });
+      told = told_one (NearFrom a (own_entry (Start request leg server 0 id None moment) ∷ [])) l m (Send server bytes NotSent) log (record {
         arrivals = inl refl;
         sends = inl (rw (query_is (setting_of a) (past_in a) request leg server id moment bytes begins.message) refl);
         links = inl refl;
@@ -222,18 +222,18 @@ failed_unkept a b c l m word moment request leg server link id bytes begins log 
     })
 
 -- an attempt was begun, its query failed, and its Fault stands
-pub query_fails : (a b c : Seen) (l m : Option (List WorldCall)) (word moment request leg server link id : ℕ) (bytes : List ℕ) →
-    Begins a b word moment (leg_of request leg) server link id bytes → AddsCall l m (Send server bytes NotSent) → Adds b c (Fault server link moment) → Proceeds 0 [] [] a c l m
-query_fails a b c l m word moment request leg server link id bytes begins log faulted =
-    let adds : Adds a b (Start request leg server 0 id moment) = subst (λ k. Adds a b (Start request leg server k id moment)) begins.over_datagrams begins.adds in
+pub query_fails : (a b c : Seen) (l m : Option (List WorldCall)) (word moment request leg server : ℕ) (address : ServerAddr) (link id : ℕ) (bytes : List ℕ) →
+    Begins a b word moment (leg_of request leg) server address link id bytes → AddsCall l m (Send server bytes NotSent) → Adds b c (Fault server link moment) → Proceeds 0 [] [] a c l m
+query_fails a b c l m word moment request leg server address link id bytes begins log faulted =
+    let adds : Adds a b (Start request leg server 0 id None moment) = subst (λ k. Adds a b (Start request leg server k id None moment)) begins.over_datagrams begins.adds in
     let then_ : Adds b c (Fault server 0 moment) = subst (λ k. Adds b c (Fault server k moment)) begins.over_datagrams faulted in
-    let past_is : past_in c ≡ Fault server 0 moment ∷ Start request leg server 0 id moment ∷ past_in a =
-    past_one b c (Fault server 0 moment) then_ ∙ ap (λ past. Fault server 0 moment ∷ past) (past_one a b (Start request leg server 0 id moment) adds) in
-    let both : List Entry = own_entry (Start request leg server 0 id moment) ∷ own_entry (Fault server 0 moment) ∷ [] in
+    let past_is : past_in c ≡ Fault server 0 moment ∷ Start request leg server 0 id None moment ∷ past_in a =
+    past_one b c (Fault server 0 moment) then_ ∙ ap (λ past. Fault server 0 moment ∷ past) (past_one a b (Start request leg server 0 id None moment) adds) in
+    let both : List Entry = own_entry (Start request leg server 0 id None moment) ∷ own_entry (Fault server 0 moment) ∷ [] in
     record {
       entries = both;
-      goes_on = goes_trans [] [] [] [] a b c (own_entry (Start request leg server 0 id moment) ∷ []) (own_entry (Fault server 0 moment) ∷ [])
-          (goes_one a b (Start request leg server 0 id moment) adds (record { open' = refl; accepts = refl; takes = refl }))
+      goes_on = goes_trans [] [] [] [] a b c (own_entry (Start request leg server 0 id None moment) ∷ []) (own_entry (Fault server 0 moment) ∷ [])
+          (goes_one a b (Start request leg server 0 id None moment) adds (record { open' = refl; accepts = refl; takes = refl }))
           (goes_one b c (Fault server 0 moment) then_ (record { open' = refl; accepts = refl; takes = refl }));
       told = told_one (AgreesIn 0 a c both) l m (Send server bytes NotSent) log (record {
         agrees = subst (λ past. Agrees (setting_of a) 0 (unlinked (past_in a)) both (Send server bytes NotSent ∷ []) (unlinked past)) (sym past_is)

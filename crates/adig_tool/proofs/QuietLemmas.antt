@@ -6,7 +6,7 @@ use Rattle.std.proofs.lemmas.List.{append-nil}
 use Rattle.chan_types.specs.declared.answer.Answer.{Answer}
 use Rattle.chan_types.specs.declared.journal.Entry.{Entry}
 use Rattle.chan_types.specs.declared.journal.What.{What}
-use Rattle.chan_types.specs.declared.journal.What.TheVariants.{Accept, Arrive, Cancel, Destroy, Expire, Fault, Start, Take}
+use Rattle.chan_types.specs.declared.journal.What.TheVariants.{Accept, Arrive, Cancel, Destroy, Expire, Fault, Start, Take, Servers}
 use Rattle.net_world.specs.declared.log.WorldCall.{WorldCall}
 use Rattle.channel_model.specs.CutShort.{IsNear, NearlyAgrees}
 use Rattle.channel_model.specs.Journal.{Past, followed_by}
@@ -24,10 +24,11 @@ is_quiet (Accept number spec script) = false
 is_quiet Cancel = false
 is_quiet Destroy = true
 is_quiet (Take number) = true
-is_quiet (Start number leg server link id moment) = false
+is_quiet (Start number leg server link id mix moment) = false
 is_quiet (Arrive server link bytes) = false
 is_quiet (Expire number leg moment) = false
 is_quiet (Fault server link moment) = false
+is_quiet (Servers list) = false
 
 -- what notes nothing of a quiet event
 abbrev pub PassesQuiet : {A : Type 0} → (Past → What → List A) → Type 0
@@ -49,50 +50,55 @@ arrived_quiet past (Accept number spec script) h = absurd (cc h)
 arrived_quiet past Cancel h = absurd (cc h)
 arrived_quiet past Destroy h = refl
 arrived_quiet past (Take number) h = refl
-arrived_quiet past (Start number leg server link id moment) h = absurd (cc h)
+arrived_quiet past (Start number leg server link id mix moment) h = absurd (cc h)
 arrived_quiet past (Arrive server link bytes) h = absurd (cc h)
 arrived_quiet past (Expire number leg moment) h = absurd (cc h)
 arrived_quiet past (Fault server link moment) h = absurd (cc h)
+arrived_quiet past (Servers list) h = absurd (cc h)
 
 faulted_quiet : PassesQuiet faulted
 faulted_quiet past (Accept number spec script) h = absurd (cc h)
 faulted_quiet past Cancel h = absurd (cc h)
 faulted_quiet past Destroy h = refl
 faulted_quiet past (Take number) h = refl
-faulted_quiet past (Start number leg server link id moment) h = absurd (cc h)
+faulted_quiet past (Start number leg server link id mix moment) h = absurd (cc h)
 faulted_quiet past (Arrive server link bytes) h = absurd (cc h)
 faulted_quiet past (Expire number leg moment) h = absurd (cc h)
 faulted_quiet past (Fault server link moment) h = absurd (cc h)
+faulted_quiet past (Servers list) h = absurd (cc h)
 
 opened_quiet : PassesQuiet opened
 opened_quiet past (Accept number spec script) h = absurd (cc h)
 opened_quiet past Cancel h = absurd (cc h)
 opened_quiet past Destroy h = refl
 opened_quiet past (Take number) h = refl
-opened_quiet past (Start number leg server link id moment) h = absurd (cc h)
+opened_quiet past (Start number leg server link id mix moment) h = absurd (cc h)
 opened_quiet past (Arrive server link bytes) h = absurd (cc h)
 opened_quiet past (Expire number leg moment) h = absurd (cc h)
 opened_quiet past (Fault server link moment) h = absurd (cc h)
+opened_quiet past (Servers list) h = absurd (cc h)
 
 asked_quiet : (channel : Setting) → PassesQuiet (asked channel)
 asked_quiet channel past (Accept number spec script) h = absurd (cc h)
 asked_quiet channel past Cancel h = absurd (cc h)
 asked_quiet channel past Destroy h = refl
 asked_quiet channel past (Take number) h = refl
-asked_quiet channel past (Start number leg server link id moment) h = absurd (cc h)
+asked_quiet channel past (Start number leg server link id mix moment) h = absurd (cc h)
 asked_quiet channel past (Arrive server link bytes) h = absurd (cc h)
 asked_quiet channel past (Expire number leg moment) h = absurd (cc h)
 asked_quiet channel past (Fault server link moment) h = absurd (cc h)
+asked_quiet channel past (Servers list) h = absurd (cc h)
 
 queued_quiet : (channel : Setting) (link : ℕ) → PassesQuiet (queued channel link)
 queued_quiet channel link past (Accept number spec script) h = absurd (cc h)
 queued_quiet channel link past Cancel h = absurd (cc h)
 queued_quiet channel link past Destroy h = refl
 queued_quiet channel link past (Take number) h = refl
-queued_quiet channel link past (Start number leg server other id moment) h = absurd (cc h)
+queued_quiet channel link past (Start number leg server other id mix moment) h = absurd (cc h)
 queued_quiet channel link past (Arrive server other bytes) h = absurd (cc h)
 queued_quiet channel link past (Expire number leg moment) h = absurd (cc h)
 queued_quiet channel link past (Fault server other moment) h = absurd (cc h)
+queued_quiet channel link past (Servers list) h = absurd (cc h)
 
 -- quiet entries behind others note nothing more
 pub noted_same : {A : Type 0} (seat : ℕ) (notes : Past → What → List A) → PassesQuiet notes → (past : Past) (es qs : List Entry) → list_all (λ e. is_quiet e.what) qs ≡ true →

@@ -15,7 +15,7 @@ use Rattle.adig_tool.specs.Entries.{own_entry, asked_in, taken_in}
 use Rattle.adig_tool.specs.Kept.{IsKept}
 use Rattle.adig_tool.specs.Setup.{setup}
 use Rattle.adig_tool.specs.Stages.{kept_for_destroy, kept_for_take, MovesOut}
-use Rattle.adig_tool.specs.Stands.{StandsAt, MayBe, owed}
+use Rattle.adig_tool.specs.Stands.{StandsAtStage, MayBe, owed}
 use Rattle.adig_tool.proofs.JournalLemmas.{asked_same, taken_more}
 use Rattle.channel_model.proofs.JournalLemmas.{lawful_push}
 use Rattle.adig_tool.proofs.PastLemmas.{along}
@@ -25,14 +25,14 @@ use Rattle.adig_tool.proofs.StandsLemmas.{rests}
 record FindsReady (setting : Setting) (stage new : Stage) (number : ℕ) (past : Past) : Type 0 where
   one : number ≡ 1
   waits : first (ready setting past) ≡ Some number
-  stands : StandsAt setting new (Take number ∷ past)
+  stands : StandsAtStage setting new (Take number ∷ past)
   may_be : (closed : Bool) → MayBe new closed
   owed_one : owed stage ≡ 1
   owes_none : owed new ≡ 0
   keeps_one : kept_for_take stage ≡ 1
   keeps_none : kept_for_take new ≡ 0
 
-finds : (setting : Setting) (stage new : Stage) (ticket : Ticket Quiet) (past : Past) → StandsAt setting stage past → MovesOut stage (Some ticket) new → FindsReady setting stage new ticket.call.number past
+finds : (setting : Setting) (stage new : Stage) (ticket : Ticket Quiet) (past : Past) → StandsAtStage setting stage past → MovesOut stage (Some ticket) new → FindsReady setting stage new ticket.call.number past
 finds setting Fresh new ticket past stands takes = let none : Some ticket ≡ None = takes.0 in absurd cc
 finds setting (Pending request) new ticket past stands takes = let none : Some ticket ≡ None = takes.0 in absurd cc
 finds setting (Ready other) new ticket past stands takes =
@@ -65,7 +65,7 @@ kept_taken old new ticket server closed added len capacity takes kept =
     let room : vec_len old.entries + 1 + kept_for_destroy old.closed ≤ vec_capacity old.entries = rw found.keeps_one at kept.room in
     record {
       lawful = rw server (lawful_push (setup old.server) old.entries.items new.entries.items (own_entry (Take number)) kept.lawful added found.waits);
-      stands = rw server (along (StandsAt (setup old.server) new.stage) old.entries.items new.entries.items (Take number) added found.stands);
+      stands = rw server (along (StandsAtStage (setup old.server) new.stage) old.entries.items new.entries.items (Take number) added found.stands);
       closed = along (λ past. is_destroyed past ≡ new.closed) old.entries.items new.entries.items (Take number) added (kept.closed ∙ sym closed);
       may_be = found.may_be new.closed;
       balanced = omega (arith, ap length asked, ap length taken, length-append (taken_in old.entries.items) (number ∷ []));

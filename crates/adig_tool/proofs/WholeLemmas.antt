@@ -8,7 +8,7 @@ use Rattle.std.proofs.lemmas.List.Folds.{list_all-append}
 use Rattle.chan_types.specs.declared.answer.Answer.{Answer}
 use Rattle.chan_types.specs.declared.journal.Entry.{Entry}
 use Rattle.chan_types.specs.declared.journal.What.{What}
-use Rattle.chan_types.specs.declared.journal.What.TheVariants.{Accept, Arrive, Cancel, Destroy, Expire, Fault, Start, Take}
+use Rattle.chan_types.specs.declared.journal.What.TheVariants.{Accept, Arrive, Cancel, Destroy, Expire, Fault, Start, Take, Servers}
 use Rattle.channel_model.specs.Commands.{closing_from, closing_position, past_at}
 use Rattle.channel_model.specs.Completion.{taken, taken_by}
 use Rattle.channel_model.specs.Journal.{Past, accepted, accepted_by, followed_by, is_destroy, is_destroyed, past_of}
@@ -41,10 +41,11 @@ no_destroy (Accept number spec script) h = refl
 no_destroy Cancel h = refl
 no_destroy Destroy h = absurd (cc h)
 no_destroy (Take number) h = refl
-no_destroy (Start number leg server link id moment) h = refl
+no_destroy (Start number leg server link id mix moment) h = refl
 no_destroy (Arrive server link bytes) h = refl
 no_destroy (Expire number leg moment) h = refl
 no_destroy (Fault server link moment) h = refl
+no_destroy (Servers list) h = refl
 
 -- nor is it a Cancel
 no_cancel : (what : What) → leaves_open what ≡ true → is_cancel what ≡ false
@@ -52,10 +53,11 @@ no_cancel (Accept number spec script) h = refl
 no_cancel Cancel h = absurd (cc h)
 no_cancel Destroy h = refl
 no_cancel (Take number) h = refl
-no_cancel (Start number leg server link id moment) h = refl
+no_cancel (Start number leg server link id mix moment) h = refl
 no_cancel (Arrive server link bytes) h = refl
 no_cancel (Expire number leg moment) h = refl
 no_cancel (Fault server link moment) h = refl
+no_cancel (Servers list) h = refl
 
 -- the first and the others of a list that passes a test
 pub first_passes : {A : Type 0} (test : A → Bool) (x : A) (xs : List A) → list_all test (x ∷ xs) ≡ true → (test x ≡ true) × (list_all test xs ≡ true)

@@ -18,6 +18,8 @@ use Rattle.channel_model.specs.Legs.{Leg, leg_of}
 use Rattle.channel_model.specs.Questions.{question_of}
 use Rattle.channel_model.specs.Flight.{closes, in_flight}
 use Rattle.channel_model.specs.Past.{closings, query_of}
+use Rattle.channel_model.specs.Servers.{address_of, servers_at}
+use Rattle.net_addr.specs.declared.addr.ServerAddr.{ServerAddr}
 use Rattle.channel_model.specs.Completion.{fate, pending, ready, waiting}
 use Rattle.channel_model.specs.Lawful.{first, first_due, MayStart, MayExpire}
 use Rattle.channel_model.specs.declared.answers.Refused.{Refused}
@@ -92,17 +94,18 @@ pub record IsQueryOf (setting : Setting) (past : Past) (leg : Leg) (id : ℕ) (b
   pub asked : question_of setting leg past ≡ Some question
   pub spelled : bytes ≡ message_bytes (query_of setting id question (closings setting leg past))
 
--- an attempt was begun as it has to be, over the link of datagrams, and this is its query
-pub record Begins (old new : Seen) (word moment : ℕ) (leg : Leg) (server link id : ℕ) (query : List ℕ) : Type 0 where
-  pub may : MayStart (setting_of old) (past_in old) leg server link id
+-- an attempt was begun as it has to be, to the server that listens at this address, over the link of datagrams, and this is its query
+pub record Begins (old new : Seen) (word moment : ℕ) (leg : Leg) (server : ℕ) (address : ServerAddr) (link id : ℕ) (query : List ℕ) : Type 0 where
+  pub may : MayStart (setting_of old) (past_in old) leg server link id None
   pub from_word : IsFirstFree (setting_of old) word id (past_in old)
+  pub listens : address_of server (servers_at (setting_of old) (past_in old)) ≡ Some address
   pub over_datagrams : link ≡ 0
   pub message : IsQueryOf (setting_of old) (past_in old) leg id query
-  pub adds : Adds old new (Start leg.request leg.number server link id moment)
+  pub adds : Adds old new (Start leg.request leg.number server link id None moment)
 
 -- an attempt was begun, or no leg waits; with one leg there is always an identifier left
 abbrev pub Starts : Seen → Seen → ℕ → ℕ → Begun → Type 0
-Starts old new word moment (Started request leg server link id query) = Begins old new word moment (leg_of request leg) server link id query
+Starts old new word moment (Started request leg server address link id query) = Begins old new word moment (leg_of request leg) server address link id query
 Starts old new word moment Idle = (waiting (setting_of old) (past_in old) ≡ []) × (new ≡ old)
 Starts old new word moment NoId = ⊥
 

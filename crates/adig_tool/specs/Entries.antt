@@ -3,7 +3,7 @@ use Rattle.std.specs.Prelude.{ℕ, List, [], ◌∷◌, ◌++◌}
 use Rattle.chan_types.specs.declared.answer.Answer.{Answer}
 use Rattle.chan_types.specs.declared.journal.Entry.{Entry}
 use Rattle.chan_types.specs.declared.journal.What.{What}
-use Rattle.chan_types.specs.declared.journal.What.TheVariants.{Accept, Cancel, Take, Destroy, Start, Arrive, Expire, Fault}
+use Rattle.chan_types.specs.declared.journal.What.TheVariants.{Accept, Cancel, Take, Destroy, Start, Arrive, Expire, Fault, Servers}
 use Rattle.chan_types.specs.declared.spec.Spec.{Spec}
 
 -- an entry of the one seat, which no callback commanded
@@ -24,10 +24,11 @@ asked_by (Accept number spec script) = spec ∷ []
 asked_by Cancel = []
 asked_by Destroy = []
 asked_by (Take number) = []
-asked_by (Start number leg server link id moment) = []
+asked_by (Start number leg server link id mix moment) = []
 asked_by (Arrive server link bytes) = []
 asked_by (Expire number leg moment) = []
 asked_by (Fault server link moment) = []
+asked_by (Servers list) = []
 
 -- the requests that were accepted, in order
 unfoldable pub asked_in : List Entry → List Spec
@@ -40,10 +41,11 @@ taken_by (Accept number spec script) = []
 taken_by Cancel = []
 taken_by Destroy = []
 taken_by (Take number) = number ∷ []
-taken_by (Start number leg server link id moment) = []
+taken_by (Start number leg server link id mix moment) = []
 taken_by (Arrive server link bytes) = []
 taken_by (Expire number leg moment) = []
 taken_by (Fault server link moment) = []
+taken_by (Servers list) = []
 
 -- the numbers of the requests that were taken, in order
 unfoldable pub taken_in : List Entry → List ℕ

@@ -6,7 +6,7 @@ use Rattle.chan_types.specs.Plans.{blank}
 use Rattle.chan_types.specs.declared.answer.Answer.{Answer}
 use Rattle.chan_types.specs.declared.journal.Entry.{Entry}
 use Rattle.chan_types.specs.declared.journal.What.{What}
-use Rattle.chan_types.specs.declared.journal.What.TheVariants.{Accept, Arrive, Cancel, Destroy, Expire, Fault, Start, Take}
+use Rattle.chan_types.specs.declared.journal.What.TheVariants.{Accept, Arrive, Cancel, Destroy, Expire, Fault, Start, Take, Servers}
 use Rattle.chan_types.specs.declared.orders.Orders.{Orders}
 use Rattle.chan_types.specs.declared.spec.Spec.TheVariants.{Query}
 use Rattle.net_addr.specs.declared.addr.Addr.TheVariants.{V4}
@@ -55,8 +55,8 @@ pub record AcceptsFor (text : List ℕ) (status : ℕ) (journal : List Entry) : 
 pub record Obeys (server : ServerAddr) (journal : List Entry) : Type 0 where
   -- no callback commanded an entry
   pub by_nobody : IsTrue (list_all (λ entry. entry.by == 0) journal)
-  -- what the callbacks commanded was performed before the channel was ended, and no request was lost
-  pub performed : ObeysOrders (setup server) journal no_orders (closing_position journal) 0
+  -- what the callbacks commanded was performed by the one seat before the channel was ended, and no request was lost
+  pub performed : ObeysOrders (setup server) journal 1 no_orders (closing_position journal) 0
 
 -- whom the callbacks were called for
 pub record CallsOnce (server : ServerAddr) (journal : List Entry) (calls : List Answer) : Type 0 where
@@ -69,10 +69,11 @@ is_cancel (Accept number spec script) = false
 is_cancel Cancel = true
 is_cancel Destroy = false
 is_cancel (Take number) = false
-is_cancel (Start number leg server link id moment) = false
+is_cancel (Start number leg server link id mix moment) = false
 is_cancel (Arrive server link bytes) = false
 is_cancel (Expire number leg moment) = false
 is_cancel (Fault server link moment) = false
+is_cancel (Servers list) = false
 
 -- with this exit status the page was put
 abbrev pub PutsPage : ℕ → Type 0
@@ -112,7 +113,7 @@ pub record IsTrafficOf (server : ServerAddr) (status : ℕ) (journal : List Entr
   pub near : NearlyAgrees (setup server) 0 beginning journal calls
 
 -- the causes of the exit status
-pub record HasCause (words : List (List ℕ)) (turns status : ℕ) (journal : List Entry) (calls : List Answer) (sink_old sink_new waits_old waits_new : ℕ) (log_old log_new : Option (List WorldCall)) : Type 0 where
+pub record HasExitCause (words : List (List ℕ)) (turns status : ℕ) (journal : List Entry) (calls : List Answer) (sink_old sink_new waits_old waits_new : ℕ) (log_old log_new : Option (List WorldCall)) : Type 0 where
   -- it is one of this crate's, and no file fault, since no file is read yet
   pub known : (status ≤ STALLED) × (status ≢ FILE_FAULT)
   -- the words are refused

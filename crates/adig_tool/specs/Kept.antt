@@ -7,7 +7,7 @@ use Rattle.adig_tool.specs.Seen.{Seen}
 use Rattle.adig_tool.specs.Setup.{setup}
 use Rattle.adig_tool.specs.Entries.{asked_in, taken_in}
 use Rattle.adig_tool.specs.Stages.{kept_for_destroy, kept_for_take}
-use Rattle.adig_tool.specs.Stands.{StandsAt, MayBe, owed}
+use Rattle.adig_tool.specs.Stands.{StandsAtStage, MayBe, owed}
 
 -- what contracts see
 abbrev pub seen_of : Inside → Seen
@@ -16,7 +16,7 @@ seen_of channel = record { server = channel.server; journal = channel.entries.it
 -- the journal is lawful and says what the stage is, and there is room for the entries that are owed
 pub record IsKept (channel : Inside) : Type 0 where
   pub lawful : IsLawful (setup channel.server) channel.entries.items
-  pub stands : StandsAt (setup channel.server) channel.stage (past_of channel.entries.items)
+  pub stands : StandsAtStage (setup channel.server) channel.stage (past_of channel.entries.items)
   pub closed : is_destroyed (past_of channel.entries.items) ≡ channel.closed
   pub may_be : MayBe channel.stage channel.closed
   pub balanced : length (asked_in channel.entries.items) ≡ length (taken_in channel.entries.items) + owed channel.stage

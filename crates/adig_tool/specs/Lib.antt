@@ -13,6 +13,5 @@ pub mod Page
 pub mod Output
 pub mod Words
 pub mod Steps
-pub mod Query
 pub mod Sessions
 pub mod Headline

@@ -18,12 +18,12 @@ abbrev pub stalled_text : List ℕ
 stalled_text = codes "adig: stalled" ++ 10 ∷ []
 
 -- bytes that are told go on with this text
-abbrev pub GoesOn : Option (List ℕ) → Option (List ℕ) → List ℕ → Type 0
-GoesOn old new text = new ≡ option_map (λ bytes. bytes ++ text) old
+abbrev pub GrowsBy : Option (List ℕ) → Option (List ℕ) → List ℕ → Type 0
+GrowsBy old new text = new ≡ option_map (λ bytes. bytes ++ text) old
 
 -- bytes that are told go on with a part of this text from its beginning, or with nothing
-abbrev pub GoesOnInPart : Option (List ℕ) → Option (List ℕ) → List ℕ → Type 0
-GoesOnInPart old new text = (part : List ℕ) × IsPrefix part text × GoesOn old new part
+abbrev pub GrowsByPart : Option (List ℕ) → Option (List ℕ) → List ℕ → Type 0
+GrowsByPart old new text = (part : List ℕ) × IsPrefix part text × GrowsBy old new part
 
 -- a text of a run that asks for the name of this word: its page, or that of a failed wait or of too many turns
 abbrev pub IsTextOf : List ℕ → List Answer → List ℕ → Type 0
@@ -31,5 +31,5 @@ IsTextOf word calls text = (text ≡ page_of word calls) ⊎ (text ≡ wait_faul
 
 -- what a run that asks for the name of this word put: the page, where its request has its answer, and in any case a part, from its beginning, of one of its texts, or nothing
 pub record IsOutputOf (word : List ℕ) (calls : List Answer) (status : ℕ) (old new : Option (List ℕ)) : Type 0 where
-  pub page : (status ≡ SUCCESS) ⊎ (status ≡ FAILURE) → GoesOn old new (page_of word calls)
-  pub part : (text : List ℕ) × IsTextOf word calls text × GoesOnInPart old new text
+  pub page : (status ≡ SUCCESS) ⊎ (status ≡ FAILURE) → GrowsBy old new (page_of word calls)
+  pub part : (text : List ℕ) × IsTextOf word calls text × GrowsByPart old new text

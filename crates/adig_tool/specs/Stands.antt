@@ -1,5 +1,5 @@
 -- What the past says of the one request at each of its stages.
-use Rattle.std.specs.Prelude.{◌≡◌, ℕ, Bool, true, false, List, [], ◌∷◌, Option, Some, None, option_map, ⊤}
+use Rattle.std.specs.Prelude.{◌≡◌, ℕ, Bool, true, false, List, [], ◌∷◌, Option, Some, None, option_map, IfSome, ⊤}
 use Rattle.dns_message.specs.NameText.{name_text}
 use Rattle.dns_message.specs.declared.message.Question.{Question}
 use Rattle.chan_types.specs.declared.answer.Answer.{Answer}
@@ -9,7 +9,9 @@ use Rattle.channel_model.specs.Journal.{Past, Accepted, accepted}
 use Rattle.channel_model.specs.Setting.{Setting}
 use Rattle.channel_model.specs.Legs.{Leg, leg_of}
 use Rattle.channel_model.specs.Flight.{Attempt, flight, started}
-use Rattle.channel_model.specs.Past.{closings}
+use Rattle.channel_model.specs.Choice.{deadline, deadline_from}
+use Rattle.channel_model.specs.Past.{closings, forced_server}
+use Rattle.channel_model.specs.Servers.{opening_servers, servers_at}
 use Rattle.channel_model.specs.Completion.{fate, ready}
 use Rattle.adig_tool.specs.declared.channel.stage.Attempt as own
 use Rattle.adig_tool.specs.declared.channel.stage.Stage.{Stage}
@@ -19,9 +21,9 @@ use Rattle.adig_tool.specs.declared.channel.stage.Stage.TheVariants.{Fresh, Pend
 abbrev pub the_leg : Leg
 the_leg = leg_of 1 0
 
--- an attempt as its Start tells it: to server 0, over link 0
+-- an attempt as its Start tells it: to server 0, over link 0, its letters as they are
 abbrev pub attempt_with : ℕ → ℕ → Attempt
-attempt_with id moment = record { leg = the_leg; server = 0; link = 0; id = id; moment = moment }
+attempt_with id moment = record { leg = the_leg; server = 0; link = 0; id = id; mix = None; moment = moment }
 
 -- the attempt as its Start tells it
 abbrev pub flown : own.Attempt → Attempt
@@ -41,12 +43,15 @@ abbrev pub is_begun : Option own.Attempt → Bool
 is_begun None = false
 is_begun (Some attempt) = true
 
--- no request has completed: these were accepted, the leg was begun or not, and has this attempt in flight
+-- no request has completed: these were accepted, the leg was begun or not, and has this attempt in flight, due as if it were the first; no servers were set, and none is forced
 pub record IsOpen (setting : Setting) (requests : List Accepted) (begun : Bool) (attempt : Option Attempt) (past : Past) : Type 0 where
   pub accepts : accepted past ≡ requests
   pub starts : started past ≡ legs_if begun
   pub flies : flight setting the_leg past ≡ attempt
   pub closes : closings setting the_leg past ≡ []
+  pub lists : servers_at setting past ≡ opening_servers setting
+  pub forces : forced_server setting the_leg past ≡ None
+  pub falls_due : IfSome attempt (λ attempt. deadline setting the_leg past ≡ deadline_from setting attempt [])
   pub completes : fate setting 1 past ≡ None
   pub waits : ready setting past ≡ []
 
@@ -69,11 +74,11 @@ pub record IsDone (setting : Setting) (answer : Answer) (waiting : List ℕ) (pa
   pub waits : ready setting past ≡ waiting
 
 -- the past says of the request what its stage is
-abbrev pub StandsAt : Setting → Stage → Past → Type 0
-StandsAt setting Fresh past = IsOpen setting [] false None past
-StandsAt setting (Pending request) past = IsAsked setting request.question request.attempt past
-StandsAt setting (Ready ticket) past = IsDone setting ticket.call (1 ∷ []) past × (ticket.call.number ≡ 1)
-StandsAt setting Taken past = (answer : Answer) × IsDone setting answer [] past
+abbrev pub StandsAtStage : Setting → Stage → Past → Type 0
+StandsAtStage setting Fresh past = IsOpen setting [] false None past
+StandsAtStage setting (Pending request) past = IsAsked setting request.question request.attempt past
+StandsAtStage setting (Ready ticket) past = IsDone setting ticket.call (1 ∷ []) past × (ticket.call.number ≡ 1)
+StandsAtStage setting Taken past = (answer : Answer) × IsDone setting answer [] past
 
 -- a request may be pending where no Destroy stands
 abbrev pub MayBe : Stage → Bool → Type 0

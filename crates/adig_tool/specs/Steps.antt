@@ -4,7 +4,7 @@ use Rattle.std.specs.Prelude.{Bool, Err, IsTrue, List, MatchOption, None, Ok, Op
 use Rattle.chan_types.specs.declared.answer.Answer.{Answer}
 use Rattle.chan_types.specs.declared.journal.Entry.{Entry}
 use Rattle.chan_types.specs.declared.journal.What.{What}
-use Rattle.chan_types.specs.declared.journal.What.TheVariants.{Accept, Arrive, Cancel, Destroy, Expire, Fault, Start, Take}
+use Rattle.chan_types.specs.declared.journal.What.TheVariants.{Accept, Arrive, Cancel, Destroy, Expire, Fault, Start, Take, Servers}
 use Rattle.item_list.specs.declared.no_memory.NoMemory.{NoMemory}
 use Rattle.net_world.specs.declared.log.WorldCall.{WorldCall}
 use Rattle.channel_model.specs.Completion.{fate, taken_by}
@@ -22,10 +22,11 @@ leaves_open (Accept number spec script) = true
 leaves_open Cancel = false
 leaves_open Destroy = false
 leaves_open (Take number) = true
-leaves_open (Start number leg server link id moment) = true
+leaves_open (Start number leg server link id mix moment) = true
 leaves_open (Arrive server link bytes) = true
 leaves_open (Expire number leg moment) = true
 leaves_open (Fault server link moment) = true
+leaves_open (Servers list) = true
 
 -- the entry is of the channel's one seat, no callback commanded it, and it neither cancels nor destroys
 abbrev pub is_plain : Entry → Bool

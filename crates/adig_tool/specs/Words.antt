@@ -7,7 +7,7 @@ use Rattle.net_addr.specs.Text.{Spells}
 use Rattle.chan_types.specs.declared.answer.Answer.{Answer}
 use Rattle.chan_types.specs.declared.journal.Entry.{Entry}
 use Rattle.adig_tool.specs.declared.ended.TheConstants.{USAGE, SINK_FAULT, OUT_OF_MEMORY}
-use Rattle.adig_tool.specs.Output.{GoesOn, GoesOnInPart, usage_text}
+use Rattle.adig_tool.specs.Output.{GrowsBy, GrowsByPart, usage_text}
 
 -- the text is a name, and its last label isn't `onion`, ignoring case (RFC 7686, section 2)
 pub record MayBeAsked (text : List ℕ) : Type 0 where
@@ -34,5 +34,5 @@ pub record Refuses {F W : Type 0} (status : ℕ) (journal : List Entry) (calls :
   pub no_call : calls ≡ []
   pub files : files_new ≡ files_old
   pub world : world_new ≡ world_old
-  pub whole : status ≡ USAGE → GoesOn old new usage_text
-  pub part : GoesOnInPart old new usage_text
+  pub whole : status ≡ USAGE → GrowsBy old new usage_text
+  pub part : GrowsByPart old new usage_text

@@ -9,7 +9,7 @@ ghost use Rattle.channel_model.specs.Lawful.{IsLawful};
 ghost use Rattle.adig_tool.specs.Calls.{past_in, setting_of};
 ghost use Rattle.adig_tool.specs.Finish.{IsSuccess};
 ghost use Rattle.adig_tool.specs.Headline.{AcceptsFor, CallsOnce, IsFinished, IsTrafficOf, Obeys, left_pending, request_for};
-ghost use Rattle.adig_tool.specs.Output.{GoesOn, IsOutputOf, wait_fault_text, stalled_text};
+ghost use Rattle.adig_tool.specs.Output.{GrowsBy, IsOutputOf, wait_fault_text, stalled_text};
 ghost use Rattle.adig_tool.specs.Sessions.{Delivers, Finishes, MakesSession, MakesTurns};
 ghost use Rattle.adig_tool.specs.Setup.{setup};
 ghost use Rattle.adig_tool.specs.Steps.{GoesOnWith, HasTurns};
@@ -67,8 +67,8 @@ pub fn ask<W: World, K: Sink>(
     ensures all_turns { result.status ≡ STALLED → GoesOnWith (HasTurns turns) (W.log world.old) (W.log world.new) }
     ensures stalled { result.status ≡ STALLED → left_pending asked.now.server result.journal ≢ [] }
     ensures output { IsOutputOf asked.now.word.now result.calls result.status (K.bytes sink.old) (K.bytes sink.new) }
-    ensures wait_fault_text { result.status ≡ WAIT_FAULT → GoesOn (K.bytes sink.old) (K.bytes sink.new) wait_fault_text }
-    ensures stalled_text { result.status ≡ STALLED → GoesOn (K.bytes sink.old) (K.bytes sink.new) stalled_text }
+    ensures wait_fault_text { result.status ≡ WAIT_FAULT → GrowsBy (K.bytes sink.old) (K.bytes sink.new) wait_fault_text }
+    ensures stalled_text { result.status ≡ STALLED → GrowsBy (K.bytes sink.old) (K.bytes sink.new) stalled_text }
 {
     let Ok(mut channel) = Channel::make(alloc, asked.server) else {
         return Ended::early(alloc, OUT_OF_MEMORY);
@@ -185,8 +185,8 @@ fn report<K: Sink>(
     ensures failure { result ≡ FAILURE → (end ≡ Ok LoopEnd.Completed) × ¬ All IsSuccess calls.now }
     ensures sink_fault { result ≡ SINK_FAULT → Rose (K.faults sink.old) (K.faults sink.new) }
     ensures output { IsOutputOf word.now calls.now result (K.bytes sink.old) (K.bytes sink.new) }
-    ensures wait_fault { result ≡ WAIT_FAULT → (end ≡ Ok LoopEnd.WaitFault) × GoesOn (K.bytes sink.old) (K.bytes sink.new) wait_fault_text }
-    ensures stalled { result ≡ STALLED → (end ≡ Ok LoopEnd.Stalled) × GoesOn (K.bytes sink.old) (K.bytes sink.new) stalled_text }
+    ensures wait_fault { result ≡ WAIT_FAULT → (end ≡ Ok LoopEnd.WaitFault) × GrowsBy (K.bytes sink.old) (K.bytes sink.new) wait_fault_text }
+    ensures stalled { result ≡ STALLED → (end ≡ Ok LoopEnd.Stalled) × GrowsBy (K.bytes sink.old) (K.bytes sink.new) stalled_text }
 {
     match end {
         Ok(LoopEnd::Completed) => match page(alloc, word, calls) {

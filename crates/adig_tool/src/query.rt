@@ -1,8 +1,8 @@
 //! The query that an attempt sends.
 
-ghost use Rattle.std.specs.Prelude.{◌≡◌, [], ◌∷◌, IfOk};
+ghost use Rattle.std.specs.Prelude.{◌≡◌, false, IfOk};
 ghost use Rattle.dns_message.specs.Spelling.{message_bytes};
-ghost use Rattle.adig_tool.specs.Query.{query_of};
+ghost use Rattle.channel_model.specs.Past.{plain_query};
 
 use dns_message::{EncodeFault, Message, Question, QuestionList, RecordList, encode};
 use item_list::{Bytes, NoMemory};
@@ -13,7 +13,7 @@ const RD: u16 = 0x0100;
 
 /// The bytes of a query with this identifier, RD, and the one question.
 pub fn query_bytes(alloc: Global, asked: &Question, id: u16) -> Result<Bytes, NoMemory>
-    ensures { IfOk result (λ bytes. bytes ≡ message_bytes (query_of id asked.now)) }
+    ensures { IfOk result (λ bytes. bytes ≡ message_bytes (plain_query id asked.now false)) }
 {
     // A name takes at most 255 bytes, so its query is never too long.
     let _short = asked.name.wire_len();
@@ -27,7 +27,7 @@ pub fn query_bytes(alloc: Global, asked: &Question, id: u16) -> Result<Bytes, No
 
 /// A query with this identifier, RD, and the one question.
 fn query(alloc: Global, asked: &Question, id: u16) -> Result<Message, NoMemory>
-    ensures { IfOk result (λ message. message ≡ query_of id asked.now) }
+    ensures { IfOk result (λ message. message ≡ plain_query id asked.now false) }
 {
     Ok(Message {
         id,

@@ -1,6 +1,6 @@
 //! Whether a message is the reply to a query, and with which status it ends the request.
 
-ghost use Rattle.std.specs.Prelude.{◌≡◌, Some, IfOk, option_map};
+ghost use Rattle.std.specs.Prelude.{◌≡◌, Some, IfOk, false, option_map};
 ghost use Rattle.std.specs.Option.{option_copied};
 ghost use Rattle.dns_message.specs.Name.{same_name};
 ghost use Rattle.dns_message.specs.Question.{same_question};
@@ -59,7 +59,7 @@ fn status_by_message(
 
 /// The message is a response to a standard query with this identifier and this one question.
 fn answers(message: &Message, id: u16, asked: &Question) -> bool
-    ensures { result ≡ answers id (Some asked.now) message.now }
+    ensures { result ≡ answers id false (Some asked.now) message.now }
 {
     message.id == id
         && is_response(message)
@@ -81,7 +81,7 @@ fn is_standard(message: &Message) -> bool
 
 /// The list has this question alone.
 fn asks_only(questions: &[Question], asked: &Question) -> bool
-    ensures { result ≡ asks_only (Some asked.now) questions.now }
+    ensures { result ≡ asks_only false (Some asked.now) questions.now }
 {
     match questions {
         [only] => is_same_question(only, asked),

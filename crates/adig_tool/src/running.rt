@@ -2,8 +2,8 @@
 
 ghost use Rattle.std.specs.Prelude.{◌≡◌, map};
 ghost use Rattle.channel_model.specs.Lawful.{IsLawful};
-ghost use Rattle.adig_tool.specs.Headline.{AcceptsFor, CallsOnce, ForWords, HasCause, IsFinished, IsTrafficOf, Obeys};
-ghost use Rattle.adig_tool.specs.Output.{GoesOn, IsOutputOf, wait_fault_text, stalled_text};
+ghost use Rattle.adig_tool.specs.Headline.{AcceptsFor, CallsOnce, ForWords, HasExitCause, IsFinished, IsTrafficOf, Obeys};
+ghost use Rattle.adig_tool.specs.Output.{GrowsBy, IsOutputOf, wait_fault_text, stalled_text};
 ghost use Rattle.adig_tool.specs.Setup.{setup};
 ghost use Rattle.adig_tool.specs.Steps.{GoesOnWith};
 ghost use Rattle.adig_tool.specs.Words.{AreRefused, Refuses};
@@ -13,6 +13,7 @@ use crate::asking::ask;
 use crate::ended::{Ended, OUT_OF_MEMORY, USAGE};
 use crate::putting::put;
 use crate::words::read_words;
+use item_list::NoMemory;
 use net_world::{Files, Sink, World};
 use std::alloc::Global;
 
@@ -44,10 +45,10 @@ pub fn run<W: World, F: Files, K: Sink>(
     ensures traffic { ForWords (map (λ word. word.now) words.now) (λ server text. GoesOnWith (IsTrafficOf server result.status result.journal) (W.log world.old) (W.log world.new)) }
 
     // The exit status has its cause, and the output is that of the answer; no file is read.
-    ensures status { HasCause (map (λ word. word.now) words.now) turns result.status result.journal result.calls (K.faults sink.old) (K.faults sink.new) (W.wait_faults world.old) (W.wait_faults world.new) (W.log world.old) (W.log world.new) }
+    ensures status { HasExitCause (map (λ word. word.now) words.now) turns result.status result.journal result.calls (K.faults sink.old) (K.faults sink.new) (W.wait_faults world.old) (W.wait_faults world.new) (W.log world.old) (W.log world.new) }
     ensures output { ForWords (map (λ word. word.now) words.now) (λ server text. IsOutputOf text result.calls result.status (K.bytes sink.old) (K.bytes sink.new)) }
-    ensures wait_fault_text { result.status ≡ WAIT_FAULT → GoesOn (K.bytes sink.old) (K.bytes sink.new) wait_fault_text }
-    ensures stalled_text { result.status ≡ STALLED → GoesOn (K.bytes sink.old) (K.bytes sink.new) stalled_text }
+    ensures wait_fault_text { result.status ≡ WAIT_FAULT → GrowsBy (K.bytes sink.old) (K.bytes sink.new) wait_fault_text }
+    ensures stalled_text { result.status ≡ STALLED → GrowsBy (K.bytes sink.old) (K.bytes sink.new) stalled_text }
     ensures files { files.new ≡ files.old }
 {
     let _ = files;

@@ -3,6 +3,7 @@
 ghost use Rattle.std.specs.Prelude.{◌≡◌};
 
 use crate::script::Script;
+use crate::server_key::KeyList;
 use crate::spec::Spec;
 use dns_message::Bytes;
 use std::marker::Model;
@@ -18,8 +19,8 @@ pub struct Entry {
 }
 
 /// What happened. A request's number counts the accepted ones from 1; a leg is one question of a request; a server is
-/// its index in the channel's list; link 0 is UDP, any other a TCP link of that number; a moment is in milliseconds, on
-/// the clock of the World.
+/// named by its key; link 0 is UDP, any other a TCP link of that number; a moment is in milliseconds, on the clock of
+/// the World.
 #[derive(Drop)]
 pub enum What {
     /// A request was accepted, with a callback of this script.
@@ -43,6 +44,8 @@ pub enum What {
         server: u32,
         link: u64,
         id: u16,
+        /// The bits that its letters' case was drawn with, where it was.
+        mix: Option<u16>,
         moment: u64,
     },
     /// A message came.
@@ -62,6 +65,10 @@ pub enum What {
         server: u32,
         link: u64,
         moment: u64,
+    },
+    /// The channel's servers are these from now on.
+    Servers {
+        list: KeyList,
     },
 }
 

@@ -88,13 +88,13 @@ denied : (b : Bool) → not b ≡ false → b ≡ true
 denied true h = refl
 denied false h = absurd (cc h)
 
-module _ (channel : Setting) (journal : List Entry) (last : ℕ) where
+module _ (setting : Setting) (journal : List Entry) (last : ℕ) where
   -- a request that left no entry was performed where the channel is destroyed
   no_entry_destroyed : (position : ℕ) → position ≤ last → IsTrue (is_destroyed (past_at journal position)) → IsFalse (is_destroyed (past_at journal last)) → ⊥
   no_entry_destroyed position le is_not not_last = cc (not_last, destroyed_later [] journal position last le is_not)
 
   -- the requests that the left entries accept are those that are asked, where none was lost and the channel isn't destroyed up to the last position
-  left_asks : (from : ℕ) (commands : List Command) (outcomes : List Outcome) → AllBecame channel journal from commands outcomes →
+  left_asks : (from : ℕ) (commands : List Command) (outcomes : List Outcome) → AllBecame setting journal from commands outcomes →
       IsTrue (list_all (λ outcome. nat_le (position_of outcome) last) outcomes) → count_by is_lost outcomes ≡ 0 → IsFalse (is_destroyed (past_at journal last)) →
       filter_map (given_at asking_in journal) (positions_left outcomes) ≡ filter_map asking_of commands
   left_asks from [] [] became in_time none open_ = refl
@@ -115,7 +115,7 @@ module _ (channel : Setting) (journal : List Entry) (last : ℕ) where
       let later = left_asks k commands outcomes became.2 parts.1 (none_counted is_lost (passed k) outcomes none).1 open_ in
       by_command command became.1.1 (leb-true k last parts.0) later
     where
-      by_command : (c : Command) → IsFalse (leaves channel c (past_at journal k)) → k ≤ last → filter_map (given_at asking_in journal) (positions_left outcomes) ≡ filter_map asking_of commands →
+      by_command : (c : Command) → IsFalse (leaves setting c (past_at journal k)) → k ≤ last → filter_map (given_at asking_in journal) (positions_left outcomes) ≡ filter_map asking_of commands →
           filter_map (given_at asking_in journal) (positions_left outcomes) ≡ filter_map asking_of (c ∷ commands)
       by_command (Ask spec script) nothing le later = absurd (no_entry_destroyed k le (denied (is_destroyed (past_at journal k)) nothing) open_)
       by_command Cancel nothing le later = later
@@ -123,29 +123,29 @@ module _ (channel : Setting) (journal : List Entry) (last : ℕ) where
   left_asks from (command ∷ commands) (lost k ∷ outcomes) became in_time none open_ = absurd (cc ((none_counted is_lost (lost k) outcomes none).0))
 
   -- where none of its requests was lost, and its commands were performed before the channel was destroyed, each request that a callback asks was accepted
-  pub each_is_accepted : (orders : Orders) (p : Performance) → IsPerformed channel journal orders last p → count_by is_lost p.outcomes ≡ 0 → IsFalse (is_destroyed (past_at journal last)) →
-      accepted_for p.request journal ≡ filter_map asking_of (commands_for channel journal orders p.request)
-  each_is_accepted orders p performed none open_ =
+  pub each_is_accepted : (seats : ℕ) (orders : Orders) (p : Performance) → IsPerformed setting journal seats orders last p → count_by is_lost p.outcomes ≡ 0 → IsFalse (is_destroyed (past_at journal last)) →
+      accepted_for p.request journal ≡ filter_map asking_of (commands_for setting journal orders p.request)
+  each_is_accepted seats orders p performed none open_ =
       sym (given_positions (λ entry. entry.by == p.request) asking_in [] journal)
       ∙ ap (λ l. filter_map (given_at asking_in journal) l) performed.entries_are
-      ∙ left_asks 0 (commands_for channel journal orders p.request) p.outcomes performed.became performed.in_time none open_
+      ∙ left_asks 0 (commands_for setting journal orders p.request) p.outcomes performed.became performed.in_time none open_
 
   -- so they had
-  had_nothing : (from : ℕ) (commands : List Command) (outcomes : List Outcome) → AllBecame channel journal from commands outcomes →
-      IsTrue (list_all (λ outcome. nat_le (position_of outcome) last) outcomes) → count_by is_lost outcomes ≡ 0 → All (HadNothing channel journal last) (without_entry commands outcomes)
-  had_nothing from [] outcomes became in_time none = All-nil (HadNothing channel journal last)
+  had_nothing : (from : ℕ) (commands : List Command) (outcomes : List Outcome) → AllBecame setting journal from commands outcomes →
+      IsTrue (list_all (λ outcome. nat_le (position_of outcome) last) outcomes) → count_by is_lost outcomes ≡ 0 → All (HadNothing setting journal last) (without_entry commands outcomes)
+  had_nothing from [] outcomes became in_time none = All-nil (HadNothing setting journal last)
   had_nothing from (command ∷ commands) [] became in_time none = absurd became
   had_nothing from (command ∷ commands) (left k ∷ outcomes) became in_time none =
       had_nothing (k + 1) commands outcomes became.2
       (both (nat_le k last) (list_all (λ outcome. nat_le (position_of outcome) last) outcomes) in_time).1 (none_counted is_lost (left k) outcomes none).1
   had_nothing from (command ∷ commands) (passed k ∷ outcomes) became in_time none =
       let parts = both (nat_le k last) (list_all (λ outcome. nat_le (position_of outcome) last) outcomes) in_time in
-      All-cons (HadNothing channel journal last) command (without_entry commands outcomes) (k, leb-true k last parts.0, became.1.1)
+      All-cons (HadNothing setting journal last) command (without_entry commands outcomes) (k, leb-true k last parts.0, became.1.1)
       (had_nothing k commands outcomes became.2 parts.1 (none_counted is_lost (passed k) outcomes none).1)
   had_nothing from (command ∷ commands) (lost k ∷ outcomes) became in_time none = absurd (cc ((none_counted is_lost (lost k) outcomes none).0))
 
   -- where none of its requests was lost, the commands of a callback that left no entry had nothing to do
-  pub without_entry_had_nothing : (orders : Orders) (p : Performance) → IsPerformed channel journal orders last p → count_by is_lost p.outcomes ≡ 0 →
-      All (HadNothing channel journal last) (without_entry (commands_for channel journal orders p.request) p.outcomes)
-  without_entry_had_nothing orders p performed none =
-      had_nothing 0 (commands_for channel journal orders p.request) p.outcomes performed.became performed.in_time none
+  pub without_entry_had_nothing : (seats : ℕ) (orders : Orders) (p : Performance) → IsPerformed setting journal seats orders last p → count_by is_lost p.outcomes ≡ 0 →
+      All (HadNothing setting journal last) (without_entry (commands_for setting journal orders p.request) p.outcomes)
+  without_entry_had_nothing seats orders p performed none =
+      had_nothing 0 (commands_for setting journal orders p.request) p.outcomes performed.became performed.in_time none

@@ -9,7 +9,7 @@ use mathlib.Core.List.{append-nil, append_assoc}
 use Rattle.chan_types.specs.declared.answer.Answer.{Answer}
 use Rattle.chan_types.specs.declared.journal.Entry.{Entry}
 use Rattle.chan_types.specs.declared.journal.What.{What}
-use Rattle.chan_types.specs.declared.journal.What.TheVariants.{Accept, Cancel, Destroy, Take, Start, Arrive, Expire, Fault}
+use Rattle.chan_types.specs.declared.journal.What.TheVariants.{Accept, Cancel, Destroy, Take, Start, Arrive, Expire, Fault, Servers}
 use Rattle.chan_types.specs.declared.script.Script.{Script}
 use Rattle.chan_types.specs.declared.spec.Spec.{Spec}
 use Rattle.chan_types.specs.declared.status.Status.TheVariants.{Cancelled, Destruction}
@@ -24,17 +24,18 @@ use Rattle.channel_model.specs.Merge.{bare}
 use Rattle.channel_model.specs.Search.{answer_of_search}
 use Rattle.channel_model.specs.Setting.{Setting}
 
-module _ (channel : Setting) where
+module _ (setting : Setting) where
   -- an accepted request has the next number
-  accept_numbered : (past : Past) (what : What) → IsAllowed channel past what → IfSome (accepted_by what) (λ request. request.number ≡ length (accepted past) + 1)
+  accept_numbered : (past : Past) (what : What) → IsAllowed setting past what → IfSome (accepted_by what) (λ request. request.number ≡ length (accepted past) + 1)
   accept_numbered past (Accept number spec script) allowed = allowed.1
   accept_numbered past Cancel allowed = tt
   accept_numbered past Destroy allowed = tt
   accept_numbered past (Take number) allowed = tt
-  accept_numbered past (Start number leg server link id moment) allowed = tt
+  accept_numbered past (Start number leg server link id mix moment) allowed = tt
   accept_numbered past (Arrive server link bytes) allowed = tt
   accept_numbered past (Expire number leg moment) allowed = tt
   accept_numbered past (Fault server link moment) allowed = tt
+  accept_numbered past (Servers list) allowed = tt
 
   numbers_more : (before : List Accepted) (more : Option Accepted) → map (λ request. request.number) before ≡ range_with_len 1 (length before) → IfSome more (λ request. request.number ≡ length before + 1)
       → map (λ request. request.number) (before ++ option_to_list more) ≡ range_with_len 1 (length (before ++ option_to_list more))
@@ -47,11 +48,11 @@ module _ (channel : Setting) where
       ∙ sym (run-push 1 (length before)) ∙ ap (range_with_len 1) longer
 
   -- the accepted requests have the numbers from 1 on
-  pub requests_numbered : (past : Past) → IsLawfulPast channel past → requests past ≡ range_with_len 1 (length (accepted past))
+  pub requests_numbered : (past : Past) → IsLawfulPast setting past → requests past ≡ range_with_len 1 (length (accepted past))
   requests_numbered [] lawful = refl
   requests_numbered (what ∷ past) lawful = numbers_more (accepted past) (accepted_by what) (requests_numbered past lawful.1) (accept_numbered past what lawful.0)
 
-module _ (channel : Setting) (number : ℕ) where
+module _ (setting : Setting) (number : ℕ) where
   -- what is found in a list has its number there
   found_numbered : (all : List Accepted) (request : Accepted) → find (λ (r : Accepted). r.number == number) all ≡ Some request → 1 ≤ occurrences number (map (λ r. r.number) all)
   found_numbered [] request e = none_is_some request e
@@ -90,86 +91,88 @@ module _ (channel : Setting) (number : ℕ) where
       omega (arith, one, ap (occurrences number) (requests-one (Accept request spec script) past), occurrences-append number (requests past) (request ∷ []))
 
   -- an entry completes accepted requests alone
-  pub completed_asked : (what : What) (past : Past) (answer : Answer) → completed_by channel number what past ≡ Some answer → 1 ≤ occurrences number (requests (what ∷ past))
+  pub completed_asked : (what : What) (past : Past) (answer : Answer) → completed_by setting number what past ≡ Some answer → 1 ≤ occurrences number (requests (what ∷ past))
   completed_asked (Accept request spec script) past answer e = ⊎_elim
       (λ here. asked_now past spec script request here)
-      (λ other. none_is_some answer (subst (λ b. cond b (at_once channel number spec) None ≡ Some answer) other e))
+      (λ other. none_is_some answer (subst (λ b. cond b (at_once setting number spec) None ≡ Some answer) other e))
       (cases_Bool (request == number))
   completed_asked Cancel past answer e = asked_before Cancel past (asked_by_status past (spec_of number past) (λ spec. bare number Cancelled []) answer refl e)
   completed_asked Destroy past answer e = asked_before Destroy past (asked_by_status past (spec_of number past) (λ spec. bare number Destruction []) answer refl e)
   completed_asked (Take request) past answer e = none_is_some answer e
-  completed_asked (Start request leg server link id moment) past answer e = none_is_some answer e
+  completed_asked (Start request leg server link id mix moment) past answer e = none_is_some answer e
   completed_asked (Arrive server link bytes) past answer e =
-      asked_by_spec (Arrive server link bytes ∷ past) _ (answer_of_search channel number (Arrive server link bytes ∷ past)) answer refl e
+      asked_by_spec (Arrive server link bytes ∷ past) _ (answer_of_search setting number (Arrive server link bytes ∷ past)) answer refl e
   completed_asked (Expire request leg moment) past answer e =
-      asked_by_spec (Expire request leg moment ∷ past) _ (answer_of_search channel number (Expire request leg moment ∷ past)) answer refl e
+      asked_by_spec (Expire request leg moment ∷ past) _ (answer_of_search setting number (Expire request leg moment ∷ past)) answer refl e
   completed_asked (Fault server link moment) past answer e =
-      asked_by_spec (Fault server link moment ∷ past) _ (answer_of_search channel number (Fault server link moment ∷ past)) answer refl e
+      asked_by_spec (Fault server link moment ∷ past) _ (answer_of_search setting number (Fault server link moment ∷ past)) answer refl e
+  completed_asked (Servers list) past answer e = none_is_some answer e
 
   -- a number was accepted at most once
-  pub asked_at_most_once : (past : Past) → IsLawfulPast channel past → occurrences number (requests past) ≤ 1
-  asked_at_most_once past lawful = rw (requests_numbered channel past lawful) (occurrences_run number 1 (length (accepted past)))
+  pub asked_at_most_once : (past : Past) → IsLawfulPast setting past → occurrences number (requests past) ≤ 1
+  asked_at_most_once past lawful = rw (requests_numbered setting past lawful) (occurrences_run number 1 (length (accepted past)))
 
   -- how often an entry completes a request, by its answers before and by the entry
-  completed_count : (what : What) (past : Past) (before by : Option Answer) → fate channel number past ≡ before → completed_by channel number what past ≡ by
-      → occurrences number (completed_at channel what past) ≡ cond (is_some by) (cond (is_none before) (occurrences number (requests (what ∷ past))) 0) 0
+  completed_count : (what : What) (past : Past) (before by : Option Answer) → fate setting number past ≡ before → completed_by setting number what past ≡ by
+      → occurrences number (completed_at setting what past) ≡ cond (is_some by) (cond (is_none before) (occurrences number (requests (what ∷ past))) 0) 0
   completed_count what past before by is by_this =
       let asked : List ℕ = requests (what ∷ past) in
-      occurrences-filter (λ r. is_some (completed_by channel r what past)) number (filter (is_open channel past) asked)
-      ∙ ap₂ (λ b k. cond b k 0) (ap is_some by_this) (occurrences-filter (is_open channel past) number asked ∙ ap (λ b. cond (is_none b) (occurrences number asked) 0) is)
+      occurrences-filter (λ r. is_some (completed_by setting r what past)) number (filter (is_open setting past) asked)
+      ∙ ap₂ (λ b k. cond b k 0) (ap is_some by_this) (occurrences-filter (is_open setting past) number asked ∙ ap (λ b. cond (is_none b) (occurrences number asked) 0) is)
 
-  completes_step : (what : What) (past : Past) (before by : Option Answer) → IsLawfulPast channel (what ∷ past) → fate channel number past ≡ before → completed_by channel number what past ≡ by
-      → occurrences number (completions channel past) ≡ cond (is_some before) 1 0
-      → occurrences number (completions channel (what ∷ past)) ≡ cond (is_some (option_or before by)) 1 0
+  completes_step : (what : What) (past : Past) (before by : Option Answer) → IsLawfulPast setting (what ∷ past) → fate setting number past ≡ before → completed_by setting number what past ≡ by
+      → occurrences number (completions setting past) ≡ cond (is_some before) 1 0
+      → occurrences number (completions setting (what ∷ past)) ≡ cond (is_some (option_or before by)) 1 0
   completes_step what past (Some a) by lawful is by_this so_far =
-      let none : occurrences number (completed_at channel what past) ≡ 0 = completed_count what past (Some a) by is by_this ∙ no_choice (is_some by) in
-      let all = occurrences-append number (completions channel past) (completed_at channel what past) in
+      let none : occurrences number (completed_at setting what past) ≡ 0 = completed_count what past (Some a) by is by_this ∙ no_choice (is_some by) in
+      let all = occurrences-append number (completions setting past) (completed_at setting what past) in
       omega (arith, none, all, so_far)
   completes_step what past None None lawful is by_this so_far =
-      let none : occurrences number (completed_at channel what past) ≡ 0 = completed_count what past None None is by_this in
-      let all = occurrences-append number (completions channel past) (completed_at channel what past) in
+      let none : occurrences number (completed_at setting what past) ≡ 0 = completed_count what past None None is by_this in
+      let all = occurrences-append number (completions setting past) (completed_at setting what past) in
       omega (arith, none, all, so_far)
   completes_step what past None (Some a) lawful is by_this so_far =
-      let asked : occurrences number (completed_at channel what past) ≡ occurrences number (requests (what ∷ past)) = completed_count what past None (Some a) is by_this in
-      let all = occurrences-append number (completions channel past) (completed_at channel what past) in
+      let asked : occurrences number (completed_at setting what past) ≡ occurrences number (requests (what ∷ past)) = completed_count what past None (Some a) is by_this in
+      let all = occurrences-append number (completions setting past) (completed_at setting what past) in
       omega (arith, asked, all, so_far, completed_asked what past a by_this, asked_at_most_once (what ∷ past) lawful)
 
   -- a request stands among the completed ones once where it has an answer, and else never
-  pub completes_once : (past : Past) → IsLawfulPast channel past → occurrences number (completions channel past) ≡ cond (is_some (fate channel number past)) 1 0
+  pub completes_once : (past : Past) → IsLawfulPast setting past → occurrences number (completions setting past) ≡ cond (is_some (fate setting number past)) 1 0
   completes_once [] lawful = refl
   completes_once (what ∷ past) lawful =
-      completes_step what past (fate channel number past) (completed_by channel number what past) lawful refl refl (completes_once past lawful.1)
+      completes_step what past (fate setting number past) (completed_by setting number what past) lawful refl refl (completes_once past lawful.1)
 
 -- what a test passes everywhere it leaves as it is
-filter_all : {X : Type 0} (test : X → Bool) (xs : List X) → AllByRecursion (λ x. test x ≡ true) xs → filter test xs ≡ xs
+pub filter_all : {X : Type 0} (test : X → Bool) (xs : List X) → AllByRecursion (λ x. test x ≡ true) xs → filter test xs ≡ xs
 filter_all test [] each = refl
 filter_all test (x ∷ xs) each = rw (each.0, filter_all test xs each.1) refl
 
 -- and what it passes nowhere it leaves empty
-filter_none : {X : Type 0} (test : X → Bool) (xs : List X) → AllByRecursion (λ x. test x ≡ false) xs → filter test xs ≡ []
+pub filter_none : {X : Type 0} (test : X → Bool) (xs : List X) → AllByRecursion (λ x. test x ≡ false) xs → filter test xs ≡ []
 filter_none test [] each = refl
 filter_none test (x ∷ xs) each = rw each.0 (filter_none test xs each.1)
 
 -- the first of some numbers stands in front of what is left without it
-front_number : (numbers : List ℕ) (number : ℕ) → first numbers ≡ Some number → numbers ≡ number ∷ without number numbers
+pub front_number : (numbers : List ℕ) (number : ℕ) → first numbers ≡ Some number → numbers ≡ number ∷ without number numbers
 front_number [] number e = none_is_some number e
 front_number (n ∷ numbers) number e = let same : n ≡ number = cc in rw (same, eq-eqb number number refl) refl
 
-module _ (channel : Setting) where
+module _ (setting : Setting) where
   -- a Take completes nothing
-  take_completes : (past : Past) (number : ℕ) → completed_at channel (Take number) past ≡ []
-  take_completes past number = filter_none (λ request. false) (filter (is_open channel past) (requests (Take number ∷ past))) (each-any (λ _. false ≡ false) _ (λ _. refl))
+  take_completes : (past : Past) (number : ℕ) → completed_at setting (Take number) past ≡ []
+  take_completes past number = filter_none (λ request. false) (filter (is_open setting past) (requests (Take number ∷ past))) (each-any (λ _. false ≡ false) _ (λ _. refl))
 
   -- what is taken is the first of the ready ones, and completes nothing
-  take_allowed : (past : Past) (what : What) → IsAllowed channel past what → IfSome (taken_by what) (λ number. (first (ready channel past) ≡ Some number) × (completed_at channel what past ≡ []))
+  take_allowed : (past : Past) (what : What) → IsAllowed setting past what → IfSome (taken_by what) (λ number. (first (ready setting past) ≡ Some number) × (completed_at setting what past ≡ []))
   take_allowed past (Accept number spec script) allowed = tt
   take_allowed past Cancel allowed = tt
   take_allowed past Destroy allowed = tt
   take_allowed past (Take number) allowed = (allowed, take_completes past number)
-  take_allowed past (Start number leg server link id moment) allowed = tt
+  take_allowed past (Start number leg server link id mix moment) allowed = tt
   take_allowed past (Arrive server link bytes) allowed = tt
   take_allowed past (Expire number leg moment) allowed = tt
   take_allowed past (Fault server link moment) allowed = tt
+  take_allowed past (Servers list) allowed = tt
 
   queue_step : (before took now new : List ℕ) (by : Option ℕ) → before ≡ took ++ now → IfSome by (λ number. (first now ≡ Some number) × (new ≡ []))
       → before ++ new ≡ (took ++ option_to_list by) ++ (left_by by now ++ new)
@@ -179,19 +182,19 @@ module _ (channel : Setting) where
       rw (allowed.1, append-nil before, append-nil (without number now), append_assoc) (split ∙ ap (λ ns. took ++ ns) front)
 
   -- the ready requests are those that have completed without those that were taken, in one order
-  pub taken_then_ready : (past : Past) → IsLawfulPast channel past → completions channel past ≡ taken past ++ ready channel past
+  pub taken_then_ready : (past : Past) → IsLawfulPast setting past → completions setting past ≡ taken past ++ ready setting past
   taken_then_ready [] lawful = refl
   taken_then_ready (what ∷ past) lawful =
-      queue_step (completions channel past) (taken past) (ready channel past) (completed_at channel what past) (taken_by what) (taken_then_ready past lawful.1) (take_allowed past what lawful.0)
+      queue_step (completions setting past) (taken past) (ready setting past) (completed_at setting what past) (taken_by what) (taken_then_ready past lawful.1) (take_allowed past what lawful.0)
 
   at_most : (b : Bool) (n : ℕ) → n ≡ cond b 1 0 → n ≤ 1
   at_most true n e = omega (arith, e)
   at_most false n e = omega (arith, e)
 
   -- a request is taken at most once, and then isn't ready
-  pub taken_once : (past : Past) (number : ℕ) → IsLawfulPast channel past → occurrences number (taken past) + occurrences number (ready channel past) ≤ 1
+  pub taken_once : (past : Past) (number : ℕ) → IsLawfulPast setting past → occurrences number (taken past) + occurrences number (ready setting past) ≤ 1
   taken_once past number lawful =
-      omega (arith, at_most _ _ (completes_once channel number past lawful), ap (occurrences number) (taken_then_ready past lawful), occurrences-append number (taken past) (ready channel past))
+      omega (arith, at_most _ _ (completes_once setting number past lawful), ap (occurrences number) (taken_then_ready past lawful), occurrences-append number (taken past) (ready setting past))
 
   -- an accepted request is found by its number
   found_by_number : (all : List Accepted) → AllByRecursion (λ number. is_some (option_map (λ r. r.spec) (find (λ (r : Accepted). r.number == number) all)) ≡ true) (map (λ r. r.number) all)
@@ -208,23 +211,23 @@ module _ (channel : Setting) where
   still_some None f e = e
   still_some (Some spec) f e = refl
 
-  pending_asked : (past : Past) → AllByRecursion (λ number. IsTrue (is_open channel past number) × IsTrue (is_some (spec_of number past))) (pending channel past)
-  pending_asked past = each-filter (λ number. IsTrue (is_some (spec_of number past))) (is_open channel past) (requests past) (found_by_number (accepted past))
+  pending_asked : (past : Past) → AllByRecursion (λ number. IsTrue (is_open setting past number) × IsTrue (is_some (spec_of number past))) (pending setting past)
+  pending_asked past = each-filter (λ number. IsTrue (is_some (spec_of number past))) (is_open setting past) (requests past) (found_by_number (accepted past))
 
   -- a Cancel completes exactly the pending requests
-  pub cancel_completes : (past : Past) → completed_at channel Cancel past ≡ pending channel past
+  pub cancel_completes : (past : Past) → completed_at setting Cancel past ≡ pending setting past
   cancel_completes past =
       let same : requests (Cancel ∷ past) ≡ requests past = ap (map (λ (r : Accepted). r.number)) (append-nil (accepted past)) in
-      rw same (filter_all _ (pending channel past)
-      (each-then (λ number. IsTrue (is_open channel past number) × IsTrue (is_some (spec_of number past))) (λ number. is_some (completed_by channel number Cancel past) ≡ true) (pending channel past)
+      rw same (filter_all _ (pending setting past)
+      (each-then (λ number. IsTrue (is_open setting past number) × IsTrue (is_some (spec_of number past))) (λ number. is_some (completed_by setting number Cancel past) ≡ true) (pending setting past)
       (λ number h. still_some (spec_of number past) (λ spec. bare number Cancelled []) h.1) (pending_asked past)))
 
   -- so does a Destroy
-  pub destroy_completes : (past : Past) → completed_at channel Destroy past ≡ pending channel past
+  pub destroy_completes : (past : Past) → completed_at setting Destroy past ≡ pending setting past
   destroy_completes past =
       let same : requests (Destroy ∷ past) ≡ requests past = ap (map (λ (r : Accepted). r.number)) (append-nil (accepted past)) in
-      rw same (filter_all _ (pending channel past)
-      (each-then (λ number. IsTrue (is_open channel past number) × IsTrue (is_some (spec_of number past))) (λ number. is_some (completed_by channel number Destroy past) ≡ true) (pending channel past)
+      rw same (filter_all _ (pending setting past)
+      (each-then (λ number. IsTrue (is_open setting past number) × IsTrue (is_some (spec_of number past))) (λ number. is_some (completed_by setting number Destroy past) ≡ true) (pending setting past)
       (λ number h. still_some (spec_of number past) (λ spec. bare number Destruction []) h.1) (pending_asked past)))
 
   the_value : (o : Option Spec) (answer : Answer) → is_some o ≡ true → option_map (λ spec. answer) o ≡ Some answer
@@ -232,27 +235,27 @@ module _ (channel : Setting) where
   the_value (Some spec) answer e = refl
 
   -- with the status Cancelled
-  pub cancelled : (past : Past) → AllByRecursion (λ number. fate channel number (Cancel ∷ past) ≡ Some (bare number Cancelled [])) (pending channel past)
+  pub cancelled : (past : Past) → AllByRecursion (λ number. fate setting number (Cancel ∷ past) ≡ Some (bare number Cancelled [])) (pending setting past)
   cancelled past =
-      each-then (λ number. IsTrue (is_open channel past number) × IsTrue (is_some (spec_of number past))) (λ number. fate channel number (Cancel ∷ past) ≡ Some (bare number Cancelled [])) (pending channel past)
+      each-then (λ number. IsTrue (is_open setting past number) × IsTrue (is_some (spec_of number past))) (λ number. fate setting number (Cancel ∷ past) ≡ Some (bare number Cancelled [])) (pending setting past)
       (λ number h. rw (none_says _ h.0) (the_value (spec_of number past) (bare number Cancelled []) h.1)) (pending_asked past)
 
   -- or Destruction
-  pub destroyed : (past : Past) → AllByRecursion (λ number. fate channel number (Destroy ∷ past) ≡ Some (bare number Destruction [])) (pending channel past)
+  pub destroyed : (past : Past) → AllByRecursion (λ number. fate setting number (Destroy ∷ past) ≡ Some (bare number Destruction [])) (pending setting past)
   destroyed past =
-      each-then (λ number. IsTrue (is_open channel past number) × IsTrue (is_some (spec_of number past))) (λ number. fate channel number (Destroy ∷ past) ≡ Some (bare number Destruction [])) (pending channel past)
+      each-then (λ number. IsTrue (is_open setting past number) × IsTrue (is_some (spec_of number past))) (λ number. fate setting number (Destroy ∷ past) ≡ Some (bare number Destruction [])) (pending setting past)
       (λ number h. rw (none_says _ h.0) (the_value (spec_of number past) (bare number Destruction []) h.1)) (pending_asked past)
 
 -- the same of journals
-pub accepted_numbered : (channel : Setting) (journal : List Entry) → IsLawful channel journal → requests (past_of journal) ≡ range_with_len 1 (length (accepted (past_of journal)))
-accepted_numbered channel journal lawful = requests_numbered channel (past_of journal) lawful.allowed
+pub accepted_numbered : (setting : Setting) (journal : List Entry) → IsLawful setting journal → requests (past_of journal) ≡ range_with_len 1 (length (accepted (past_of journal)))
+accepted_numbered setting journal lawful = requests_numbered setting (past_of journal) lawful.allowed
 
-pub completed_once : (channel : Setting) (request : ℕ) (journal : List Entry) → IsLawful channel journal
-    → occurrences request (completions channel (past_of journal)) ≡ (if is_some (fate channel request (past_of journal)) then 1 else 0)
-completed_once channel request journal lawful = completes_once channel request (past_of journal) lawful.allowed
+pub completed_once : (setting : Setting) (request : ℕ) (journal : List Entry) → IsLawful setting journal
+    → occurrences request (completions setting (past_of journal)) ≡ (if is_some (fate setting request (past_of journal)) then 1 else 0)
+completed_once setting request journal lawful = completes_once setting request (past_of journal) lawful.allowed
 
-pub taken_in_order : (channel : Setting) (journal : List Entry) → IsLawful channel journal → completions channel (past_of journal) ≡ taken (past_of journal) ++ ready channel (past_of journal)
-taken_in_order channel journal lawful = taken_then_ready channel (past_of journal) lawful.allowed
+pub taken_in_order : (setting : Setting) (journal : List Entry) → IsLawful setting journal → completions setting (past_of journal) ≡ taken (past_of journal) ++ ready setting (past_of journal)
+taken_in_order setting journal lawful = taken_then_ready setting (past_of journal) lawful.allowed
 
-pub taken_at_most_once : (channel : Setting) (request : ℕ) (journal : List Entry) → IsLawful channel journal → occurrences request (taken (past_of journal)) + occurrences request (ready channel (past_of journal)) ≤ 1
-taken_at_most_once channel request journal lawful = taken_once channel (past_of journal) request lawful.allowed
+pub taken_at_most_once : (setting : Setting) (request : ℕ) (journal : List Entry) → IsLawful setting journal → occurrences request (taken (past_of journal)) + occurrences request (ready setting (past_of journal)) ≤ 1
+taken_at_most_once setting request journal lawful = taken_once setting (past_of journal) request lawful.allowed

@@ -5,7 +5,7 @@ use Rattle.std.proofs.lemmas.List.{append_assoc}
 use Rattle.chan_types.specs.declared.journal.Entry.{Entry}
 use Rattle.chan_types.specs.declared.journal.What.{What}
 use Rattle.net_world.specs.declared.log.WorldCall.{WorldCall}
-use Rattle.channel_model.specs.CutShort.{GoesOn, StopsShort, IsNear, NearlyAgrees}
+use Rattle.channel_model.specs.CutShort.{HasOneMore, StopsShort, IsNear, NearlyAgrees}
 use Rattle.channel_model.specs.Journal.{Past, followed_by}
 use Rattle.channel_model.specs.Links.{Link, held_after, told}
 use Rattle.channel_model.specs.Setting.{Setting}
@@ -24,7 +24,7 @@ module _ {A : Type 0} (seat : ℕ) (notes : Past → What → List A) (tells : L
   both_noted = noted-append seat notes past es fs ∙ ap (λ l. l ++ noted seat notes (followed_by past es) fs) same
 
   -- one thing more
-  goes_on_behind : GoesOn (noted seat notes (followed_by past es) fs) (told tells (held_after held cs) ds) → GoesOn (noted seat notes past (es ++ fs)) (told tells held (cs ++ ds))
+  goes_on_behind : HasOneMore (noted seat notes (followed_by past es) fs) (told tells (held_after held cs) ds) → HasOneMore (noted seat notes past (es ++ fs)) (told tells held (cs ++ ds))
   goes_on_behind more = record {
     last = more.last;
     is_behind =
@@ -62,40 +62,40 @@ module _ {A : Type 0} (seat : ℕ) (notes : Past → What → List A) (tells : L
   near_behind (inr (inr stops)) = inr (inr (stops_short_behind stops))
 
 -- the bytes written, and those to be written
-writes_behind : (channel : Setting) (seat link : ℕ) (a b : Standing) (es fs : List Entry) (cs ds : List WorldCall) → Agrees channel seat a es cs b →
-    IsPrefix (told (written link) b.held ds) (b.unwritten link ++ noted seat (queued channel link) b.past fs) →
-    IsPrefix (told (written link) a.held (cs ++ ds)) (a.unwritten link ++ noted seat (queued channel link) a.past (es ++ fs))
-writes_behind channel seat link a b es fs cs ds x p =
-    subst (λ l. IsPrefix l (a.unwritten link ++ noted seat (queued channel link) a.past (es ++ fs))) (sym told_both)
+writes_behind : (setting : Setting) (seat link : ℕ) (a b : Standing) (es fs : List Entry) (cs ds : List WorldCall) → Agrees setting seat a es cs b →
+    IsPrefix (told (written link) b.held ds) (b.unwritten link ++ noted seat (queued setting link) b.past fs) →
+    IsPrefix (told (written link) a.held (cs ++ ds)) (a.unwritten link ++ noted seat (queued setting link) a.past (es ++ fs))
+writes_behind setting seat link a b es fs cs ds x p =
+    subst (λ l. IsPrefix l (a.unwritten link ++ noted seat (queued setting link) a.past (es ++ fs))) (sym told_both)
     (subst (λ l. IsPrefix (told (written link) a.held cs ++ told (written link) b.held ds) l) (sym queued_both)
-    (prefix_behind (told (written link) a.held cs) (told (written link) b.held ds) (b.unwritten link ++ noted seat (queued channel link) b.past fs) p))
+    (prefix_behind (told (written link) a.held cs) (told (written link) b.held ds) (b.unwritten link ++ noted seat (queued setting link) b.past fs) p))
   where
     told_both : told (written link) a.held (cs ++ ds) ≡ told (written link) a.held cs ++ told (written link) b.held ds
     told_both = told-append (written link) a.held cs ds ∙ ap (λ h. told (written link) a.held cs ++ told (written link) h ds) (sym x.held_are)
 
-    queued_both : a.unwritten link ++ noted seat (queued channel link) a.past (es ++ fs) ≡ told (written link) a.held cs ++ (b.unwritten link ++ noted seat (queued channel link) b.past fs)
+    queued_both : a.unwritten link ++ noted seat (queued setting link) a.past (es ++ fs) ≡ told (written link) a.held cs ++ (b.unwritten link ++ noted seat (queued setting link) b.past fs)
     queued_both =
-        ap (λ l. a.unwritten link ++ l) (noted-append seat (queued channel link) a.past es fs)
-        ∙ ap (λ q. a.unwritten link ++ (noted seat (queued channel link) a.past es ++ noted seat (queued channel link) q fs)) (sym x.past_is)
-        ∙ sym (append_assoc (a.unwritten link) (noted seat (queued channel link) a.past es) (noted seat (queued channel link) b.past fs))
-        ∙ ap (λ l. l ++ noted seat (queued channel link) b.past fs) (x.writes link)
-        ∙ append_assoc (told (written link) a.held cs) (b.unwritten link) (noted seat (queued channel link) b.past fs)
+        ap (λ l. a.unwritten link ++ l) (noted-append seat (queued setting link) a.past es fs)
+        ∙ ap (λ q. a.unwritten link ++ (noted seat (queued setting link) a.past es ++ noted seat (queued setting link) q fs)) (sym x.past_is)
+        ∙ sym (append_assoc (a.unwritten link) (noted seat (queued setting link) a.past es) (noted seat (queued setting link) b.past fs))
+        ∙ ap (λ l. l ++ noted seat (queued setting link) b.past fs) (x.writes link)
+        ∙ append_assoc (told (written link) a.held cs) (b.unwritten link) (noted seat (queued setting link) b.past fs)
 
-pub nearly_behind : (channel : Setting) (seat : ℕ) (a b : Standing) (es fs : List Entry) (cs ds : List WorldCall) →
-    Agrees channel seat a es cs b → NearlyAgrees channel seat b fs ds → NearlyAgrees channel seat a (es ++ fs) (cs ++ ds)
-nearly_behind channel seat a b es fs cs ds x y =
-    let z : NearlyAgrees channel seat (record { past = followed_by a.past es; held = held_after a.held cs; unwritten = b.unwritten }) fs ds =
-    subst (λ h. NearlyAgrees channel seat (record { past = followed_by a.past es; held = h; unwritten = b.unwritten }) fs ds) x.held_are
-    (subst (λ p. NearlyAgrees channel seat (record { past = p; held = b.held; unwritten = b.unwritten }) fs ds) x.past_is y) in
+pub nearly_behind : (setting : Setting) (seat : ℕ) (a b : Standing) (es fs : List Entry) (cs ds : List WorldCall) →
+    Agrees setting seat a es cs b → NearlyAgrees setting seat b fs ds → NearlyAgrees setting seat a (es ++ fs) (cs ++ ds)
+nearly_behind setting seat a b es fs cs ds x y =
+    let z : NearlyAgrees setting seat (record { past = followed_by a.past es; held = held_after a.held cs; unwritten = b.unwritten }) fs ds =
+    subst (λ h. NearlyAgrees setting seat (record { past = followed_by a.past es; held = h; unwritten = b.unwritten }) fs ds) x.held_are
+    (subst (λ p. NearlyAgrees setting seat (record { past = p; held = b.held; unwritten = b.unwritten }) fs ds) x.past_is y) in
     record {
       arrivals = near_behind seat arrived messages a.past a.held es fs cs ds x.arrivals z.arrivals;
-      sends = near_behind seat (asked channel) datagrams a.past a.held es fs cs ds x.sends z.sends;
+      sends = near_behind seat (asked setting) datagrams a.past a.held es fs cs ds x.sends z.sends;
       links = near_behind seat opened connects a.past a.held es fs cs ds x.links z.links;
-      writes = λ link. writes_behind channel seat link a b es fs cs ds x (y.writes link);
+      writes = λ link. writes_behind setting seat link a b es fs cs ds x (y.writes link);
       faults_are = near_behind seat faulted faults a.past a.held es fs cs ds x.faults_are z.faults_are;
     }
 
 -- a stretch that agrees is not even one call apart
-pub agrees_nearly : (channel : Setting) (seat : ℕ) (a b : Standing) (es : List Entry) (cs : List WorldCall) → Agrees channel seat a es cs b → NearlyAgrees channel seat a es cs
-agrees_nearly channel seat a b es cs x =
+pub agrees_nearly : (setting : Setting) (seat : ℕ) (a b : Standing) (es : List Entry) (cs : List WorldCall) → Agrees setting seat a es cs b → NearlyAgrees setting seat a es cs
+agrees_nearly setting seat a b es cs x =
     record { arrivals = inl x.arrivals; sends = inl x.sends; links = inl x.links; writes = λ link. (b.unwritten link, sym (x.writes link)); faults_are = inl x.faults_are }

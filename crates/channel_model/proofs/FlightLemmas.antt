@@ -1,7 +1,7 @@
 -- Legs in flight: by which entries they come to be, and what the list of all says of one.
 use Rattle.std.proofs.Common.{eqb-true, eq-eqb, inr, ⊎_elim, inl, ap, subst, sym, true≢false}
 use Rattle.std.proofs.lemmas.Bool.{and_parts, and_from, cond_both, or_right, or_left, or_parts, cases_Bool}
-use Rattle.std.specs.List.{list_any, cons_option}
+use Rattle.std.specs.List.{AllByRecursion, list_any, cons_option}
 use Rattle.std.specs.Prelude.{ℕ, ◌≡◌, true, ◌==◌, refl, Option, Some, IsTrue, ◌⊎◌, IfSome, IsFalse, None, List, ◌∷◌, Bool, false, filter_map, [], ◌||◌}
 use Rattle.chan_types.specs.declared.journal.What.{What}
 use Rattle.channel_model.proofs.ListLemmas.{cond_cases, none_is_some, cond_left}
@@ -38,7 +38,7 @@ has_leg-kept leg (Some c) legs has =
     cond_both (has_leg c.leg legs) legs (c.leg ∷ legs) (λ l. has_leg leg l ≡ true) (λ _. has) (λ _. or_right (is_leg leg c.leg.request c.leg.number) _ has)
 
 -- and behind its own Start
-has_leg-new : (leg : Leg) (a : Attempt) (legs : List Leg) → leg ≡ a.leg → has_leg leg (with_leg (Some a) legs) ≡ true
+pub has_leg-new : (leg : Leg) (a : Attempt) (legs : List Leg) → leg ≡ a.leg → has_leg leg (with_leg (Some a) legs) ≡ true
 has_leg-new leg a legs same =
     cond_both (has_leg a.leg legs) legs (a.leg ∷ legs) (λ l. has_leg leg l ≡ true)
     (λ has. subst (λ l. has_leg l legs ≡ true) (sym same) has)
@@ -62,30 +62,30 @@ any_of_leg test h (l ∷ legs) leg a has flies none = ⊎_elim
     any_of_leg test h legs leg a there flies (any_rest test (h l) (filter_map h legs) none))
     (cases_Bool (is_leg leg l.request l.number))
 
-module _ (channel : Setting) where
+module _ (setting : Setting) where
   -- what an entry leaves of an attempt was there, and isn't closed
-  unless_closed-says : (what : What) (past : Past) (before : Option Attempt) (a : Attempt) → unless_closed channel what past before ≡ Some a
-      → (before ≡ Some a) × IsFalse (closes channel a what past)
+  pub unless_closed-says : (what : What) (past : Past) (before : Option Attempt) (a : Attempt) → unless_closed setting what past before ≡ Some a
+      → (before ≡ Some a) × IsFalse (closes setting a what past)
   unless_closed-says what past None a e = none_is_some a e
   unless_closed-says what past (Some b) a e =
-      let left = cond_left (closes channel b what past) b a e in
-      (ap Some left.1, subst (λ x. IsFalse (closes channel x what past)) left.1 left.0)
+      let left = cond_left (closes setting b what past) b a e in
+      (ap Some left.1, subst (λ x. IsFalse (closes setting x what past)) left.1 left.0)
 
   -- a leg in flight was begun by the last entry, or was in flight before it and isn't touched by it
-  pub flight-cases : (leg : Leg) (what : What) (past : Past) (a : Attempt) → flight channel leg (what ∷ past) ≡ Some a
-      → ((begun_by what ≡ Some a) × (leg ≡ a.leg)) ⊎ ((flight channel leg past ≡ Some a) × IsFalse (closes channel a what past) × IfSome (begun_by what) (λ c. IsFalse (is_of_leg leg c)))
+  pub flight-cases : (leg : Leg) (what : What) (past : Past) (a : Attempt) → flight setting leg (what ∷ past) ≡ Some a
+      → ((begun_by what ≡ Some a) × (leg ≡ a.leg)) ⊎ ((flight setting leg past ≡ Some a) × IsFalse (closes setting a what past) × IfSome (begun_by what) (λ c. IsFalse (is_of_leg leg c)))
   flight-cases leg what past a e = ⊎_elim
       (λ h. inl (h.0, is_leg-says leg a.leg.request a.leg.number h.1))
-      (λ h. let left = unless_closed-says what past (flight channel leg past) a h.0 in inr (left.0, left.1, h.1))
-      (begun_or-cases leg (begun_by what) (unless_closed channel what past (flight channel leg past)) a e)
+      (λ h. let left = unless_closed-says what past (flight setting leg past) a h.0 in inr (left.0, left.1, h.1))
+      (begun_or-cases leg (begun_by what) (unless_closed setting what past (flight setting leg past)) a e)
 
   -- the attempt by which a leg is in flight is one of that leg
-  pub flight-leg : (leg : Leg) (past : Past) (a : Attempt) → flight channel leg past ≡ Some a → leg ≡ a.leg
+  pub flight-leg : (leg : Leg) (past : Past) (a : Attempt) → flight setting leg past ≡ Some a → leg ≡ a.leg
   flight-leg leg [] a e = none_is_some a e
   flight-leg leg (what ∷ past) a e = ⊎_elim (λ h. h.1) (λ h. flight-leg leg past a h.0) (flight-cases leg what past a e)
 
   -- a leg in flight has a Start
-  pub flight-started : (leg : Leg) (past : Past) (a : Attempt) → flight channel leg past ≡ Some a → has_leg leg (started past) ≡ true
+  pub flight-started : (leg : Leg) (past : Past) (a : Attempt) → flight setting leg past ≡ Some a → has_leg leg (started past) ≡ true
   flight-started leg [] a e = none_is_some a e
   flight-started leg (what ∷ past) a e = ⊎_elim
       (λ h. subst (λ b. has_leg leg (with_leg b (started past)) ≡ true) (sym h.0) (has_leg-new leg a (started past) h.1))
@@ -93,6 +93,25 @@ module _ (channel : Setting) where
       (flight-cases leg what past a e)
 
   -- what no attempt in flight passes, the attempt of a leg doesn't
-  pub in_flight-none : (test : Attempt → Bool) (leg : Leg) (past : Past) (a : Attempt) → flight channel leg past ≡ Some a → list_any test (in_flight channel past) ≡ false → test a ≡ false
+  pub in_flight-none : (test : Attempt → Bool) (leg : Leg) (past : Past) (a : Attempt) → flight setting leg past ≡ Some a → list_any test (in_flight setting past) ≡ false → test a ≡ false
   in_flight-none test leg past a e none =
-      any_of_leg test (λ l. flight channel l past) (started past) leg a (flight-started leg past a e) e none
+      any_of_leg test (λ l. flight setting l past) (started past) leg a (flight-started leg past a e) e none
+
+-- the Start of another leg begins nothing for a leg
+pub begun_or-other : (leg : Leg) (begun before : Option Attempt) → IfSome begun (λ c. IsFalse (is_of_leg leg c)) → begun_or leg begun before ≡ before
+begun_or-other leg None before other = refl
+begun_or-other leg (Some c) before other = rw other refl
+
+module _ (setting : Setting) (past : Past) where
+  each_of_legs : (legs : List Leg) → AllByRecursion (λ (a : Attempt). flight setting a.leg past ≡ Some a) (filter_map (λ leg. flight setting leg past) legs)
+  each_of_legs [] = tt
+  each_of_legs (leg ∷ legs) = by_flight (flight setting leg past) refl (each_of_legs legs)
+    where
+      by_flight : (o : Option Attempt) → flight setting leg past ≡ o → AllByRecursion (λ (a : Attempt). flight setting a.leg past ≡ Some a) (filter_map (λ l. flight setting l past) legs)
+          → AllByRecursion (λ (a : Attempt). flight setting a.leg past ≡ Some a) (cons_option o (filter_map (λ l. flight setting l past) legs))
+      by_flight None is rest = rest
+      by_flight (Some a) is rest = (subst (λ l. flight setting l past ≡ Some a) (flight-leg setting leg past a is) is, rest)
+
+  -- each attempt in flight is the one by which its leg is
+  pub each_flies : AllByRecursion (λ (a : Attempt). flight setting a.leg past ≡ Some a) (in_flight setting past)
+  each_flies = each_of_legs (started past)

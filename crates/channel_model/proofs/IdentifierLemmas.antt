@@ -6,7 +6,6 @@ use Rattle.std.specs.Prelude.{ℕ, List, [], ◌∷◌, if◌then◌else◌, ◌
 use Rattle.channel_model.specs.Flight.{Attempt, in_flight}
 use Rattle.channel_model.specs.Identifiers.{AllUsed}
 use Rattle.channel_model.specs.Journal.{Past}
-use Rattle.channel_model.specs.Past.{attempts}
 use Rattle.channel_model.specs.Setting.{Setting}
 
 -- the attempts without the first that has the identifier
@@ -45,5 +44,5 @@ as_many (suc bound) attempts used =
     omega (arith, fewer, one_more bound attempts (used bound (omega arith)))
 
 -- where all identifiers are in flight, 65,536 attempts are, or more
-pub all_used_many : (channel : Setting) (past : Past) → AllUsed channel past → 2 ^ 16 ≤ length (in_flight channel past)
-all_used_many channel past used = as_many (2 ^ 16) (in_flight channel past) used
+pub all_used_many : (setting : Setting) (past : Past) → AllUsed setting past → 2 ^ 16 ≤ length (in_flight setting past)
+all_used_many setting past used = as_many (2 ^ 16) (in_flight setting past) used

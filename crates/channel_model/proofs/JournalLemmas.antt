@@ -23,30 +23,30 @@ past_of-push journal entry = followed_by-append [] journal (entry ∷ [])
 pub past_of-prefix : (journal longer : List Entry) (p : IsPrefix journal longer) → past_of longer ≡ followed_by (past_of journal) p.0
 past_of-prefix journal longer p = ap past_of (sym p.1) ∙ followed_by-append [] journal p.0
 
-module _ (channel : Setting) (request : ℕ) (answer : Answer) where
+module _ (setting : Setting) (request : ℕ) (answer : Answer) where
   -- a request that has completed keeps its answer behind one more entry
-  pub fate-one : (what : What) (past : Past) → fate channel request past ≡ Some answer → fate channel request (what ∷ past) ≡ Some answer
+  pub fate-one : (what : What) (past : Past) → fate setting request past ≡ Some answer → fate setting request (what ∷ past) ≡ Some answer
   fate-one what past completed = rw completed refl
 
   -- and behind any entries
-  pub fate-followed_by : (past : Past) (entries : List Entry) → fate channel request past ≡ Some answer → fate channel request (followed_by past entries) ≡ Some answer
+  pub fate-followed_by : (past : Past) (entries : List Entry) → fate setting request past ≡ Some answer → fate setting request (followed_by past entries) ≡ Some answer
   fate-followed_by past [] completed = completed
   fate-followed_by past (entry ∷ entries) completed = fate-followed_by (entry.what ∷ past) entries (fate-one entry.what past completed)
 
   -- and in every longer journal
-  pub fate_stays : (journal longer : List Entry) → IsPrefix journal longer → fate channel request (past_of journal) ≡ Some answer → fate channel request (past_of longer) ≡ Some answer
+  pub fate_stays : (journal longer : List Entry) → IsPrefix journal longer → fate setting request (past_of journal) ≡ Some answer → fate setting request (past_of longer) ≡ Some answer
   fate_stays journal longer p completed = rw (past_of-prefix journal longer p) (fate-followed_by (past_of journal) p.0 completed)
 
-module _ (channel : Setting) where
+module _ (setting : Setting) where
   -- what stands before is lawful
-  pub IsLawfulPast-before : (past : Past) (entries : List Entry) → IsLawfulPast channel (followed_by past entries) → IsLawfulPast channel past
+  pub IsLawfulPast-before : (past : Past) (entries : List Entry) → IsLawfulPast setting (followed_by past entries) → IsLawfulPast setting past
   IsLawfulPast-before past [] lawful = lawful
   IsLawfulPast-before past (entry ∷ entries) lawful = (IsLawfulPast-before (entry.what ∷ past) entries lawful).1
 
   -- a lawful journal's prefixes are lawful
-  pub lawful_prefix : (journal longer : List Entry) → IsPrefix journal longer → IsLawful channel longer → IsLawful channel journal
+  pub lawful_prefix : (journal longer : List Entry) → IsPrefix journal longer → IsLawful setting longer → IsLawful setting journal
   lawful_prefix journal longer p lawful = record { allowed = IsLawfulPast-before (past_of journal) p.0 (rw (← past_of-prefix journal longer p) lawful.allowed) }
 
   -- a lawful journal with one more entry, allowed behind it, is lawful
-  pub lawful_push : (old new : List Entry) (entry : Entry) → IsLawful channel old → new ≡ old ++ entry ∷ [] → IsAllowed channel (past_of old) entry.what → IsLawful channel new
+  pub lawful_push : (old new : List Entry) (entry : Entry) → IsLawful setting old → new ≡ old ++ entry ∷ [] → IsAllowed setting (past_of old) entry.what → IsLawful setting new
   lawful_push old new entry lawful added allowed = record { allowed = rw (added, past_of-push old entry) (allowed, lawful.allowed) }

@@ -22,4 +22,15 @@ pub mod LinkChoiceLemmas
 pub mod OrderLemmas
 pub mod PerformanceLemmas
 pub mod PieceLemmas
-pub mod Runs
+pub mod KeyLemmas
+pub mod ServerLemmas
+pub mod OpeningServersLemmas
+pub mod LegLemmas
+pub mod RequestLemmas
+pub mod AcceptLemmas
+pub mod InFlightLemmas
+pub mod LinkLemmas
+pub mod DueLemmas
+pub mod FailureLemmas
+pub mod LegFactsLemmas
+pub mod Theorems

@@ -24,28 +24,28 @@ greatest_link-above (what ∷ past) link above = by_start (begun_by what) (omega
 pub new_link-fresh : (past : Past) → IsFalse (list_any (is_start_on (greatest_link past + 1)) past)
 new_link-fresh past = greatest_link-above past (greatest_link past + 1) (omega arith)
 
-module _ (channel : Setting) (server : ℕ) (past : Past) where
+module _ (setting : Setting) (server : ℕ) (past : Past) where
   -- the link over TCP is that of an attempt in flight to the server, or a new one
-  pub tcp_link-cases : ((a : Attempt) × (find (is_on_tcp channel server) (in_flight channel past) ≡ Some a) × (tcp_link channel server past ≡ a.link)) ⊎ (tcp_link channel server past ≡ greatest_link past + 1)
-  tcp_link-cases = by_found (find (is_on_tcp channel server) (in_flight channel past)) refl
+  pub tcp_link-cases : ((a : Attempt) × (find (is_on_tcp setting server) (in_flight setting past) ≡ Some a) × (tcp_link setting server past ≡ a.link)) ⊎ (tcp_link setting server past ≡ greatest_link past + 1)
+  tcp_link-cases = by_found (find (is_on_tcp setting server) (in_flight setting past)) refl
     where
-      by_found : (found : Option Attempt) → find (is_on_tcp channel server) (in_flight channel past) ≡ found →
-          ((a : Attempt) × (find (is_on_tcp channel server) (in_flight channel past) ≡ Some a) × (tcp_link channel server past ≡ a.link)) ⊎ (tcp_link channel server past ≡ greatest_link past + 1)
+      by_found : (found : Option Attempt) → find (is_on_tcp setting server) (in_flight setting past) ≡ found →
+          ((a : Attempt) × (find (is_on_tcp setting server) (in_flight setting past) ≡ Some a) × (tcp_link setting server past ≡ a.link)) ⊎ (tcp_link setting server past ≡ greatest_link past + 1)
       by_found None is = inr (rw is refl)
       by_found (Some a) is = inl (a, is, rw is refl)
 
   -- the link of a leg's next attempt: 0, that of an attempt in flight, or a new one
   pub chosen_link-cases : (leg : Leg) →
-      (chosen_link channel leg server past ≡ 0)
-      ⊎ ((a : Attempt) × (find (is_on_tcp channel server) (in_flight channel past) ≡ Some a) × (chosen_link channel leg server past ≡ a.link))
-      ⊎ (chosen_link channel leg server past ≡ greatest_link past + 1)
-  chosen_link-cases leg = by_tcp (is_over_tcp channel (closings channel leg past)) refl tcp_link-cases
+      (chosen_link setting leg server past ≡ 0)
+      ⊎ ((a : Attempt) × (find (is_on_tcp setting server) (in_flight setting past) ≡ Some a) × (chosen_link setting leg server past ≡ a.link))
+      ⊎ (chosen_link setting leg server past ≡ greatest_link past + 1)
+  chosen_link-cases leg = by_tcp (is_over_tcp setting (closings setting leg past)) refl tcp_link-cases
     where
-      by_tcp : (b : Bool) → is_over_tcp channel (closings channel leg past) ≡ b →
-          ((a : Attempt) × (find (is_on_tcp channel server) (in_flight channel past) ≡ Some a) × (tcp_link channel server past ≡ a.link)) ⊎ (tcp_link channel server past ≡ greatest_link past + 1) →
-          (chosen_link channel leg server past ≡ 0)
-          ⊎ ((a : Attempt) × (find (is_on_tcp channel server) (in_flight channel past) ≡ Some a) × (chosen_link channel leg server past ≡ a.link))
-          ⊎ (chosen_link channel leg server past ≡ greatest_link past + 1)
+      by_tcp : (b : Bool) → is_over_tcp setting (closings setting leg past) ≡ b →
+          ((a : Attempt) × (find (is_on_tcp setting server) (in_flight setting past) ≡ Some a) × (tcp_link setting server past ≡ a.link)) ⊎ (tcp_link setting server past ≡ greatest_link past + 1) →
+          (chosen_link setting leg server past ≡ 0)
+          ⊎ ((a : Attempt) × (find (is_on_tcp setting server) (in_flight setting past) ≡ Some a) × (chosen_link setting leg server past ≡ a.link))
+          ⊎ (chosen_link setting leg server past ≡ greatest_link past + 1)
       by_tcp false is cases = inl (rw is refl)
       by_tcp true is (inl x) = inr (inl (x.0, x.1, rw is x.2))
       by_tcp true is (inr x) = inr (inr (rw is x))

@@ -4,7 +4,7 @@ use Rattle.std.specs.Prelude.{IsTrue, IsFalse}
 use Rattle.std.specs.List.{list_all, list_any}
 use Rattle.chan_types.specs.declared.journal.Entry.{Entry}
 use Rattle.chan_types.specs.declared.journal.What.{What}
-use Rattle.chan_types.specs.declared.journal.What.TheVariants.{Accept, Cancel, Destroy, Take, Start, Arrive, Expire, Fault}
+use Rattle.chan_types.specs.declared.journal.What.TheVariants.{Accept, Cancel, Destroy, Take, Start, Arrive, Expire, Fault, Servers}
 use Rattle.net_world.specs.declared.log.WorldCall.{WorldCall}
 use Rattle.channel_model.specs.Journal.{Past, followed_by, own_entries}
 use Rattle.channel_model.specs.Setting.{Setting}
@@ -30,10 +30,11 @@ arrived_anyway p q (Accept number spec script) = refl
 arrived_anyway p q Cancel = refl
 arrived_anyway p q Destroy = refl
 arrived_anyway p q (Take number) = refl
-arrived_anyway p q (Start number leg server link id moment) = refl
+arrived_anyway p q (Start number leg server link id mix moment) = refl
 arrived_anyway p q (Arrive server link bytes) = refl
 arrived_anyway p q (Expire number leg moment) = refl
 arrived_anyway p q (Fault server link moment) = refl
+arrived_anyway p q (Servers list) = refl
 
 noted_anyway : (seat : ℕ) (p q : Past) (es : List Entry) → noted seat arrived p es ≡ noted seat arrived q es
 noted_anyway seat p q [] = refl
@@ -47,7 +48,7 @@ other_brings_none part past (Accept number spec script) other among = refl
 other_brings_none part past Cancel other among = refl
 other_brings_none part past Destroy other among = refl
 other_brings_none part past (Take number) other among = refl
-other_brings_none part past (Start number leg server link id moment) other among = refl
+other_brings_none part past (Start number leg server link id mix moment) other among = refl
 other_brings_none part past (Arrive server link bytes) other among = absurd (neither (same_part part receiving) other among)
   where
     neither : (b : Bool) → b ≡ false → (b || false) ≡ true → ⊥
@@ -55,6 +56,7 @@ other_brings_none part past (Arrive server link bytes) other among = absurd (nei
     neither false h i = cc i
 other_brings_none part past (Expire number leg moment) other among = refl
 other_brings_none part past (Fault server link moment) other among = refl
+other_brings_none part past (Servers list) other among = refl
 
 module _ (seat reading : ℕ) where
   -- the entry is of the part
@@ -100,12 +102,12 @@ module _ (seat reading : ℕ) where
   behind_receiving (x ∷ e1) rest (y ∷ front) back e same all quiet own not_receiving past =
       behind_receiving e1 rest front back e (cc same) (own_first receiving x e1 all).1 quiet own not_receiving past
 
-module _ (channel : Setting) (seat reading : ℕ) where
+module _ (setting : Setting) (seat reading : ℕ) where
   -- the own entries of a part that was made are of it
   entries_alone : (part : Part) (es : List Entry) (cs : List WorldCall) → IsTrue (are_of part seat reading es cs) → IsTrue (list_all (is_of seat reading part) (own_entries seat es))
   entries_alone part es cs alone = (both (list_all (is_of seat reading part) (own_entries seat es)) (list_all (λ call. is_among part (parts_of_call call)) cs) alone).0
 
-  made_alone : (part : Part) (a : Standing) (es : List Entry) (cs : List WorldCall) (b : Standing) → HasMade channel seat reading part a es cs b →
+  made_alone : (part : Part) (a : Standing) (es : List Entry) (cs : List WorldCall) (b : Standing) → HasMade setting seat reading part a es cs b →
       IsTrue (list_all (is_of seat reading part) (own_entries seat es))
   made_alone receiving a es cs b made = entries_alone receiving es cs made.alone
   made_alone expiring a es cs b made = entries_alone expiring es cs made.alone
@@ -115,7 +117,7 @@ module _ (channel : Setting) (seat reading : ℕ) where
 
   -- the parts other than receiving bring no message
   parts_bring_none : (parts : List Part) (a : Standing) (es : List Entry) (cs : List WorldCall) (b : Standing) → IsFalse (list_any (λ part. same_part part receiving) parts) →
-      HaveMade channel seat reading parts a es cs b → (past : Past) → noted seat arrived past es ≡ []
+      HaveMade setting seat reading parts a es cs b → (past : Past) → noted seat arrived past es ≡ []
   parts_bring_none [] a es cs b others made past = ap (λ l. noted seat arrived past l) made.no_entry
   parts_bring_none (part ∷ parts) a es cs b others made past =
       let split = neither (same_part part receiving) (list_any (λ p. same_part p receiving) parts) others in
@@ -130,7 +132,7 @@ module _ (channel : Setting) (seat reading : ℕ) where
       neither false c h = (refl, h)
 
   -- in a turn no message arrives behind an entry that isn't made while it receives
-  pub receives_first : (a : Standing) (es : List Entry) (cs : List WorldCall) (b : Standing) → IsTurn channel seat reading a es cs b →
+  pub receives_first : (a : Standing) (es : List Entry) (cs : List WorldCall) (b : Standing) → IsTurn setting seat reading a es cs b →
       (front back : List Entry) (e : Entry) → es ≡ front ++ e ∷ back → e.seat ≡ seat → IsFalse (is_among receiving (parts_of_entry e.what)) → (past : Past) → noted seat arrived past back ≡ []
   receives_first a es cs b turn front back e same own not_receiving past =
       let parts = turn.parts in

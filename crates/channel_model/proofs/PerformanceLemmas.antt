@@ -20,27 +20,27 @@ abbrev pub position_after : ℕ → List Outcome → ℕ
 position_after from [] = from
 position_after from (outcome ∷ outcomes) = position_after (position_behind outcome) outcomes
 
-module _ (channel : Setting) (journal : List Entry) where
+module _ (setting : Setting) (journal : List Entry) where
   module _ (more : List Entry) where
     -- what happened before a position is the same in a longer journal
     past_longer : (k : ℕ) → k ≤ length journal → past_at journal k ≡ past_at (journal ++ more) k
     past_longer k le = sym (ap past_of (take-append-le k journal more le))
 
     -- what became of a command stays so
-    pub became_longer : (command : Command) (outcome : Outcome) → Became channel journal command outcome → Became channel (journal ++ more) command outcome
+    pub became_longer : (command : Command) (outcome : Outcome) → Became setting journal command outcome → Became setting (journal ++ more) command outcome
     became_longer command (left k) became =
         let at = became.0 in
         let within : k ≤ length journal = omega (arith, slice_get_within journal k at.entry at.stands) in (
           record { entry = at.entry; stands = get_longer journal more k at.entry at.stands; is_its = at.is_its },
-          subst (λ p. IsTrue (leaves channel command p)) (past_longer k within) became.1,
+          subst (λ p. IsTrue (leaves setting command p)) (past_longer k within) became.1,
         )
     became_longer command (passed k) became =
-        (omega (arith, became.0, length-append journal more), subst (λ p. IsFalse (leaves channel command p)) (past_longer k became.0) became.1)
+        (omega (arith, became.0, length-append journal more), subst (λ p. IsFalse (leaves setting command p)) (past_longer k became.0) became.1)
     became_longer command (lost k) became =
-        (omega (arith, became.0, length-append journal more), became.1, subst (λ p. IsTrue (leaves channel command p)) (past_longer k became.0) became.2)
+        (omega (arith, became.0, length-append journal more), became.1, subst (λ p. IsTrue (leaves setting command p)) (past_longer k became.0) became.2)
 
     -- and so does what became of several
-    pub all_became_longer : (from : ℕ) (commands : List Command) (outcomes : List Outcome) → AllBecame channel journal from commands outcomes → AllBecame channel (journal ++ more) from commands outcomes
+    pub all_became_longer : (from : ℕ) (commands : List Command) (outcomes : List Outcome) → AllBecame setting journal from commands outcomes → AllBecame setting (journal ++ more) from commands outcomes
     all_became_longer from [] [] became = became
     all_became_longer from [] (outcome ∷ outcomes) became = absurd became
     all_became_longer from (command ∷ commands) [] became = absurd became
@@ -48,8 +48,8 @@ module _ (channel : Setting) (journal : List Entry) where
         (became.0, became_longer command outcome became.1, all_became_longer (position_behind outcome) commands outcomes became.2)
 
   -- further commands, behind the first ones
-  pub all_became_append : (from : ℕ) (cs ds : List Command) (os ps : List Outcome) → AllBecame channel journal from cs os → AllBecame channel journal (position_after from os) ds ps →
-      AllBecame channel journal from (cs ++ ds) (os ++ ps)
+  pub all_became_append : (from : ℕ) (cs ds : List Command) (os ps : List Outcome) → AllBecame setting journal from cs os → AllBecame setting journal (position_after from os) ds ps →
+      AllBecame setting journal from (cs ++ ds) (os ++ ps)
   all_became_append from [] ds [] ps first more = more
   all_became_append from [] ds (o ∷ os) ps first more = absurd first
   all_became_append from (c ∷ cs) ds [] ps first more = absurd first

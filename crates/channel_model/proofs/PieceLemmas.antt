@@ -1,5 +1,5 @@
 -- Steps with bytes: the messages that a piece of a held link brings, a query that is sent as a datagram, and a write.
-use Rattle.std.proofs.Common.{◌≡◌, ℕ, ◌==◌, if◌then◌else◌, List, [], ◌∷◌, ◌++◌, take, drop, Bool, true, false, refl, sym, ap, ◌∙◌}
+use Rattle.std.proofs.Common.{◌≡◌, ℕ, ◌==◌, if◌then◌else◌, List, [], ◌∷◌, ◌++◌, take, drop, Option, Bool, true, false, refl, sym, ap, ◌∙◌}
 use Rattle.std.proofs.lemmas.List.{append-nil, take-append-drop}
 use Rattle.std.proofs.lemmas.Bool.{eqb-true}
 use Rattle.chan_types.specs.declared.journal.Entry.{Entry}
@@ -18,42 +18,42 @@ use Rattle.channel_model.proofs.StepLemmas.{AreOthers, noted-own, agrees_step, a
 use Rattle.channel_model.proofs.TrafficLemmas.{noted-append}
 
 -- the seat's entries note these messages, and nothing else
-pub record Brings (channel : Setting) (seat : ℕ) (past : Past) (es : List Entry) (ms : List Parcel) : Type 0 where
+pub record Brings (setting : Setting) (seat : ℕ) (past : Past) (es : List Entry) (ms : List Parcel) : Type 0 where
   pub arrivals : noted seat arrived past es ≡ ms
-  pub sends : noted seat (asked channel) past es ≡ []
+  pub sends : noted seat (asked setting) past es ≡ []
   pub links : noted seat opened past es ≡ []
-  pub writes : (link : ℕ) → noted seat (queued channel link) past es ≡ []
+  pub writes : (link : ℕ) → noted seat (queued setting link) past es ≡ []
   pub faults_are : noted seat faulted past es ≡ []
 
-module _ (channel : Setting) (seat : ℕ) where
+module _ (setting : Setting) (seat : ℕ) where
   -- no entry notes no message
-  pub brings_none : (past : Past) → Brings channel seat past [] []
+  pub brings_none : (past : Past) → Brings setting seat past [] []
   brings_none past = record { arrivals = refl; sends = refl; links = refl; writes = λ link. refl; faults_are = refl }
 
   -- an Arrive behind entries of others notes its message
   pub brings_one : (past : Past) (os : List Entry) (e : Entry) (server link : ℕ) (bytes : List ℕ) → AreOthers seat os → e.seat ≡ seat → e.what ≡ Arrive server link bytes →
-      Brings channel seat past (os ++ e ∷ []) (record { server = server; link = link; bytes = bytes } ∷ [])
+      Brings setting seat past (os ++ e ∷ []) (record { server = server; link = link; bytes = bytes } ∷ [])
   brings_one past os e server link bytes others own is = record {
     arrivals = noted-own seat arrived past os e others own ∙ rw is refl;
-    sends = noted-own seat (asked channel) past os e others own ∙ rw is refl;
+    sends = noted-own seat (asked setting) past os e others own ∙ rw is refl;
     links = noted-own seat opened past os e others own ∙ rw is refl;
-    writes = λ k. noted-own seat (queued channel k) past os e others own ∙ rw is refl;
+    writes = λ k. noted-own seat (queued setting k) past os e others own ∙ rw is refl;
     faults_are = noted-own seat faulted past os e others own ∙ rw is refl;
   }
 
   -- messages of two stretches
-  pub brings_append : (past : Past) (es fs : List Entry) (ms ns : List Parcel) → Brings channel seat past es ms → Brings channel seat (followed_by past es) fs ns → Brings channel seat past (es ++ fs) (ms ++ ns)
+  pub brings_append : (past : Past) (es fs : List Entry) (ms ns : List Parcel) → Brings setting seat past es ms → Brings setting seat (followed_by past es) fs ns → Brings setting seat past (es ++ fs) (ms ++ ns)
   brings_append past es fs ms ns x y = record {
     arrivals = noted-append seat arrived past es fs ∙ rw (x.arrivals, y.arrivals) refl;
-    sends = noted-append seat (asked channel) past es fs ∙ rw (x.sends, y.sends) refl;
+    sends = noted-append seat (asked setting) past es fs ∙ rw (x.sends, y.sends) refl;
     links = noted-append seat opened past es fs ∙ rw (x.links, y.links) refl;
-    writes = λ k. noted-append seat (queued channel k) past es fs ∙ rw (x.writes k, y.writes k) refl;
+    writes = λ k. noted-append seat (queued setting k) past es fs ∙ rw (x.writes k, y.writes k) refl;
     faults_are = noted-append seat faulted past es fs ∙ rw (x.faults_are, y.faults_are) refl;
   }
 
   -- a piece: its entries note the messages that become whole with it, none where its link isn't held
-  pub agrees_piece : (a : Standing) (es : List Entry) (number : ℕ) (bytes : List ℕ) → Brings channel seat a.past es (brought (held_link number a.held) bytes) →
-      Agrees channel seat a es (Receive (Piece number bytes) ∷ []) (record { past = followed_by a.past es; held = held_after a.held (Receive (Piece number bytes) ∷ []); unwritten = a.unwritten })
+  pub agrees_piece : (a : Standing) (es : List Entry) (number : ℕ) (bytes : List ℕ) → Brings setting seat a.past es (brought (held_link number a.held) bytes) →
+      Agrees setting seat a es (Receive (Piece number bytes) ∷ []) (record { past = followed_by a.past es; held = held_after a.held (Receive (Piece number bytes) ∷ []); unwritten = a.unwritten })
   agrees_piece a es number bytes x = record {
     past_is = refl;
     held_are = refl;
@@ -66,11 +66,11 @@ module _ (channel : Setting) (seat : ℕ) where
 
   module _ (a : Standing) (os : List Entry) (others : AreOthers seat os) where
     -- a Start over link 0, and its query as a datagram
-    pub agrees_sent : (e : Entry) (number leg server id moment word : ℕ) (bytes : List ℕ) → e.seat ≡ seat → e.what ≡ Start number leg server 0 id moment →
-        bytes ≡ query_bytes channel (followed_by a.past os) (record { leg = leg_of number leg; server = server; link = 0; id = id; moment = moment }) →
-        Agrees channel seat a (os ++ e ∷ []) (Word word ∷ Send server bytes WasSent ∷ []) (moved channel seat a os others e.what (Word word ∷ Send server bytes WasSent ∷ []))
-    agrees_sent e number leg server id moment word bytes own is query =
-        agrees_step channel seat a os others e (Word word ∷ Send server bytes WasSent ∷ []) (moved channel seat a os others e.what (Word word ∷ Send server bytes WasSent ∷ [])) own refl refl
+    pub agrees_sent : (e : Entry) (number leg server id moment word : ℕ) (mix : Option ℕ) (bytes : List ℕ) → e.seat ≡ seat → e.what ≡ Start number leg server 0 id mix moment →
+        bytes ≡ query_bytes setting (followed_by a.past os) (record { leg = leg_of number leg; server = server; link = 0; id = id; mix = mix; moment = moment }) →
+        Agrees setting seat a (os ++ e ∷ []) (Word word ∷ Send server bytes WasSent ∷ []) (moved setting seat a os others e.what (Word word ∷ Send server bytes WasSent ∷ []))
+    agrees_sent e number leg server id moment word mix bytes own is query =
+        agrees_step setting seat a os others e (Word word ∷ Send server bytes WasSent ∷ []) (moved setting seat a os others e.what (Word word ∷ Send server bytes WasSent ∷ [])) own refl refl
         (rw is refl) (rw (is, query) refl) (rw is refl) (λ k. rw is (append-nil (a.unwritten k))) (rw is refl)
 
     -- what is still to be written behind a write of the bytes of a link, of which so many were taken
@@ -79,9 +79,9 @@ module _ (channel : Setting) (seat : ℕ) where
 
     -- a write of all that is to be written to a link, of which the World takes the first bytes
     pub agrees_written : (link : ℕ) (bytes : List ℕ) (count : ℕ) → a.unwritten link ≡ bytes →
-        Agrees channel seat a os (Write link bytes (Count count) ∷ []) (record { past = followed_by a.past os; held = a.held; unwritten = without_taken link bytes count })
+        Agrees setting seat a os (Write link bytes (Count count) ∷ []) (record { past = followed_by a.past os; held = a.held; unwritten = without_taken link bytes count })
     agrees_written link bytes count is =
-        agrees_calls channel seat a os others (Write link bytes (Count count) ∷ []) (record { past = followed_by a.past os; held = a.held; unwritten = without_taken link bytes count })
+        agrees_calls setting seat a os others (Write link bytes (Count count) ∷ []) (record { past = followed_by a.past os; held = a.held; unwritten = without_taken link bytes count })
         refl refl refl refl refl (λ k. by_link k (link == k) refl) refl
       where
         by_link : (k : ℕ) (b : Bool) → (link == k) ≡ b →

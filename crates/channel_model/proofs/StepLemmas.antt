@@ -5,8 +5,9 @@ use Rattle.std.proofs.lemmas.List.{append-nil}
 use Rattle.chan_types.specs.declared.journal.Entry.{Entry}
 use Rattle.chan_types.specs.declared.journal.What.{What}
 use Rattle.chan_types.specs.declared.journal.What.TheVariants.{Arrive, Expire, Fault}
+use Rattle.net_addr.specs.declared.addr.ServerAddr.{ServerAddr}
 use Rattle.net_world.specs.declared.log.WorldCall.{WorldCall}
-use Rattle.net_world.specs.declared.log.WorldCall.TheVariants.{Receive, Close}
+use Rattle.net_world.specs.declared.log.WorldCall.TheVariants.{Receive, Close, Serve, Word}
 use Rattle.net_world.specs.declared.answers.Got.TheVariants.{Datagram, Ended, Nothing}
 use Rattle.channel_model.specs.Journal.{Past, followed_by}
 use Rattle.channel_model.specs.Links.{Link, held_link, held_after, told}
@@ -42,24 +43,35 @@ noted-own seat notes past os e others own =
     last : noted seat notes (followed_by past os) (e ∷ []) ≡ notes (followed_by past os) e.what
     last = rw (eq-eqb e.seat seat own, noted) (append-nil (notes (followed_by past os) e.what))
 
-module _ (channel : Setting) (seat : ℕ) (a : Standing) (os : List Entry) (others : AreOthers seat os) where
+module _ (setting : Setting) (seat : ℕ) (a b : Standing) (es : List Entry) (cs : List WorldCall) where
+  -- a word that is drawn before a stretch that agrees
+  pub agrees_word : (word : ℕ) → Agrees setting seat a es cs b → Agrees setting seat a es (Word word ∷ cs) b
+  agrees_word word x =
+      record { past_is = x.past_is; held_are = x.held_are; arrivals = x.arrivals; sends = x.sends; links = x.links; writes = x.writes; faults_are = x.faults_are }
+
+  -- a server that is told before it
+  pub agrees_serve : (server : ℕ) (address : ServerAddr) → Agrees setting seat a es cs b → Agrees setting seat a es (Serve server address ∷ cs) b
+  agrees_serve server address x =
+      record { past_is = x.past_is; held_are = x.held_are; arrivals = x.arrivals; sends = x.sends; links = x.links; writes = x.writes; faults_are = x.faults_are }
+
+module _ (setting : Setting) (seat : ℕ) (a : Standing) (os : List Entry) (others : AreOthers seat os) where
   -- one entry behind others, and the calls that tell of it
   pub agrees_step : (e : Entry) (cs : List WorldCall) (new : Standing) → e.seat ≡ seat →
       new.past ≡ e.what ∷ followed_by a.past os → new.held ≡ held_after a.held cs →
       arrived (followed_by a.past os) e.what ≡ told messages a.held cs →
-      asked channel (followed_by a.past os) e.what ≡ told datagrams a.held cs →
+      asked setting (followed_by a.past os) e.what ≡ told datagrams a.held cs →
       opened (followed_by a.past os) e.what ≡ told connects a.held cs →
-      ((link : ℕ) → a.unwritten link ++ queued channel link (followed_by a.past os) e.what ≡ told (written link) a.held cs ++ new.unwritten link) →
+      ((link : ℕ) → a.unwritten link ++ queued setting link (followed_by a.past os) e.what ≡ told (written link) a.held cs ++ new.unwritten link) →
       faulted (followed_by a.past os) e.what ≡ told faults a.held cs →
-      Agrees channel seat a (os ++ e ∷ []) cs new
+      Agrees setting seat a (os ++ e ∷ []) cs new
   agrees_step e cs new own past_is held_are arrivals sends links writes faults_are =
       record {
         past_is = past_is ∙ sym (followed_by-append a.past os (e ∷ []));
         held_are = held_are;
         arrivals = noted-own seat arrived a.past os e others own ∙ arrivals;
-        sends = noted-own seat (asked channel) a.past os e others own ∙ sends;
+        sends = noted-own seat (asked setting) a.past os e others own ∙ sends;
         links = noted-own seat opened a.past os e others own ∙ links;
-        writes = λ link. ap (λ l. a.unwritten link ++ l) (noted-own seat (queued channel link) a.past os e others own) ∙ writes link;
+        writes = λ link. ap (λ l. a.unwritten link ++ l) (noted-own seat (queued setting link) a.past os e others own) ∙ writes link;
         faults_are = noted-own seat faulted a.past os e others own ∙ faults_are;
       }
 
@@ -69,15 +81,15 @@ module _ (channel : Setting) (seat : ℕ) (a : Standing) (os : List Entry) (othe
       told messages a.held cs ≡ [] → told datagrams a.held cs ≡ [] → told connects a.held cs ≡ [] →
       ((link : ℕ) → a.unwritten link ≡ told (written link) a.held cs ++ new.unwritten link) →
       told faults a.held cs ≡ [] →
-      Agrees channel seat a os cs new
+      Agrees setting seat a os cs new
   agrees_calls cs new past_is held_are m d k w f =
       record {
         past_is = past_is;
         held_are = held_are;
         arrivals = noted-others seat arrived a.past os others ∙ sym m;
-        sends = noted-others seat (asked channel) a.past os others ∙ sym d;
+        sends = noted-others seat (asked setting) a.past os others ∙ sym d;
         links = noted-others seat opened a.past os others ∙ sym k;
-        writes = λ link. ap (λ l. a.unwritten link ++ l) (noted-others seat (queued channel link) a.past os others) ∙ append-nil (a.unwritten link) ∙ w link;
+        writes = λ link. ap (λ l. a.unwritten link ++ l) (noted-others seat (queued setting link) a.past os others) ∙ append-nil (a.unwritten link) ∙ w link;
         faults_are = noted-others seat faulted a.past os others ∙ sym f;
       }
 
@@ -87,24 +99,24 @@ module _ (channel : Setting) (seat : ℕ) (a : Standing) (os : List Entry) (othe
 
   -- a datagram that was received, and its Arrive
   pub agrees_datagram : (e : Entry) (server : ℕ) (bytes : List ℕ) → e.seat ≡ seat → e.what ≡ Arrive server 0 bytes →
-      Agrees channel seat a (os ++ e ∷ []) (Receive (Datagram server bytes) ∷ []) (moved e.what (Receive (Datagram server bytes) ∷ []))
+      Agrees setting seat a (os ++ e ∷ []) (Receive (Datagram server bytes) ∷ []) (moved e.what (Receive (Datagram server bytes) ∷ []))
   agrees_datagram e server bytes own is =
       agrees_step e (Receive (Datagram server bytes) ∷ []) (moved e.what (Receive (Datagram server bytes) ∷ [])) own refl refl (rw is refl) (rw is refl) (rw is refl)
       (λ link. rw is (append-nil (a.unwritten link))) (rw is refl)
 
   -- an Expire
-  pub agrees_expire : (e : Entry) (number leg moment : ℕ) → e.seat ≡ seat → e.what ≡ Expire number leg moment → Agrees channel seat a (os ++ e ∷ []) [] (moved e.what [])
+  pub agrees_expire : (e : Entry) (number leg moment : ℕ) → e.seat ≡ seat → e.what ≡ Expire number leg moment → Agrees setting seat a (os ++ e ∷ []) [] (moved e.what [])
   agrees_expire e number leg moment own is =
       agrees_step e [] (moved e.what []) own refl refl (rw is refl) (rw is refl) (rw is refl) (λ link. rw is (append-nil (a.unwritten link))) (rw is refl)
 
   -- the end of a held link, its Fault and its close
   pub agrees_ended : (e : Entry) (link : Link) (number moment : ℕ) → e.seat ≡ seat → held_link number a.held ≡ Some link → e.what ≡ Fault link.server link.number moment →
-      Agrees channel seat a (os ++ e ∷ []) (Receive (Ended number) ∷ Close number ∷ []) (moved e.what (Receive (Ended number) ∷ Close number ∷ []))
+      Agrees setting seat a (os ++ e ∷ []) (Receive (Ended number) ∷ Close number ∷ []) (moved e.what (Receive (Ended number) ∷ Close number ∷ []))
   agrees_ended e link number moment own held is =
       agrees_step e (Receive (Ended number) ∷ Close number ∷ []) (moved e.what (Receive (Ended number) ∷ Close number ∷ [])) own refl refl (rw is refl) (rw is refl) (rw is refl)
       (λ k. rw is (append-nil (a.unwritten k))) (rw is (rw held refl))
 
   -- a receive of nothing
-  pub agrees_nothing : Agrees channel seat a os (Receive Nothing ∷ []) (record { past = followed_by a.past os; held = a.held; unwritten = a.unwritten })
+  pub agrees_nothing : Agrees setting seat a os (Receive Nothing ∷ []) (record { past = followed_by a.past os; held = a.held; unwritten = a.unwritten })
   agrees_nothing =
       agrees_calls (Receive Nothing ∷ []) (record { past = followed_by a.past os; held = a.held; unwritten = a.unwritten }) refl refl refl refl refl (λ link. refl) refl

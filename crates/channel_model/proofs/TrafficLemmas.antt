@@ -50,38 +50,38 @@ joined seat notes tells past mid held between es fs cs ds p h a b =
     ∙ sym (told-append tells held cs ds)
 
 -- two stretches that agree, one behind the other, are one that agrees
-pub agrees_trans : (channel : Setting) (seat : ℕ) (a b c : Standing) (es fs : List Entry) (cs ds : List WorldCall) →
-    Agrees channel seat a es cs b → Agrees channel seat b fs ds c → Agrees channel seat a (es ++ fs) (cs ++ ds) c
-agrees_trans channel seat a b c es fs cs ds x y =
+pub agrees_trans : (setting : Setting) (seat : ℕ) (a b c : Standing) (es fs : List Entry) (cs ds : List WorldCall) →
+    Agrees setting seat a es cs b → Agrees setting seat b fs ds c → Agrees setting seat a (es ++ fs) (cs ++ ds) c
+agrees_trans setting seat a b c es fs cs ds x y =
     record {
       past_is = y.past_is ∙ ap (λ q. followed_by q fs) x.past_is ∙ sym (followed_by-append a.past es fs);
       held_are = y.held_are ∙ ap (λ h. held_after h ds) x.held_are ∙ sym (held_after-append a.held cs ds);
       arrivals = joined seat arrived messages a.past b.past a.held b.held es fs cs ds x.past_is x.held_are x.arrivals y.arrivals;
-      sends = joined seat (asked channel) datagrams a.past b.past a.held b.held es fs cs ds x.past_is x.held_are x.sends y.sends;
+      sends = joined seat (asked setting) datagrams a.past b.past a.held b.held es fs cs ds x.past_is x.held_are x.sends y.sends;
       links = joined seat opened connects a.past b.past a.held b.held es fs cs ds x.past_is x.held_are x.links y.links;
       writes = λ link. writes link;
       faults_are = joined seat faulted faults a.past b.past a.held b.held es fs cs ds x.past_is x.held_are x.faults_are y.faults_are;
     }
   where
-    writes : (link : ℕ) → a.unwritten link ++ noted seat (queued channel link) a.past (es ++ fs) ≡ told (written link) a.held (cs ++ ds) ++ c.unwritten link
+    writes : (link : ℕ) → a.unwritten link ++ noted seat (queued setting link) a.past (es ++ fs) ≡ told (written link) a.held (cs ++ ds) ++ c.unwritten link
     writes link =
-        ap (λ l. a.unwritten link ++ l) (noted-append seat (queued channel link) a.past es fs)
-        ∙ ap (λ q. a.unwritten link ++ (noted seat (queued channel link) a.past es ++ noted seat (queued channel link) q fs)) (sym x.past_is)
-        ∙ sym (append_assoc (a.unwritten link) (noted seat (queued channel link) a.past es) (noted seat (queued channel link) b.past fs))
-        ∙ ap (λ l. l ++ noted seat (queued channel link) b.past fs) (x.writes link)
-        ∙ append_assoc (told (written link) a.held cs) (b.unwritten link) (noted seat (queued channel link) b.past fs)
+        ap (λ l. a.unwritten link ++ l) (noted-append seat (queued setting link) a.past es fs)
+        ∙ ap (λ q. a.unwritten link ++ (noted seat (queued setting link) a.past es ++ noted seat (queued setting link) q fs)) (sym x.past_is)
+        ∙ sym (append_assoc (a.unwritten link) (noted seat (queued setting link) a.past es) (noted seat (queued setting link) b.past fs))
+        ∙ ap (λ l. l ++ noted seat (queued setting link) b.past fs) (x.writes link)
+        ∙ append_assoc (told (written link) a.held cs) (b.unwritten link) (noted seat (queued setting link) b.past fs)
         ∙ ap (λ l. told (written link) a.held cs ++ l) (y.writes link)
         ∙ ap (λ h. told (written link) a.held cs ++ (told (written link) h ds ++ c.unwritten link)) x.held_are
         ∙ sym (append_assoc (told (written link) a.held cs) (told (written link) (held_after a.held cs) ds) (c.unwritten link))
         ∙ ap (λ l. l ++ c.unwritten link) (sym (told-append (written link) a.held cs ds))
 
 -- where nothing happens, nothing is to agree
-pub agrees_none : (channel : Setting) (seat : ℕ) (a : Standing) → Agrees channel seat a [] [] a
-agrees_none channel seat a =
+pub agrees_none : (setting : Setting) (seat : ℕ) (a : Standing) → Agrees setting seat a [] [] a
+agrees_none setting seat a =
     record { past_is = refl; held_are = refl; arrivals = refl; sends = refl; links = refl; writes = λ link. append-nil (a.unwritten link); faults_are = refl }
 
 -- from the beginning on, a stretch that agrees is agreed traffic
-pub agrees_whole : (channel : Setting) (seat : ℕ) (journal : List Entry) (log : List WorldCall) (new : Standing) →
-    Agrees channel seat beginning journal log new → TrafficAgrees channel seat journal log
-agrees_whole channel seat journal log new a =
+pub agrees_whole : (setting : Setting) (seat : ℕ) (journal : List Entry) (log : List WorldCall) (new : Standing) →
+    Agrees setting seat beginning journal log new → TrafficAgrees setting seat journal log
+agrees_whole setting seat journal log new a =
     record { arrivals = a.arrivals; sends = a.sends; links = a.links; writes = λ link. (new.unwritten link, sym (a.writes link)); faults_are = a.faults_are }

@@ -47,22 +47,22 @@ abbrev pub literal : ℕ → Family → Addr → Answer
 literal request family address =
     if allows family address then record (bare request Success []) { addresses = address ∷ [] } else bare request NoData []
 
-module _ (channel : Setting) where
+module _ (setting : Setting) where
   -- the addresses that the hosts file gives a name, where it is asked
   abbrev pub listed : Name → Family → List Addr
-  listed name family = if asks_hosts channel.options.lookups then addresses_of name family channel.hosts else []
+  listed name family = if asks_hosts setting.options.lookups then addresses_of name family setting.hosts else []
 
   -- the name to which the addresses of the hosts file belong
   abbrev pub listed_name : Name → Family → Name
-  listed_name name family = unwrap_or (canonical_of name family channel.hosts) []
+  listed_name name family = unwrap_or (canonical_of name family setting.hosts) []
 
   -- the answer for a host that is a name: from the hosts file; the addresses of the host itself for a name below `localhost`; not found, where no server is asked; else none
   abbrev pub known_host : ℕ → Family → Bool → NameText → Option Answer
   known_host request family nosort text =
       let addresses = listed text.name family in
-      if has_item addresses then Some (found channel request nosort addresses (listed_name text.name family)) else
-      if last_is (codes "localhost") text.name then Some (found channel request nosort (loopbacks family) text.name) else
-      if asks_servers channel.options.lookups then None else Some (bare request NotFound [])
+      if has_item addresses then Some (found setting request nosort addresses (listed_name text.name family)) else
+      if last_is (codes "localhost") text.name then Some (found setting request nosort (loopbacks family) text.name) else
+      if asks_servers setting.options.lookups then None else Some (bare request NotFound [])
 
   -- the answer that a request gets at its Accept, if it gets one
   abbrev pub at_once : ℕ → Spec → Option Answer

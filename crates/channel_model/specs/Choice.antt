@@ -1,11 +1,12 @@
 -- Where a new attempt goes, and when it is due (this project's profile).
-use Rattle.std.specs.List.{range_with_len}
 use Rattle.std.specs.Prelude.{ℕ, List, [], ◌∷◌, if◌then◌else◌, nat_lt, Option, None, Some, max, ◌+◌, filter, ◌==◌, ◌&&◌, length, ◌%◌, map, unwrap_or, Bool, not, option_map, find, ◌*◌, ◌^◌, ◌/◌, min, ◌-◌}
 use Rattle.chan_types.specs.declared.journal.What.{What}
-use Rattle.channel_model.specs.Flight.{Attempt, begun_by, closes, in_flight, started}
+use Rattle.resolv_options.specs.declared.options.Options.{Options}
+use Rattle.channel_model.specs.Flight.{Attempt, begun_by, closes, in_flight, is_of_leg, started}
 use Rattle.channel_model.specs.Journal.{Past}
 use Rattle.channel_model.specs.Legs.{Leg}
-use Rattle.channel_model.specs.Past.{outcome_of, closings, in_use, forced_server, is_over_tcp, spent}
+use Rattle.channel_model.specs.Past.{outcome_of, closings, forced_server, is_over_tcp, spent}
+use Rattle.channel_model.specs.Servers.{enters, from_place, in_use, servers_at, servers_used}
 use Rattle.channel_model.specs.Setting.{Setting}
 use Rattle.channel_model.specs.declared.judged.Judged.{Judged}
 use Rattle.channel_model.specs.declared.judged.Judged.TheVariants.{NextTcp, NextPlain, Failed, Final}
@@ -43,38 +44,48 @@ count_with (Some NextPlain) count = 0
 count_with (Some (Failed status)) count = count + 1
 count_with (Some (Final status)) count = 0
 
-module _ (channel : Setting) where
+-- this long, or the longest wait where one is set and is shorter
+abbrev pub at_longest : Options → ℕ → ℕ
+at_longest options wait = if not (options.max_timeout == 0) && nat_lt options.max_timeout wait then options.max_timeout else wait
+
+-- how long an attempt is given where so many are spent and so many servers in use: the timeout, doubled with each round of these, nine times at most
+abbrev pub wait_of : Options → ℕ → ℕ → ℕ
+wait_of options count used = at_longest options (options.timeout * 2 ^ min 9 (count / used))
+
+-- a server's count behind the end of an attempt on this server
+abbrev pub counted_at : ℕ → Option Judged → Failing → Failing
+counted_at server outcome failing = if failing.server == server then record failing { count = count_with outcome failing.count } else failing
+
+module _ (setting : Setting) where
   -- the attempts on a server that an entry closes
   abbrev pub closed_on : ℕ → What → Past → List Attempt
-  closed_on server what past = filter (λ a. (a.server == server) && closes channel a what past) (in_flight channel past)
+  closed_on server what past = filter (λ a. (a.server == server) && closes setting a what past) (in_flight setting past)
 
   -- the failures of a server behind an entry that closes these attempts on it: several of them count as one
   abbrev pub count_behind : What → Past → List Attempt → ℕ → ℕ
   count_behind what past [] count = count
-  count_behind what past (a ∷ more) count = count_with (outcome_of channel a what past (closings channel a.leg past)) count
+  count_behind what past (a ∷ more) count = count_with (outcome_of setting a what past (closings setting a.leg past)) count
 
-  -- the failures of a server since its last good reply
+  -- the failures of a server since its last good reply, and since it entered the list
   abbrev pub failures : ℕ → Past → ℕ
   failures server [] = 0
-  failures server (what ∷ past) = count_behind what past (closed_on server what past) (failures server past)
+  failures server (what ∷ past) = if enters setting server what past then 0 else count_behind what past (closed_on server what past) (failures server past)
 
-  -- the index at which the order of the servers begins: the first, or with `rotate` one further for each leg that has a Start
+  -- the servers of the list, in its order, with their failures
+  abbrev pub failures_of_list : Past → List Failing
+  failures_of_list past = map (λ server. record { server = server.key; count = failures server.key past }) (servers_at setting past)
+
+  -- the place in the list at which the order of ties begins: the first, or with `rotate` one further for each leg that has a Start
   abbrev pub first_server : Past → ℕ
-  first_server past = if channel.options.rotate then length (started past) % in_use channel past else 0
-
-  -- the server with this index behind the first of the order, and its failures
-  abbrev pub failing_at : Past → ℕ → Failing
-  failing_at past k =
-      let server = (first_server past + k) % in_use channel past in
-      record { server = server; count = failures server past }
+  first_server past = if setting.options.rotate then length (started past) % in_use setting past else 0
 
   -- the servers in use, in the order of ties, with their failures
   abbrev pub failing : Past → List Failing
-  failing past = map (failing_at past) (range_with_len 0 (in_use channel past))
+  failing past = map (λ server. record { server = server.key; count = failures server.key past }) (from_place (first_server past) (servers_used setting past))
 
   -- the server of a leg's next attempt: the forced one, else the first with the fewest failures
   abbrev pub chosen_server : Leg → Past → ℕ
-  chosen_server leg past = unwrap_or (forced_server (closings channel leg past)) (least_of (failing past))
+  chosen_server leg past = unwrap_or (forced_server setting leg past) (least_of (failing past))
 
   -- the attempt went over TCP to this server
   abbrev pub is_on_tcp : ℕ → Attempt → Bool
@@ -82,20 +93,22 @@ module _ (channel : Setting) where
 
   -- a link over TCP to the server on which a leg is in flight, else a new one
   abbrev pub tcp_link : ℕ → Past → ℕ
-  tcp_link server past = unwrap_or (option_map (λ a. a.link) (find (is_on_tcp server) (in_flight channel past))) (greatest_link past + 1)
+  tcp_link server past = unwrap_or (option_map (λ a. a.link) (find (is_on_tcp server) (in_flight setting past))) (greatest_link past + 1)
 
   -- the link of a leg's next attempt to the server: 0 over UDP
   abbrev pub chosen_link : Leg → ℕ → Past → ℕ
-  chosen_link leg server past = if is_over_tcp channel (closings channel leg past) then tcp_link server past else 0
+  chosen_link leg server past = if is_over_tcp setting (closings setting leg past) then tcp_link server past else 0
 
-  -- this long, or the longest wait where one is set and is shorter
-  abbrev pub at_longest : ℕ → ℕ
-  at_longest wait = if not (channel.options.max_timeout == 0) && nat_lt channel.options.max_timeout wait then channel.options.max_timeout else wait
+  -- the deadline of an attempt that begins behind this past: its moment and its wait; moments stop at the greatest of 64 bits
+  abbrev pub deadline_from : Attempt → Past → ℕ
+  deadline_from a past = min (a.moment + wait_of setting.options (spent (closings setting a.leg past)) (in_use setting past)) (2 ^ 64 - 1)
 
-  -- how long an attempt is given where so many are spent: the timeout, doubled with each round of the servers in use
-  abbrev pub wait_of : ℕ → Past → ℕ
-  wait_of count past = at_longest (channel.options.timeout * 2 ^ (count / in_use channel past))
+  -- a leg's deadline, where an entry begins this attempt, and it had that deadline before
+  abbrev pub deadline_or : Leg → Past → Option Attempt → ℕ → ℕ
+  deadline_or leg past None before = before
+  deadline_or leg past (Some a) before = if is_of_leg leg a then deadline_from a past else before
 
-  -- when an attempt in flight is due: its moment and its wait, by the attempts that its leg has spent, which stay the same while it flies; moments stop at the greatest of 64 bits
-  abbrev pub deadline : Attempt → Past → ℕ
-  deadline a past = min (a.moment + wait_of (spent (closings channel a.leg past)) past) (2 ^ 64 - 1)
+  -- when a leg's attempt in flight is due: the deadline of its last Start, by the servers that were in use there
+  abbrev pub deadline : Leg → Past → ℕ
+  deadline leg [] = 0
+  deadline leg (what ∷ past) = deadline_or leg past (begun_by what) (deadline leg past)

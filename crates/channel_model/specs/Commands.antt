@@ -1,7 +1,7 @@
 -- The commands of callbacks are obeyed: each has its place in the journal, where its entry stands if it leaves one.
 use Rattle.std.specs.List.{list_all, list_any}
 use Rattle.std.specs.Option.{option_map_or}
-use Rattle.std.specs.Prelude.{Bool, IsFalse, IsTrue, List, None, Option, Some, [], count_by, false, filter_map, if◌then◌else◌, length, map, nat_le, nat_lt, not, option_map, position, slice_get, sum_by, take, true, ℕ, ⊤, ◌&&◌, ◌++◌, ◌+◌, ◌==◌, ◌||◌, ◌∷◌, ◌≡◌, ◌≤◌}
+use Rattle.std.specs.Prelude.{Bool, IsFalse, IsTrue, List, None, Option, Some, [], count_by, false, filter_map, if◌then◌else◌, length, map, nat_le, nat_lt, not, option_map, position, slice_get, sum_by, take, true, ℕ, ⊤, ◌&&◌, ◌++◌, ◌+◌, ◌==◌, ◌||◌, ◌∷◌, ◌≡◌, ◌≤◌, ◌<◌}
 use Rattle.chan_types.specs.Gives.{gives}
 use Rattle.chan_types.specs.Plans.{Plan}
 use Rattle.chan_types.specs.declared.command.Command.{Command}
@@ -69,6 +69,21 @@ abbrev pub is_behind_take : List Entry → ℕ → ℕ → ℕ → Bool
 is_behind_take journal seat request position =
     list_all (λ position_of_take. nat_lt position_of_take position) (positions_from (is_own_take seat request) 0 journal)
 
+-- the seat makes such an entry on another command than this request's, or on nobody's
+abbrev pub is_other_work : ℕ → ℕ → Entry → Bool
+is_other_work seat request entry = (entry.seat == seat) && not (entry.by == request)
+
+-- the position isn't behind the first of these that is behind the other position
+abbrev pub is_before_next : ℕ → ℕ → List ℕ → Bool
+is_before_next position from [] = true
+is_before_next position from (next ∷ positions) = if nat_lt from next then nat_le position next else is_before_next position from positions
+
+-- where the seat took the request, the position isn't behind what the seat did next beside the request's commands
+abbrev pub is_before_other_work : List Entry → ℕ → ℕ → ℕ → Bool
+is_before_other_work journal seat request position =
+    list_all (λ position_of_take. is_before_next position position_of_take (positions_from (is_other_work seat request) 0 journal))
+    (positions_from (is_own_take seat request) 0 journal)
+
 -- what happened before a position of the journal
 abbrev pub past_at : List Entry → ℕ → Past
 past_at journal position = past_of (take position journal)
@@ -130,18 +145,18 @@ pub record Performance : Type 0 where
   pub seat : ℕ
   pub outcomes : List Outcome
 
-module _ (channel : Setting) where
+module _ (setting : Setting) where
   -- the command leaves an entry, where this happened before: a request is refused and a second destroy does nothing once the channel is destroyed, and a cancel does nothing where nothing is pending
   abbrev pub leaves : Command → Past → Bool
   leaves (Ask spec script) past = not (is_destroyed past)
-  leaves Command.Cancel past = not (length (pending channel past) == 0)
+  leaves Command.Cancel past = not (length (pending setting past) == 0)
   leaves Command.Destroy past = not (is_destroyed past)
 
   module _ (journal : List Entry) where
     -- the commands of a request's callback: what its script gives for the answer with which it completed
     abbrev pub commands_for : Orders → ℕ → List Command
     commands_for orders request =
-        option_map_or (λ script. option_map_or (λ answer. gives script answer orders) (fate channel request (past_of journal)) []) (script_of request (past_of journal)) []
+        option_map_or (λ script. option_map_or (λ answer. gives script answer orders) (fate setting request (past_of journal)) []) (script_of request (past_of journal)) []
 
     -- this became of the command: it left its entry exactly where it leaves one, but for a request that was lost
     abbrev pub Became : Command → Outcome → Type 0
@@ -161,8 +176,9 @@ module _ (channel : Setting) where
     AllBecame from (command ∷ commands) (outcome ∷ outcomes) =
         (from ≤ position_of outcome) × Became command outcome × AllBecame (position_behind outcome) commands outcomes
 
-    -- the seat performed the commands of the request's callback, none behind the last position
-    pub record IsPerformed (orders : Orders) (last : ℕ) (p : Performance) : Type 0 where
+    -- one of so many seats performed the commands of the request's callback, none behind the last position
+    pub record IsPerformed (seats : ℕ) (orders : Orders) (last : ℕ) (p : Performance) : Type 0 where
+      pub seated : p.seat < seats
       -- each command has its outcome, in order
       pub became : AllBecame 0 (commands_for orders p.request) p.outcomes
       -- the entries that the callback commanded are theirs, and no other
@@ -172,17 +188,19 @@ module _ (channel : Setting) where
       pub in_time : IsTrue (list_all (λ outcome. nat_le (position_of outcome) last) p.outcomes)
       -- where that seat took the request, it performed them behind that
       pub behind_take : IsTrue (list_all (λ outcome. is_behind_take journal p.seat p.request (position_of outcome)) p.outcomes)
+      -- and before it did anything else
+      pub before_other_work : IsTrue (list_all (λ outcome. is_before_other_work journal p.seat p.request (position_of outcome)) p.outcomes)
 
     -- each of these was performed
-    abbrev pub ArePerformed : Orders → ℕ → List Performance → Type 0
-    ArePerformed orders last [] = ⊤
-    ArePerformed orders last (p ∷ ps) = IsPerformed orders last p × ArePerformed orders last ps
+    abbrev pub ArePerformed : ℕ → Orders → ℕ → List Performance → Type 0
+    ArePerformed seats orders last [] = ⊤
+    ArePerformed seats orders last (p ∷ ps) = IsPerformed seats orders last p × ArePerformed seats orders last ps
 
-    -- the commands of the callbacks of all taken requests were performed, none behind the last position, and so many requests were lost
-    pub record ObeysOrders (orders : Orders) (last : ℕ) (count_lost : ℕ) : Type 0 where
+    -- the commands of the callbacks of all taken requests were performed by so many seats, none behind the last position, and so many requests were lost
+    pub record ObeysOrders (seats : ℕ) (orders : Orders) (last : ℕ) (count_lost : ℕ) : Type 0 where
       pub performances : List Performance
       pub requests_are : map (λ p. p.request) performances ≡ taken (past_of journal)
-      pub performed : ArePerformed orders last performances
+      pub performed : ArePerformed seats orders last performances
       -- no other request's callback commanded an entry
       pub givers : IsTrue (list_all (λ entry. (entry.by == 0) || is_one_of (taken (past_of journal)) entry.by) journal)
       pub lost_are : count_lost ≡ sum_by (λ p. count_by is_lost p.outcomes) performances
@@ -190,3 +208,7 @@ module _ (channel : Setting) where
 -- the position of the Destroy that no callback commanded, or the journal's length where there is none
 abbrev pub closing_position : List Entry → ℕ
 closing_position journal = closing_from 0 journal
+
+-- the last position at which a command may be performed: the closing Destroy's; where the run was stopped before its end, the journal's end
+abbrev pub last_position : Bool → List Entry → ℕ
+last_position stopped journal = if stopped then length journal else closing_position journal

@@ -3,7 +3,7 @@ use Rattle.std.specs.Option.{option_or}
 use Rattle.std.specs.Prelude.{ℕ, Option, option_map, [], List, map, ◌∷◌, if◌then◌else◌, ◌==◌, ◌+◌, None, Some, ◌++◌, option_to_list, Bool, is_none, filter, is_some, ◌&&◌, unwrap_or, flat_map}
 use Rattle.chan_types.specs.declared.answer.Answer.{Answer}
 use Rattle.chan_types.specs.declared.journal.What.{What}
-use Rattle.chan_types.specs.declared.journal.What.TheVariants.{Accept, Cancel, Destroy, Take, Start, Arrive, Expire, Fault}
+use Rattle.chan_types.specs.declared.journal.What.TheVariants.{Accept, Cancel, Destroy, Take, Start, Arrive, Expire, Fault, Servers}
 use Rattle.chan_types.specs.declared.spec.Spec.{Spec}
 use Rattle.chan_types.specs.declared.status.Status.{Status}
 use Rattle.chan_types.specs.declared.status.Status.TheVariants.{Cancelled, Destruction}
@@ -40,10 +40,11 @@ taken_by (Accept number spec script) = None
 taken_by Cancel = None
 taken_by Destroy = None
 taken_by (Take number) = Some number
-taken_by (Start number leg server link id moment) = None
+taken_by (Start number leg server link id mix moment) = None
 taken_by (Arrive server link bytes) = None
 taken_by (Expire number leg moment) = None
 taken_by (Fault server link moment) = None
+taken_by (Servers list) = None
 
 -- the requests that were taken, in order
 abbrev pub taken : Past → List ℕ
@@ -55,17 +56,18 @@ abbrev pub left_by : Option ℕ → List ℕ → List ℕ
 left_by None numbers = numbers
 left_by (Some number) numbers = without number numbers
 
-module _ (channel : Setting) where
+module _ (setting : Setting) where
   -- the answer with which an entry completes a request, if the request has not completed before
   abbrev pub completed_by : ℕ → What → Past → Option Answer
-  completed_by request (Accept number spec script) past = if number == request then at_once channel request spec else None
+  completed_by request (Accept number spec script) past = if number == request then at_once setting request spec else None
   completed_by request Cancel past = bare_if_accepted request Cancelled past
   completed_by request Destroy past = bare_if_accepted request Destruction past
   completed_by request (Take number) past = None
-  completed_by request (Start number leg server link id moment) past = None
-  completed_by request (Arrive server link bytes) past = search_answer channel request (Arrive server link bytes ∷ past)
-  completed_by request (Expire number leg moment) past = search_answer channel request (Expire number leg moment ∷ past)
-  completed_by request (Fault server link moment) past = search_answer channel request (Fault server link moment ∷ past)
+  completed_by request (Start number leg server link id mix moment) past = None
+  completed_by request (Arrive server link bytes) past = search_answer setting request (Arrive server link bytes ∷ past)
+  completed_by request (Expire number leg moment) past = search_answer setting request (Expire number leg moment ∷ past)
+  completed_by request (Fault server link moment) past = search_answer setting request (Fault server link moment ∷ past)
+  completed_by request (Servers list) past = None
 
   -- the answer of a request that has completed: that of the first entry that completes it
   abbrev pub fate : ℕ → Past → Option Answer
@@ -96,7 +98,7 @@ module _ (channel : Setting) where
 
   -- the leg hasn't ended and isn't in flight
   abbrev pub is_idle : Past → Leg → Bool
-  is_idle past leg = is_none (flight channel leg past) && is_none (leg_end channel leg past)
+  is_idle past leg = is_none (flight setting leg past) && is_none (leg_end setting leg past)
 
   -- the legs of the candidate at which a search stands
   abbrev pub legs_at : ℕ → Spec → Stand → List Leg
@@ -105,7 +107,7 @@ module _ (channel : Setting) where
 
   -- the legs of a request's current candidate
   abbrev pub current_legs : Past → ℕ → List Leg
-  current_legs past request = unwrap_or (option_map (λ spec. legs_at request spec (stand_of channel request spec past)) (spec_of request past)) []
+  current_legs past request = unwrap_or (option_map (λ spec. legs_at request spec (stand_of setting request spec past)) (spec_of request past)) []
 
   -- the waiting legs of a pending request: those of its current candidate that are idle
   abbrev pub waiting_of : Past → ℕ → List Leg

@@ -1,13 +1,13 @@
 -- How a run goes: turns in order, with waits between them, and between two turns all that was ready is delivered.
 use Rattle.std.specs.List.{list_all}
 use Rattle.std.specs.Option.{option_map_or}
-use Rattle.std.specs.Prelude.{Bool, IsTrue, List, None, Option, Some, [], flat_map, is_some, length, min, nat_lt, not, true, ℕ, ⊤, ◌&&◌, ◌++◌, ◌+◌, ◌-◌, ◌==◌, ◌^◌, ◌||◌, ◌∷◌, ◌≡◌, ◌⊎◌}
+use Rattle.std.specs.Prelude.{Bool, IsTrue, List, None, Option, Some, [], flat_map, is_some, length, map, min, nat_lt, not, sum_by, true, ℕ, ⊤, ◌&&◌, ◌++◌, ◌+◌, ◌-◌, ◌==◌, ◌^◌, ◌||◌, ◌∷◌, ◌≡◌, ◌⊎◌}
 use mathlib.Core.List.{IsPrefix}
 use Rattle.chan_types.specs.declared.journal.Entry.{Entry}
 use Rattle.net_addr.specs.declared.addr.ServerAddr.{ServerAddr}
 use Rattle.net_world.specs.declared.answers.Waited.{Waited}
 use Rattle.net_world.specs.declared.log.WorldCall.{WorldCall}
-use Rattle.net_world.specs.declared.log.WorldCall.TheVariants.{Serve, Wait}
+use Rattle.net_world.specs.declared.log.WorldCall.TheVariants.{Now, Serve, Wait}
 use Rattle.channel_model.specs.Completion.{pending, ready, waiting}
 use Rattle.channel_model.specs.Flight.{in_flight}
 use Rattle.channel_model.specs.Journal.{Past}
@@ -21,13 +21,14 @@ pub record Rest : Type 0 where
   pub until : ℕ
   pub outcome : Waited
 
--- one turn, what stands behind it up to the next, and the wait there if there is one
+-- one turn, what stands behind it up to the next, the readings of the clock there that are no turn's, and the wait there if there is one
 pub record Round : Type 0 where
   pub reading : ℕ
   pub entries : List Entry
   pub calls : List WorldCall
   pub new : Standing
   pub between : List Entry
+  pub asides : List ℕ
   pub rest : Option Rest
 
 -- the calls of a wait, if there is one
@@ -39,9 +40,17 @@ calls_of_rest (Some rest) = Wait rest.until rest.outcome ∷ []
 abbrev pub entries_of : Round → List Entry
 entries_of round = round.entries ++ round.between
 
--- the calls of a turn, and the wait behind it
+-- readings of the clock, one behind the other
+abbrev pub readings : List ℕ → List WorldCall
+readings moments = map (λ moment. Now moment) moments
+
+-- the calls of a turn, the readings behind it that are no turn's, and the wait there
 abbrev pub calls_of : Round → List WorldCall
-calls_of round = round.calls ++ calls_of_rest round.rest
+calls_of round = round.calls ++ readings round.asides ++ calls_of_rest round.rest
+
+-- how many readings of the clock stand behind these turns that are no turn's
+abbrev pub asides_of : List Round → ℕ
+asides_of rounds = sum_by (λ round. length round.asides) rounds
 
 -- the servers are told, each with its number, from this one on
 abbrev pub serves_from : ℕ → List ServerAddr → List WorldCall
@@ -61,19 +70,19 @@ abbrev pub standing_after : Standing → List Round → Standing
 standing_after standing [] = standing
 standing_after standing (round ∷ rounds) = standing_after (behind round.new round.between) rounds
 
-module _ (channel : Setting) where
+module _ (setting : Setting) where
   -- here a run goes on without a wait: nothing is pending, or something is ready, or a leg waits and an identifier is left
   abbrev pub skips : Past → Bool
   skips past =
-      (length (pending channel past) == 0)
-      || not (length (ready channel past) == 0)
-      || (not (length (waiting channel past) == 0) && nat_lt (length (in_flight channel past)) most_entries)
+      (length (pending setting past) == 0)
+      || not (length (ready setting past) == 0)
+      || (not (length (waiting setting past) == 0) && nat_lt (length (in_flight setting past)) most_entries)
 
   -- the moment up to which a run waits here: the earlier of the first deadline in flight and the last reading plus the slice; moments stop at the greatest of 64 bits
   abbrev pub wakes_at : ℕ → ℕ → Past → ℕ
   wakes_at reading slice past =
       let latest = min (reading + slice) (2 ^ 64 - 1) in
-      option_map_or (λ due. min due.at latest) (first_due channel past) latest
+      option_map_or (λ due. min due.at latest) (first_due setting past) latest
 
   -- the wait behind a turn, if there is one, is up to the moment that a position there gives
   abbrev pub is_timely : ℕ → Round → Bool
@@ -83,8 +92,8 @@ module _ (channel : Setting) where
   -- behind a turn there is a position at which nothing is ready, one at which a request is pending, and where there is no wait one at which none is called for
   abbrev pub goes_on : Round → Bool
   goes_on round =
-      somewhere (λ past. length (ready channel past) == 0) round.new.past round.between
-      && somewhere (λ past. not (length (pending channel past) == 0)) round.new.past round.between
+      somewhere (λ past. length (ready setting past) == 0) round.new.past round.between
+      && somewhere (λ past. not (length (pending setting past) == 0)) round.new.past round.between
       && (is_some round.rest || somewhere skips round.new.past round.between)
 
   -- another turn follows only where the run goes on
@@ -94,7 +103,7 @@ module _ (channel : Setting) where
 
   -- the run was cut short while it told the servers
   pub record IsCutServing (journal : List Entry) (log : List WorldCall) : Type 0 where
-    pub told_so_far : IsPrefix log (serves_from 0 channel.options.servers)
+    pub told_so_far : IsPrefix log (serves_from 0 setting.options.servers)
     pub no_turn : IsTrue (has_no_turn journal)
 
   module _ (seat slice : ℕ) where
@@ -102,40 +111,44 @@ module _ (channel : Setting) where
     abbrev pub AreTurns : Standing → List Round → Type 0
     AreTurns standing [] = ⊤
     AreTurns standing (round ∷ rounds) =
-        IsTurn channel seat round.reading standing round.entries round.calls round.new
+        IsTurn setting seat round.reading standing round.entries round.calls round.new
         × IsTrue (has_no_turn round.between)
         × IsTrue (is_timely slice round)
         × IsTrue (may_follow round rounds)
         × AreTurns (behind round.new round.between) rounds
 
-    -- the journal and the log of a run fall into so many turns of the seat: before the first the servers are told, and nothing waits
-    pub record IsCourse (journal : List Entry) (log : List WorldCall) (turns : ℕ) : Type 0 where
+    -- the journal and the log of a run fall into so many turns of the seat, and so many readings of the clock that are no turn's: before the first turn the servers are told, and nothing waits
+    pub record IsCourse (journal : List Entry) (log : List WorldCall) (turns asides : ℕ) : Type 0 where
       pub first : List Entry
+      pub first_asides : List ℕ
       pub rounds : List Round
       pub journal_is : journal ≡ first ++ flat_map entries_of rounds
-      pub log_is : log ≡ serves_from 0 channel.options.servers ++ flat_map calls_of rounds
+      pub log_is : log ≡ serves_from 0 setting.options.servers ++ readings first_asides ++ flat_map calls_of rounds
       pub before : IsTrue (has_no_turn first)
       pub turns_are : AreTurns (behind beginning first) rounds
       pub count : length rounds ≡ turns
+      pub asides_are : length first_asides + asides_of rounds ≡ asides
       -- no other seat makes such entries
       pub of_seat : IsTrue (list_all (λ entry. not (is_of_turn entry) || (entry.seat == seat)) journal)
 
-    -- the run was cut short in a turn, behind so many whole ones
-    pub record IsCutCourse (journal : List Entry) (log : List WorldCall) (turns : ℕ) : Type 0 where
+    -- the run was cut short in the last of so many turns
+    pub record IsCutCourse (journal : List Entry) (log : List WorldCall) (turns asides : ℕ) : Type 0 where
+      pub whole : ℕ
+      pub count : turns ≡ whole + 1
       pub earlier : List Entry
       pub cut : List Entry
       pub later : List Entry
       pub calls_earlier : List WorldCall
       pub calls_cut : List WorldCall
       pub reading : ℕ
-      pub course : IsCourse earlier calls_earlier turns
+      pub course : IsCourse earlier calls_earlier whole asides
       pub going_on : IsTrue (list_all goes_on course.rounds)
-      pub turn : IsCutTurn channel seat reading (standing_after (behind beginning course.first) course.rounds) cut calls_cut
+      pub turn : IsCutTurn setting seat reading (standing_after (behind beginning course.first) course.rounds) cut calls_cut
       pub no_turn : IsTrue (has_no_turn later)
       pub journal_is : journal ≡ earlier ++ cut ++ later
       pub log_is : log ≡ calls_earlier ++ calls_cut
 
-    -- a run that wanted memory: so many whole turns were made, and then, or before them, it was cut short
-    abbrev pub IsCourseSoFar : List Entry → List WorldCall → ℕ → Type 0
-    IsCourseSoFar journal log turns =
-        IsCourse journal log turns ⊎ IsCutCourse journal log turns ⊎ (IsCutServing journal log × (turns ≡ 0))
+    -- a run that wanted memory: so many turns were made, the last of which may have been cut short, or it was cut short before the first
+    abbrev pub IsCourseSoFar : List Entry → List WorldCall → ℕ → ℕ → Type 0
+    IsCourseSoFar journal log turns asides =
+        IsCourse journal log turns asides ⊎ IsCutCourse journal log turns asides ⊎ (IsCutServing journal log × (turns ≡ 0) × (asides ≡ 0))

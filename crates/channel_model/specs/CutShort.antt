@@ -9,7 +9,7 @@ use Rattle.channel_model.specs.Stretch.{Standing}
 use Rattle.channel_model.specs.Traffic.{arrived, asked, connects, datagrams, faulted, faults, messages, noted, opened, queued, written}
 
 -- the journal notes one thing more than the calls tell, as a Start whose datagram wasn't sent any more
-pub record GoesOn {A : Type 0} (notes tells : List A) : Type 0 where
+pub record HasOneMore {A : Type 0} (notes tells : List A) : Type 0 where
   pub last : A
   pub is_behind : notes ≡ tells ++ last ∷ []
 
@@ -25,12 +25,12 @@ pub record StopsShort {A : Type 0} (tells : List Link → WorldCall → List A) 
 
 -- what is noted is what the calls tell, or one call apart from it
 abbrev pub IsNear : {A : Type 0} → (List Link → WorldCall → List A) → List Link → List WorldCall → List A → Type 0
-IsNear tells held calls notes = (notes ≡ told tells held calls) ⊎ GoesOn notes (told tells held calls) ⊎ StopsShort tells held calls notes
+IsNear tells held calls notes = (notes ≡ told tells held calls) ⊎ HasOneMore notes (told tells held calls) ⊎ StopsShort tells held calls notes
 
 -- from a standing on, what the seat's entries note is what the calls tell, or one call apart from it
-pub record NearlyAgrees (channel : Setting) (seat : ℕ) (old : Standing) (entries : List Entry) (calls : List WorldCall) : Type 0 where
+pub record NearlyAgrees (setting : Setting) (seat : ℕ) (old : Standing) (entries : List Entry) (calls : List WorldCall) : Type 0 where
   pub arrivals : IsNear messages old.held calls (noted seat arrived old.past entries)
-  pub sends : IsNear datagrams old.held calls (noted seat (asked channel) old.past entries)
+  pub sends : IsNear datagrams old.held calls (noted seat (asked setting) old.past entries)
   pub links : IsNear connects old.held calls (noted seat opened old.past entries)
-  pub writes : (link : ℕ) → IsPrefix (told (written link) old.held calls) (old.unwritten link ++ noted seat (queued channel link) old.past entries)
+  pub writes : (link : ℕ) → IsPrefix (told (written link) old.held calls) (old.unwritten link ++ noted seat (queued setting link) old.past entries)
   pub faults_are : IsNear faults old.held calls (noted seat faulted old.past entries)

@@ -37,7 +37,7 @@ is_reading (Receive got) = false
 is_reading (Close link) = false
 is_reading (Wait until outcome) = false
 
--- how many turns were made: each reads the clock once, and nothing else does
+-- how often the clock was read: once in each turn, and beside that where a course says so
 abbrev pub turns_in : List WorldCall → ℕ
 turns_in log = count_by is_reading log
 
@@ -52,11 +52,11 @@ somewhere_behind test first [] = somewhere test [] first
 somewhere_behind test first (round ∷ []) = somewhere test round.new.past round.between
 somewhere_behind test first (round ∷ next ∷ rounds) = somewhere_behind test first (next ∷ rounds)
 
-module _ (channel : Setting) where
+module _ (setting : Setting) where
   -- a request was pending at the Destroy that no callback commanded
   abbrev pub is_left_pending : List Entry → Bool
   is_left_pending journal =
-      nat_lt (closing_position journal) (length journal) && not (length (pending channel (past_at journal (closing_position journal))) == 0)
+      nat_lt (closing_position journal) (length journal) && not (length (pending setting (past_at journal (closing_position journal))) == 0)
 
   -- all turns were made, and a request was pending at the Destroy that no callback commanded
   pub record IsStalled (turns : ℕ) (journal : List Entry) (log : List WorldCall) : Type 0 where
@@ -65,5 +65,5 @@ module _ (channel : Setting) where
 
   -- all turns were made by the seat, and a request was pending at a position behind the last
   pub record IsStalledBehind (seat slice turns : ℕ) (journal : List Entry) (log : List WorldCall) : Type 0 where
-    pub course : IsCourse channel seat slice journal log turns
-    pub left_pending : IsTrue (somewhere_behind (λ past. not (length (pending channel past) == 0)) course.first course.rounds)
+    pub course : IsCourse setting seat slice journal log turns 0
+    pub left_pending : IsTrue (somewhere_behind (λ past. not (length (pending setting past) == 0)) course.first course.rounds)

@@ -5,11 +5,11 @@ use Rattle.channel_model.specs.Flight.{Attempt, closes, begun_by}
 use Rattle.channel_model.specs.Journal.{Past}
 use Rattle.channel_model.specs.Setting.{Setting}
 
-module _ (channel : Setting) (a : Attempt) where
+module _ (setting : Setting) (a : Attempt) where
   -- none of the newer entries closes the attempt, each at its own position
   abbrev pub NoneCloses : List What → Past → Type 0
   NoneCloses [] past = ⊤
-  NoneCloses (what ∷ newer) past = IsFalse (closes channel a what (newer ++ past)) × NoneCloses newer past
+  NoneCloses (what ∷ newer) past = IsFalse (closes setting a what (newer ++ past)) × NoneCloses newer past
 
   -- the past is newer entries, the Start of the attempt, and older ones; and none of the newer closes it
   pub record IsInFlight (past : Past) : Type 0 where

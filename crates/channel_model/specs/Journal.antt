@@ -4,7 +4,7 @@ use Rattle.std.specs.List.{list_any}
 use Rattle.std.specs.Prelude.{List, [], ◌∷◌, ℕ, filter, ◌==◌, Option, Some, None, ◌++◌, option_to_list, find, option_map, Bool, false, true}
 use Rattle.chan_types.specs.declared.journal.Entry.{Entry}
 use Rattle.chan_types.specs.declared.journal.What.{What}
-use Rattle.chan_types.specs.declared.journal.What.TheVariants.{Accept, Cancel, Destroy, Take, Start, Arrive, Expire, Fault}
+use Rattle.chan_types.specs.declared.journal.What.TheVariants.{Accept, Cancel, Destroy, Take, Start, Arrive, Expire, Fault, Servers}
 use Rattle.chan_types.specs.declared.script.Script.{Script}
 use Rattle.chan_types.specs.declared.spec.Spec.{Spec}
 
@@ -36,10 +36,11 @@ accepted_by (Accept number spec script) = Some (record { number = number; spec =
 accepted_by Cancel = None
 accepted_by Destroy = None
 accepted_by (Take number) = None
-accepted_by (Start number leg server link id moment) = None
+accepted_by (Start number leg server link id mix moment) = None
 accepted_by (Arrive server link bytes) = None
 accepted_by (Expire number leg moment) = None
 accepted_by (Fault server link moment) = None
+accepted_by (Servers list) = None
 
 -- the accepted requests, in the order of their entries
 abbrev pub accepted : Past → List Accepted
@@ -64,10 +65,11 @@ is_destroy (Accept number spec script) = false
 is_destroy Cancel = false
 is_destroy Destroy = true
 is_destroy (Take number) = false
-is_destroy (Start number leg server link id moment) = false
+is_destroy (Start number leg server link id mix moment) = false
 is_destroy (Arrive server link bytes) = false
 is_destroy (Expire number leg moment) = false
 is_destroy (Fault server link moment) = false
+is_destroy (Servers list) = false
 
 -- a Destroy stands in the past
 abbrev pub is_destroyed : Past → Bool

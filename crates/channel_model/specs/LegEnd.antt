@@ -31,4 +31,4 @@ end_of (closing ∷ earlier) =
 
 -- how the leg has ended, if it has
 abbrev pub leg_end : Setting → Leg → Past → Option LegEnd
-leg_end channel leg past = end_of (closings channel leg past)
+leg_end setting leg past = end_of (closings setting leg past)

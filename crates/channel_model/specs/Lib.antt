@@ -1,5 +1,6 @@
 pub mod Numbers
 pub mod Journal
+pub mod Servers
 pub mod Setting
 pub mod Legs
 pub mod Questions
@@ -18,8 +19,8 @@ pub mod Lawful
 pub mod Tests
 pub mod Identifiers
 pub mod Known
-pub mod Desk
-pub mod Worked
+pub mod Meanings
+pub mod Seen
 pub mod Frames
 pub mod Calls
 pub mod Links
@@ -31,3 +32,5 @@ pub mod Course
 pub mod Commands
 pub mod Endings
 pub mod Adding
+pub mod AsMany
+pub mod LegFacts

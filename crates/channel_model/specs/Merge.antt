@@ -78,10 +78,10 @@ abbrev pub sorted : List Addr → List Addr → List Addr
 sorted sources [] = []
 sorted sources (address ∷ addresses) = sorted_in sources address (sorted sources addresses)
 
-module _ (channel : Setting) where
+module _ (setting : Setting) where
   -- the addresses in the order that the caller gets: sorted, unless the caller wants them as they stood
   abbrev pub ordered : Bool → List Addr → List Addr
-  ordered nosort addresses = if nosort then addresses else sorted channel.options.sources addresses
+  ordered nosort addresses = if nosort then addresses else sorted setting.options.sources addresses
 
   -- the good answer with these addresses, which belong to this name
   abbrev pub found : ℕ → Bool → List Addr → Name → Answer

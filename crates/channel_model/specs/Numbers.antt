@@ -1,5 +1,6 @@
 -- The numbers of the standard that the rules name: kinds and classes of records (RFC 1035, sections 3.2.2 and 3.2.4), and the bits of a header's flags (RFC 1035, section 4.1.1).
 use Rattle.std.specs.Prelude.{ℕ, Bool, ◌/◌, ◌^◌, ◌%◌, ◌==◌, if◌then◌else◌}
+use Rattle.dns_message.specs.Numbers.{has_bit}
 use Rattle.dns_message.specs.declared.message.Message.{Message}
 
 -- an IPv4 address
@@ -21,10 +22,6 @@ kind_aaaa = 28
 -- the Internet class
 abbrev pub class_in : ℕ
 class_in = 1
-
--- the flag of bit k is set, bit 0 being the lowest
-abbrev pub has_bit : ℕ → ℕ → Bool
-has_bit k flags = (flags / 2 ^ k) % 2 == 1
 
 -- the message is a response (QR)
 abbrev pub is_response : Message → Bool

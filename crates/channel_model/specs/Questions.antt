@@ -40,10 +40,10 @@ wanted_kind (Some (Search text kind class)) number = None
 wanted_kind (Some (Address host family nosort)) number = Some (kind_of_leg number)
 wanted_kind (Some (Reverse address)) number = None
 
-module _ (channel : Setting) where
+module _ (setting : Setting) where
   -- the candidates of a text, by the search list
   abbrev pub search_list : NameText → List Name
-  search_list text = candidates text channel.options
+  search_list text = candidates text setting.options
 
   -- the candidates of a request, in the order in which they are asked
   abbrev pub candidates_of : Spec → List Name

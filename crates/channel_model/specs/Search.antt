@@ -43,10 +43,10 @@ abbrev pub answer_at : Stand → Option Answer
 answer_at (asking c) = None
 answer_at (over answer) = Some answer
 
-module _ (channel : Setting) where
+module _ (setting : Setting) where
   -- how a leg of a request has ended
   abbrev pub end_at : ℕ → ℕ → Past → Option LegEnd
-  end_at request number past = leg_end channel (leg_of request number) past
+  end_at request number past = leg_end setting (leg_of request number) past
 
   -- the answer of a candidate with one leg and whatever records, where the leg has ended: the reply that ended it
   abbrev pub leg_answer : ℕ → ℕ → Past → Option Answer
@@ -55,9 +55,9 @@ module _ (channel : Setting) where
   -- the answer of an Address candidate, where its legs have ended
   abbrev pub address_answer : ℕ → Family → Bool → ℕ → Name → Past → Option Answer
   address_answer request Family.Any nosort c name past =
-      option_and_then (λ left. option_map (merged channel request nosort name left) (end_at request (second_leg c) past)) (end_at request (first_leg c) past)
-  address_answer request Family.V4 nosort c name past = option_map (merged_one channel request nosort name addresses_v4) (end_at request (first_leg c) past)
-  address_answer request Family.V6 nosort c name past = option_map (merged_one channel request nosort name addresses_v6) (end_at request (second_leg c) past)
+      option_and_then (λ left. option_map (merged setting request nosort name left) (end_at request (second_leg c) past)) (end_at request (first_leg c) past)
+  address_answer request Family.V4 nosort c name past = option_map (merged_one setting request nosort name addresses_v4) (end_at request (first_leg c) past)
+  address_answer request Family.V6 nosort c name past = option_map (merged_one setting request nosort name addresses_v6) (end_at request (second_leg c) past)
 
   -- the answer with which a candidate has ended, if all its legs have ended
   abbrev pub candidate_answer : ℕ → Spec → ℕ → Name → Past → Option Answer
@@ -79,12 +79,12 @@ module _ (channel : Setting) where
 
   -- where the search of a request stands that asks this
   abbrev pub stand_of : ℕ → Spec → Past → Stand
-  stand_of request spec past = stand_at request spec past 0 (candidates_of channel spec)
+  stand_of request spec past = stand_at request spec past 0 (candidates_of setting spec)
 
   -- the answer with which the search of a request is over that asks this
   abbrev pub answer_of_search : ℕ → Past → Spec → Option Answer
   answer_of_search request past spec =
-      option_map (last_answer (any_empty request spec past 0 (candidates_of channel spec))) (answer_at (stand_of request spec past))
+      option_map (last_answer (any_empty request spec past 0 (candidates_of setting spec))) (answer_at (stand_of request spec past))
 
   -- the answer with which the search of a request is over
   abbrev pub search_answer : ℕ → Past → Option Answer

@@ -23,14 +23,14 @@ abbrev pub behind : Standing → List Entry → Standing
 behind standing entries = record standing { past = followed_by standing.past entries }
 
 -- from the one standing to the other, what the seat's entries note is what the calls tell
-pub record Agrees (channel : Setting) (seat : ℕ) (old : Standing) (entries : List Entry) (calls : List WorldCall) (new : Standing) : Type 0 where
+pub record Agrees (setting : Setting) (seat : ℕ) (old : Standing) (entries : List Entry) (calls : List WorldCall) (new : Standing) : Type 0 where
   pub past_is : new.past ≡ followed_by old.past entries
   pub held_are : new.held ≡ held_after old.held calls
   pub arrivals : noted seat arrived old.past entries ≡ told messages old.held calls
-  pub sends : noted seat (asked channel) old.past entries ≡ told datagrams old.held calls
+  pub sends : noted seat (asked setting) old.past entries ≡ told datagrams old.held calls
   pub links : noted seat opened old.past entries ≡ told connects old.held calls
   -- what was to be written to a link, and then what is queued, is what was written, and then what is still to be written
-  pub writes : (link : ℕ) → old.unwritten link ++ noted seat (queued channel link) old.past entries ≡ told (written link) old.held calls ++ new.unwritten link
+  pub writes : (link : ℕ) → old.unwritten link ++ noted seat (queued setting link) old.past entries ≡ told (written link) old.held calls ++ new.unwritten link
   pub faults_are : noted seat faulted old.past entries ≡ told faults old.held calls
 
 -- a stretch that a first step makes up to a standing, and a second one from there

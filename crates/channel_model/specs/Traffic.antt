@@ -5,7 +5,7 @@ use Rattle.std.specs.Prelude.{Bool, List, None, Option, Some, [], false, if◌th
 use mathlib.Core.List.{IsPrefix}
 use Rattle.chan_types.specs.declared.journal.Entry.{Entry}
 use Rattle.chan_types.specs.declared.journal.What.{What}
-use Rattle.chan_types.specs.declared.journal.What.TheVariants.{Accept, Arrive, Cancel, Destroy, Expire, Fault, Start, Take}
+use Rattle.chan_types.specs.declared.journal.What.TheVariants.{Accept, Arrive, Cancel, Destroy, Expire, Fault, Start, Take, Servers}
 use Rattle.dns_message.specs.Spelling.{message_bytes}
 use Rattle.net_world.specs.declared.answers.Got.{Got}
 use Rattle.net_world.specs.declared.answers.Got.TheVariants.{Datagram, Ended, Failed as LinkFailed, Nothing, Piece}
@@ -115,10 +115,11 @@ arrived past (Accept number spec script) = []
 arrived past Cancel = []
 arrived past Destroy = []
 arrived past (Take number) = []
-arrived past (Start number leg server link id moment) = []
+arrived past (Start number leg server link id mix moment) = []
 arrived past (Arrive server link bytes) = record { server = server; link = link; bytes = bytes } ∷ []
 arrived past (Expire number leg moment) = []
 arrived past (Fault server link moment) = []
+arrived past (Servers list) = []
 
 -- the fault that an entry notes
 abbrev pub faulted : Past → What → List Route
@@ -126,10 +127,11 @@ faulted past (Accept number spec script) = []
 faulted past Cancel = []
 faulted past Destroy = []
 faulted past (Take number) = []
-faulted past (Start number leg server link id moment) = []
+faulted past (Start number leg server link id mix moment) = []
 faulted past (Arrive server link bytes) = []
 faulted past (Expire number leg moment) = []
 faulted past (Fault server link moment) = record { server = server; link = link } ∷ []
+faulted past (Servers list) = []
 
 -- the entry begins an attempt over this link
 abbrev pub is_start_on : ℕ → What → Bool
@@ -143,10 +145,10 @@ opened_by past a = if (a.link == 0) || list_any (is_start_on a.link) past then [
 abbrev pub opened : Past → What → List Route
 opened past what = option_map_or (opened_by past) (begun_by what) []
 
-module _ (channel : Setting) where
+module _ (setting : Setting) where
   -- the bytes of an attempt's query, where this happened before its Start
   abbrev pub query_bytes : Past → Attempt → List ℕ
-  query_bytes past a = option_map_or message_bytes (leg_query channel a.leg a.id past) []
+  query_bytes past a = option_map_or message_bytes (leg_query setting a.leg a.id a.mix past) []
 
   -- the query of an attempt over link 0
   abbrev pub asked_by : Past → Attempt → List Parcel

@@ -1,6 +1,10 @@
 //! What the calls of a channel answer.
 
-use chan_types::{Bytes, Refusal, Spec, Token};
+ghost use Rattle.std.specs.Prelude.{◌≡◌};
+ghost use Rattle.channel_model.specs.declared.answers.SetFault.TheVariants as set_fault;
+
+use chan_types::{Bytes, NoMemory, Refusal, Spec, Token};
+use net_addr::ServerAddr;
 
 /// A request that was refused: why, and what was handed in.
 #[derive(Drop)]
@@ -18,6 +22,8 @@ pub enum Begun {
         number: u64,
         leg: u8,
         server: u32,
+        /// Where that server listens.
+        address: ServerAddr,
         link: u64,
         id: u16,
         message: Bytes,
@@ -53,4 +59,22 @@ pub struct Counts {
     pub ready: u64,
     pub waiting: u64,
     pub flying: u64,
+}
+
+/// Why servers can't become the channel's list.
+#[derive(Clone, Copy, Debug, PartialEq, Eq)]
+pub enum SetFault {
+    /// The channel was destroyed. Its number is 21.
+    Closed,
+    /// Not enough keys are left: a key is never given twice, and has 32 bits. Its number is 22.
+    Full,
+    NoMemory,
+}
+
+impl From<NoMemory> for SetFault {
+    ghost from_gives = { λ _ fault. fault ≡ set_fault.NoMemory };
+
+    fn from(_: NoMemory) -> SetFault {
+        SetFault::NoMemory
+    }
 }

@@ -12,7 +12,7 @@ local_server = record { address = V4 2130706433; port = 53 }
 
 -- queries have an OPT record, and no other switch is on
 abbrev pub plain_flags : Flags
-plain_flags = record { usevc = false; primary = false; igntc = false; norecurse = false; nosearch = false; nocheckresp = false; edns = true }
+plain_flags = record { usevc = false; primary = false; igntc = false; norecurse = false; nosearch = false; nocheckresp = false; edns = true; mix = false }
 
 -- the default options
 abbrev pub plain_values : OptionValues

@@ -1,4 +1,4 @@
-/// What queries and replies are to be like: seven switches of a channel, with the names of c-ares.
+/// What queries and replies are to be like: eight switches of a channel, with the names of c-ares.
 #[derive(Clone, Copy, Debug, PartialEq, Eq)]
 pub struct Flags {
     /// Every query goes over TCP.
@@ -15,4 +15,6 @@ pub struct Flags {
     pub nocheckresp: bool,
     /// Queries have an OPT record (RFC 6891, section 6).
     pub edns: bool,
+    /// The letters of a question over UDP get a random case, and a reply has to repeat it.
+    pub mix: bool,
 }

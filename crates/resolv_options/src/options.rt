@@ -73,6 +73,7 @@ impl Options {
                 nosearch: false,
                 nocheckresp: false,
                 edns: true,
+                mix: false,
             },
             rotate: false,
             lookups: Lookups::FilesDns,

@@ -32,12 +32,14 @@ impl Channel {
             server: SERVER,
             link: UDP,
             id: word,
+            mix: None,
             moment: at,
         }));
         Ok(Begun::Started {
             number: NUMBER,
             leg: LEG,
             server: SERVER,
+            address: self.server,
             link: UDP,
             id: word,
             message,

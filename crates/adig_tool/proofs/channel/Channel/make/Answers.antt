@@ -7,7 +7,7 @@ invariant_of-result c =
     let none : c.in_ok-with_capacity.field-0.items ≡ [] = c.in_ok-with_capacity.ensures.items in
     record {
       lawful = record { allowed = rw none tt };
-      stands = record { accepts = rw none refl; starts = rw none refl; flies = rw none refl; closes = rw none refl; completes = rw none refl; waits = rw none refl };
+      stands = record { accepts = rw none refl; starts = rw none refl; flies = rw none refl; closes = rw none refl; lists = rw none refl; forces = rw none refl; falls_due = tt; completes = rw none refl; waits = rw none refl };
       closed = rw none refl;
       may_be = tt;
       balanced = rw (none, asked_in-nil, taken_in-nil) refl;

@@ -15,12 +15,12 @@ returns-in_err-server-clause-passes g c =
 pub returns-in_err-send-in-Started-clause-passes : goal.returns-in_err-send-in-Started-clause-passes
 returns-in_err-send-in-Started-clause-passes g c =
     err_then _ _ _ c.from_residual-in_err-send-in-Started.ensures.0 _ _ _ _ _ _ (word_quiet c.args.channel.now _ _ _ (c.in_ok-word.ensures.log))
-    (query_unsent _ _ _ _ _ _ _ _ _ _ _ _ (rw c.in-Started.is at (c.in_ok-server.ensures.begun)) (c.in_err-send-in-Started.ensures.log))
+    (query_unsent _ _ _ _ _ _ _ _ _ _ _ _ _ (rw c.in-Started.is at (c.in_ok-server.ensures.begun)) (c.in_err-send-in-Started.ensures.log))
 
 pub returns-in_err-fault-in-Failed-clause-passes : goal.returns-in_err-fault-in-Failed-clause-passes
 returns-in_err-fault-in-Failed-clause-passes g c =
     err_then _ _ _ c.from_residual-in_err-fault-in-Failed.ensures.0 _ _ _ _ _ _ (word_quiet c.args.channel.now _ _ _ (c.in_ok-word.ensures.log))
-    (failed_unkept _ _ _ _ _ _ _ _ _ _ _ _ _ (rw c.in-Started.is at (c.in_ok-server.ensures.begun)) (rw (c.as_slice.ensures, c.in-Failed.is) at (c.in_ok-send-in-Started.ensures.log)) (c.in_err-fault-in-Failed.ensures.same))
+    (failed_unkept _ _ _ _ _ _ _ _ _ _ _ _ _ _ (rw c.in-Started.is at (c.in_ok-server.ensures.begun)) (rw (c.as_slice.ensures, c.in-Failed.is) at (c.in_ok-send-in-Started.ensures.log)) (c.in_err-fault-in-Failed.ensures.same))
 
 pub returns-after-branch-5-clause-passes : goal.returns-after-branch-5-clause-passes
 returns-after-branch-5-clause-passes g c =
@@ -28,11 +28,11 @@ returns-after-branch-5-clause-passes g c =
       | in-Failed+in_ok-fault-in-Failed w ↦
           rw w.channel-is
           (proceeds_then _ _ _ _ _ _ _ (word_quiet c.args.channel.now _ _ _ (c.in_ok-word.ensures.log))
-          (query_fails _ _ _ _ _ _ _ _ _ _ _ _ _ (rw c.in-Started.is at (c.in_ok-server.ensures.begun)) (rw (c.as_slice.ensures, w.in-Failed.is) at (c.in_ok-send-in-Started.ensures.log)) (w.in_ok-fault-in-Failed.ensures.failed.adds)))
+          (query_fails _ _ _ _ _ _ _ _ _ _ _ _ _ _ (rw c.in-Started.is at (c.in_ok-server.ensures.begun)) (rw (c.as_slice.ensures, w.in-Failed.is) at (c.in_ok-send-in-Started.ensures.log)) (w.in_ok-fault-in-Failed.ensures.failed.adds)))
       | in-Sent w ↦
           rw w.channel-is
           (proceeds_then _ _ _ _ _ _ _ (word_quiet c.args.channel.now _ _ _ (c.in_ok-word.ensures.log))
-          (query_goes _ _ _ _ _ _ _ _ _ _ _ _ (rw c.in-Started.is at (c.in_ok-server.ensures.begun)) (rw (c.as_slice.ensures, w.in-Sent.is) at (c.in_ok-send-in-Started.ensures.log))))
+          (query_goes _ _ _ _ _ _ _ _ _ _ _ _ _ (rw c.in-Started.is at (c.in_ok-server.ensures.begun)) (rw (c.as_slice.ensures, w.in-Sent.is) at (c.in_ok-send-in-Started.ensures.log))))
     ]
 
 pub returns-in-Idle-clause-passes : goal.returns-in-Idle-clause-passes
