@@ -1,0 +1,7 @@
+use Rattle.std.proofs.Common.{map, take, drop, ◌≡◌, ◌++◌}
+use Rattle.query_machine.specs.Servers.{counted_again}
+use Rattle.query_machine.proofs.servers.forgive.Given as goal
+
+-- those before the index are counted again
+abbrev pub invariant-loop-index : goal.invariant-loop-index
+invariant-loop-index l = l.counts ≡ map (counted_again l.server (λ count. 0)) (take l.index l.initial.counts) ++ drop l.index l.initial.counts

@@ -1,0 +1,5 @@
+pub mod Query
+pub mod Replies
+pub mod Legs
+pub mod Servers
+pub mod Means

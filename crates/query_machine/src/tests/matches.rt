@@ -1,0 +1,120 @@
+use super::address_of_example;
+use crate::matching;
+use std::test::Fail;
+
+/// What the bytes are, whether letters' case counts, the bytes, and whether they answer the query of identifier 0x1234 for
+/// the addresses of example.com: header and question by RFC 1035, section 4.1, OPT records by RFC 6891, section 6.1.2.
+const MESSAGES: [(&str, bool, &[u8], bool); 17] = [
+    (
+        "a reply without records",
+        true,
+        b"\x12\x34\x81\x80\0\x01\0\0\0\0\0\0\x07example\x03com\0\0\x01\0\x01",
+        true,
+    ),
+    (
+        "one with an OPT record",
+        false,
+        b"\x12\x34\x81\x80\0\x01\0\0\0\0\0\x01\x07example\x03com\0\0\x01\0\x01\0\0\x29\x04\xd0\0\0\0\0\0\0",
+        true,
+    ),
+    ("no byte", false, b"", false),
+    (
+        "a header that is cut",
+        false,
+        b"\x12\x34\x81\x80\0\x01\0\0\0\0\0",
+        false,
+    ),
+    (
+        "a question that is cut",
+        false,
+        b"\x12\x34\x81\x80\0\x01\0\0\0\0\0\0\x07example\x03com\0\0\x01\0",
+        false,
+    ),
+    (
+        "an OPT record whose option is cut",
+        false,
+        b"\x12\x34\x81\x80\0\x01\0\0\0\0\0\x01\x07example\x03com\0\0\x01\0\x01\0\0\x29\x04\xd0\0\0\0\0\0\x03\0\x0a\0",
+        false,
+    ),
+    (
+        "two OPT records",
+        false,
+        b"\x12\x34\x81\x80\0\x01\0\0\0\0\0\x02\x07example\x03com\0\0\x01\0\x01\0\0\x29\x04\xd0\0\0\0\0\0\0\0\0\x29\x04\xd0\0\0\0\0\0\0",
+        false,
+    ),
+    (
+        "the question twice",
+        false,
+        b"\x12\x34\x81\x80\0\x02\0\0\0\0\0\0\x07example\x03com\0\0\x01\0\x01\xc0\x0c\0\x01\0\x01",
+        false,
+    ),
+    (
+        "no question",
+        false,
+        b"\x12\x34\x81\x80\0\0\0\0\0\0\0\0",
+        false,
+    ),
+    (
+        "another identifier",
+        false,
+        b"\x12\x35\x81\x80\0\x01\0\0\0\0\0\0\x07example\x03com\0\0\x01\0\x01",
+        false,
+    ),
+    (
+        "a query",
+        false,
+        b"\x12\x34\x01\0\0\x01\0\0\0\0\0\0\x07example\x03com\0\0\x01\0\x01",
+        false,
+    ),
+    (
+        "a response to another kind of query",
+        false,
+        b"\x12\x34\x89\x80\0\x01\0\0\0\0\0\0\x07example\x03com\0\0\x01\0\x01",
+        false,
+    ),
+    (
+        "another case of a letter",
+        false,
+        b"\x12\x34\x81\x80\0\x01\0\0\0\0\0\0\x07Example\x03com\0\0\x01\0\x01",
+        true,
+    ),
+    (
+        "another case, which counts",
+        true,
+        b"\x12\x34\x81\x80\0\x01\0\0\0\0\0\0\x07Example\x03com\0\0\x01\0\x01",
+        false,
+    ),
+    (
+        "another name",
+        false,
+        b"\x12\x34\x81\x80\0\x01\0\0\0\0\0\0\x07example\x03net\0\0\x01\0\x01",
+        false,
+    ),
+    (
+        "another kind",
+        false,
+        b"\x12\x34\x81\x80\0\x01\0\0\0\0\0\0\x07example\x03com\0\0\x1c\0\x01",
+        false,
+    ),
+    (
+        "another class",
+        false,
+        b"\x12\x34\x81\x80\0\x01\0\0\0\0\0\0\x07example\x03com\0\0\x01\0\x03",
+        false,
+    ),
+];
+
+#[test]
+fn replies_answer_their_query(rt: HostRuntime) -> Result<(), Fail> {
+    let alloc = rt.alloc();
+    let asked = address_of_example(alloc)?;
+    for (what, exact, bytes, wanted) in MESSAGES {
+        let found = matching(alloc, bytes, 0x1234, &asked, exact)?;
+        assert_eq!(rt; found.is_some(), wanted, "at {what}");
+        if let Some(reply) = found {
+            assert_eq!(rt; reply.message.flags, 0x8180);
+            assert_eq!(rt; reply.opt.is_some(), bytes.len() == 40);
+        }
+    }
+    Ok(())
+}

@@ -1,0 +1,47 @@
+//! Builds queries and judges messages so many times, for instructions to be counted.
+#![tactic(auto)]
+
+mod rounds;
+
+use dns_message::{Name, NameFault, Question};
+use rounds::{match_often, query_often, stray_often};
+use std::alloc::Global;
+use std::{env, io};
+
+/// A reply to the query of identifier 0x1234 for the addresses of example.com: one address, and an OPT record.
+const REPLY: &[u8; 56] =
+    b"\x12\x34\x81\x80\0\x01\0\x01\0\0\0\x01\x07example\x03com\0\0\x01\0\x01\xc0\x0c\0\x01\0\x01\0\0\0\x3c\0\x04\xc0\0\x02\x01\0\0\x29\x04\xd0\0\0\0\0\0\0";
+
+/// The question for the addresses of example.com.
+fn address_of_example(alloc: Global) -> Result<Question, NameFault> {
+    Ok(Question {
+        name: Name::from_text(alloc, b"example.com")?.name,
+        kind: 1,
+        class: 1,
+    })
+}
+
+// With a task and how often as its arguments it does that, and else prints a line that is always the same.
+fn main(rt: HostRuntime) -> io::Result<()> {
+    let alloc = rt.alloc();
+    let mut words = env::args(&rt)?.skip(1);
+    let Ok(asked) = address_of_example(alloc) else {
+        return Ok(());
+    };
+    let (Some(task), Some(times)) = (words.next(), words.next()) else {
+        return println!(rt;
+            "a query of {} bytes, and a reply of {}",
+            query_often(alloc, &asked, Some(1232), 1),
+            REPLY.len()
+        );
+    };
+    let times = times.parse::<u32>().unwrap_or(0);
+    let seen = match task.as_str() {
+        "query" => query_often(alloc, &asked, None, times),
+        "query-opt" => query_often(alloc, &asked, Some(1232), times),
+        "stray" => stray_often(alloc, REPLY, &asked, times),
+        "reply" => match_often(alloc, REPLY, 0x1234, &asked, times),
+        _ => 0,
+    };
+    println!(rt; "{task} {times} {seen}")
+}
