@@ -1,0 +1,5 @@
+use Rattle.dns_message.proofs.TestLemmas.{same_is}
+use Rattle.addr_lookup.proofs.records.is_same.Goals as goal
+
+pub returns : goal.returns
+returns c = same_is c.same.result c.args.name.now c.args.other.now c.same.ensures

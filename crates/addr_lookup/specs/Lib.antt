@@ -1,0 +1,5 @@
+pub mod Channels
+pub mod Findings
+pub mod Ends
+pub mod Merging
+pub mod Kinds
