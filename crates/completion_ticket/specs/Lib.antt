@@ -1,0 +1,3 @@
+pub mod States
+pub mod Bodies
+pub mod Steps

@@ -1,0 +1,92 @@
+//! Callbacks: what a request is accepted with, and what its answer is told to.
+
+ghost use Rattle.std.specs.Prelude.{◌≡◌, [], true, false, None};
+ghost use Rattle.chan_types.specs.Gives.{gives};
+
+use crate::body::Body;
+use crate::called::Called;
+use crate::done::Done;
+use crate::hand::Hand;
+use crate::scripted::Scripted;
+use chan_types::{Answer, Refusal, Script, Token};
+use std::marker::Model;
+
+/// Something that wants to be told its request's answer, and hasn't been told any. Contracts see it as its script, and
+/// whether the caller gave it a body, as a box, or a script alone.
+#[derive(Drop)]
+pub struct Callback<B: Done + Drop> {
+    body: Body<B>,
+}
+
+impl<B: Done + Drop> Model for Callback<B> {
+    ghost use Rattle.std.specs.Prelude.{◌≡◌, None};
+    ghost use Rattle.std.specs.Coded.{codes};
+    ghost use Rattle.chan_types.specs.PlanCode.{moves_code};
+    ghost use Rattle.completion_ticket.specs.States.{CallbackState};
+    ghost use Rattle.completion_ticket.specs.Bodies.{state_of, told_of};
+
+    ghost Value = { CallbackState };
+
+    ghost coded = { Prim.hlevel (codes, moves_code) };
+
+    ghost view = { λ callback. state_of B.plan callback.body };
+
+    ghost invariant = { λ callback. told_of B.told callback.body ≡ None };
+}
+
+impl<B: Done + Drop> Callback<B> {
+    ghost use Rattle.completion_ticket.specs.States.{CallbackState, CalledState};
+
+    /// The callback with this body, which was told nothing. It takes no memory.
+    pub fn of(body: B) -> Callback<B>
+        requires { B.told body ≡ None }
+        ensures { result ≡ record { plan = B.plan body; boxed = true } }
+    {
+        Callback {
+            body: Body::Boxed(body),
+        }
+    }
+
+    /// The callback with this script alone. It takes no memory.
+    pub fn scripted(script: Script) -> Callback<B>
+        ensures { result ≡ record { plan = script; boxed = false } }
+    {
+        Callback {
+            body: Body::Plain(Scripted::new(script)),
+        }
+    }
+
+    /// Tells it the answer. It puts the commands of its script into the hand, which is empty.
+    pub fn call(self, answer: &Answer, hand: &mut Hand) -> Called<B>
+        requires { hand.old.commands ≡ [] }
+        ensures gives { hand.new ≡ record hand.old { commands = gives self.plan answer.now hand.old.orders } }
+        ensures called { result ≡ record { number = answer.now.number; boxed = self.boxed } }
+    {
+        let Callback { mut body } = self;
+        match &mut body {
+            Body::Boxed(boxed) => boxed.done(answer, hand),
+            Body::Plain(scripted) => scripted.done(answer, hand),
+        }
+        Called::of(answer.number, body)
+    }
+
+    /// Tells it that its request was refused, and lets it go.
+    pub fn refuse(self, why: Refusal) {
+        let Callback { mut body } = self;
+        match &mut body {
+            Body::Boxed(boxed) => boxed.refused(why),
+            Body::Plain(scripted) => scripted.refused(why),
+        }
+    }
+}
+
+impl<B: Done + Drop> Token for Callback<B> {
+    ghost plan = { λ callback. callback.plan };
+
+    fn script(&self) -> &Script {
+        match &self.body {
+            Body::Boxed(boxed) => boxed.script(),
+            Body::Plain(scripted) => scripted.script(),
+        }
+    }
+}
