@@ -1,0 +1,10 @@
+mod MapLemmas
+mod IndexLemmas
+mod LineLemmas
+mod LoadLemmas
+mod AnswerLemmas
+mod ReplyLemmas
+mod HearingLemmas
+mod QuestionLemmas
+mod PeerLemmas
+mod LinkLemmas

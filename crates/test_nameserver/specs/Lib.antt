@@ -1,0 +1,13 @@
+pub mod Zone
+pub mod Index
+pub mod Words
+pub mod Lines
+pub mod Load
+pub mod Query
+pub mod Answers
+pub mod Reply
+pub mod Target
+pub mod Peer
+pub mod PeerCalls
+pub mod Heard
+pub mod Seen
