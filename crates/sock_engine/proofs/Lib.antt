@@ -1,0 +1,3 @@
+pub mod BringsLemmas
+pub mod InboxLemmas
+pub mod ReadingLemmas

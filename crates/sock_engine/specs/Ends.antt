@@ -1,0 +1,17 @@
+-- What the answers of the system's calls mean.
+use Rattle.std.specs.Prelude.{ℕ, ◌-◌, if◌then◌else◌, Bool}
+use Rattle.net_world.specs.declared.answers.Wrote.{Wrote}
+use Rattle.net_world.specs.declared.answers.Wrote.TheVariants.{Count, Failed as NotWritten}
+use Rattle.sock_engine.specs.declared.ends.Moved.{Moved}
+use Rattle.sock_engine.specs.declared.ends.Moved.TheVariants.{Done, Blocked, Again, Failed}
+
+-- what a write to a link answers: one that would have to wait has taken no byte
+abbrev pub write_end : Moved → Wrote
+write_end (Done count) = Count count
+write_end Blocked = Count 0
+write_end Again = Count 0
+write_end Failed = NotWritten
+
+-- how long a wait may last: not at all where something may be there already, else until the moment
+abbrev pub patience : Bool → ℕ → ℕ → ℕ
+patience is_pending now until = if is_pending then 0 else until - now

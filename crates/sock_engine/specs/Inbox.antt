@@ -1,0 +1,82 @@
+-- What was received and not given yet, and what a look at a socket adds to it.
+use Rattle.std.specs.Prelude.{◌≡◌, ◌⊎◌, ℕ, ◌<◌, ◌≤◌, List, [], ◌∷◌, ◌++◌, length, take, All, Bool, true, false, Option, None, Some, ◌==◌, if◌then◌else◌, ⊤}
+use mathlib.Core.List.{IsPrefix}
+use Rattle.net_world.specs.declared.answers.Got.{Got}
+use Rattle.net_world.specs.declared.answers.Got.TheVariants.{Datagram, Piece, Ended, Nothing, Failed as LinkFailed}
+use Rattle.sock_engine.specs.declared.inbox.Held.{Held}
+use Rattle.sock_engine.specs.declared.inbox.Held.TheVariants.{HeldDatagram, HeldPiece}
+use Rattle.sock_engine.specs.declared.inbox.Found.{Found}
+use Rattle.sock_engine.specs.declared.inbox.Found.TheVariants.{Came, Blocked, Again, Over, Failed}
+
+-- what the buffer holds of a socket, as it will be received
+abbrev pub held_items : List ℕ → Option Held → List Got
+held_items buffer None = []
+held_items buffer (Some (HeldDatagram server count)) = Datagram server (take count buffer) ∷ []
+held_items buffer (Some (HeldPiece link count)) = Piece link (take count buffer) ∷ []
+
+-- what is held is in the buffer, and a piece has a byte
+abbrev pub IsHeld : List ℕ → Option Held → Type 0
+IsHeld buffer None = ⊤
+IsHeld buffer (Some (HeldDatagram server count)) = count ≤ length buffer
+IsHeld buffer (Some (HeldPiece link count)) = (0 < count) × (count ≤ length buffer)
+
+-- what the buffer holds, if it isn't a piece of this link
+abbrev pub held_other_than : ℕ → Option Held → Option Held
+held_other_than link None = None
+held_other_than link (Some (HeldDatagram server count)) = Some (HeldDatagram server count)
+held_other_than link (Some (HeldPiece other count)) = if other == link then None else Some (HeldPiece other count)
+
+-- what was added at the end, each item of which has the property
+abbrev pub BringsOnly : (Got → Type 0) → List Got → List Got → Type 0
+BringsOnly P old new = (more : List Got) × (new ≡ old ++ more) × All P more
+
+-- it is a datagram of this server, or that its datagrams were refused
+abbrev pub IsOfServer : ℕ → Got → Type 0
+IsOfServer server (Datagram number bytes) = number ≡ server
+IsOfServer server (Piece link bytes) = ⊥
+IsOfServer server (Ended link) = ⊥
+IsOfServer server Nothing = ⊥
+IsOfServer server (LinkFailed number link) = (number ≡ server) × (link ≡ 0)
+
+-- it is a piece of this link to this server, its end or its failure
+abbrev pub IsOfLink : ℕ → ℕ → Got → Type 0
+IsOfLink server link (Datagram number bytes) = ⊥
+IsOfLink server link (Piece number bytes) = number ≡ link
+IsOfLink server link (Ended number) = number ≡ link
+IsOfLink server link Nothing = ⊥
+IsOfLink server link (LinkFailed number other) = (number ≡ server) × (other ≡ link)
+
+-- a socket may have more after a look: only one that found nothing says that it has not
+abbrev pub has_more : Found → Bool
+has_more Came = true
+has_more Blocked = false
+has_more Again = true
+has_more Over = true
+has_more Failed = true
+
+-- the first item is taken, and none only where there is none
+abbrev pub Pops : List Got → List Got → Option Got → Type 0
+Pops old new (Some got) = old ≡ got ∷ new
+Pops old new None = (old ≡ []) × (new ≡ [])
+
+-- what came before, and then what came since: the first of it is given, or there was nothing
+pub record GivesFirst (old new : List Got) (got : Got) : Type 0 where
+  pub all : List Got
+  pub later : IsPrefix old all
+  pub first : (all ≡ got ∷ new) ⊎ ((all ≡ []) × (got ≡ Nothing) × (new ≡ []))
+
+-- a look at a server's socket brings one datagram of it, or nothing
+abbrev pub LooksAtServer : ℕ → List Got → List Got → Found → Type 0
+LooksAtServer server old new Came = (bytes : List ℕ) × (new ≡ old ++ Datagram server bytes ∷ [])
+LooksAtServer server old new Blocked = new ≡ old
+LooksAtServer server old new Again = new ≡ old
+LooksAtServer server old new Over = ⊥
+LooksAtServer server old new Failed = new ≡ old
+
+-- a look at a link's stream brings some bytes of it, its end, its failure, or nothing
+abbrev pub LooksAtLink : ℕ → ℕ → List Got → List Got → Found → Type 0
+LooksAtLink server link old new Came = (bytes : List ℕ) × (0 < length bytes) × (new ≡ old ++ Piece link bytes ∷ [])
+LooksAtLink server link old new Blocked = new ≡ old
+LooksAtLink server link old new Again = new ≡ old
+LooksAtLink server link old new Over = new ≡ old ++ Ended link ∷ []
+LooksAtLink server link old new Failed = new ≡ old ++ LinkFailed server link ∷ []

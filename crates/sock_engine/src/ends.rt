@@ -1,0 +1,63 @@
+// What the answers of the system's calls mean.
+
+ghost use Rattle.std.specs.Prelude.{◌≡◌, ◌≢◌, IfOk, IfErr};
+ghost use Rattle.std.specs.IoError.{error_kind};
+ghost use Rattle.sock_engine.specs.declared.ends.Moved.TheVariants.{Done, Blocked, Again, Failed};
+ghost use Rattle.sock_engine.specs.Ends.{write_end, patience as patience_of};
+
+use net_world::Wrote;
+use std::io;
+use std::io::ErrorKind;
+use std::time::Duration;
+
+/// How a call on a socket that never waits ended.
+#[derive(Clone, Copy, Debug, PartialEq, Eq)]
+pub(crate) enum Moved {
+    /// It moved so many bytes.
+    Done(usize),
+    /// It would have had to wait.
+    Blocked,
+    /// A signal came first.
+    Again,
+    /// The system told an error.
+    Failed,
+}
+
+/// How such a call ended, from what it answered.
+pub(crate) fn moved_of(ended: io::Result<usize>) -> Moved
+    ensures done { IfOk ended (λ count. result ≡ Done count) }
+    ensures blocked { IfErr ended (λ e. error_kind e ≡ ErrorKind.WouldBlock → result ≡ Blocked) }
+    ensures again { IfErr ended (λ e. error_kind e ≡ ErrorKind.Interrupted → result ≡ Again) }
+    ensures failed { IfErr ended (λ e. error_kind e ≢ ErrorKind.WouldBlock → error_kind e ≢ ErrorKind.Interrupted → result ≡ Failed) }
+{
+    match ended {
+        Ok(count) => Moved::Done(count),
+        Err(error) => match error.kind() {
+            ErrorKind::WouldBlock => Moved::Blocked,
+            ErrorKind::Interrupted => Moved::Again,
+            _ => Moved::Failed,
+        },
+    }
+}
+
+/// What a write to a link answers.
+pub(crate) fn wrote_of(moved: Moved) -> Wrote
+    ensures { result ≡ write_end moved }
+{
+    match moved {
+        Moved::Done(count) => Wrote::Count(count),
+        Moved::Blocked | Moved::Again => Wrote::Count(0),
+        Moved::Failed => Wrote::Failed,
+    }
+}
+
+/// How many milliseconds a wait may last.
+pub(crate) fn patience(is_pending: bool, now: u64, until: u64) -> u64
+    ensures { result ≡ patience_of is_pending now until }
+{
+    if is_pending {
+        0
+    } else {
+        until.saturating_sub(now)
+    }
+}

@@ -1,0 +1,100 @@
+// One TCP connection to a server.
+
+ghost use Rattle.std.specs.Prelude.{length};
+ghost use Rattle.net_world.specs.World.{IsPartOf};
+ghost use Rattle.sock_engine.specs.Inbox.{BringsOnly, IsOfLink};
+
+use crate::ends::{Moved, moved_of, wrote_of};
+use crate::inbox::{Found, Inbox, may_have_more};
+use dns_message::NoMemory;
+use mio::net::TcpStream;
+use mio::{Interest, Registry, Token};
+use net_world::Wrote;
+use std::io;
+use std::io::Write;
+use std::net::{Net, SocketAddr};
+
+/// How often a write is made that signals cut off.
+const TRIES: u32 = 8;
+
+/// A TCP stream under its link's number.
+#[derive(Drop)]
+pub(crate) struct Link {
+    pub(crate) number: u64,
+    server: u32,
+    stream: TcpStream,
+    token: usize,
+    /// It may have something to receive. Only a read that finds nothing clears it, since the poll tells a change once.
+    ready: bool,
+    /// Its end or its failure is in the inbox.
+    over: bool,
+}
+
+impl Link {
+    /// Begins to connect. Small writes aren't gathered, since each is a whole query.
+    pub(crate) fn begin<R: Net>(
+        rt: &R,
+        registry: &Registry,
+        peer: SocketAddr,
+        server: u32,
+        number: u64,
+        token: usize,
+    ) -> io::Result<Link> {
+        let mut stream = TcpStream::connect(rt, peer)?;
+        stream.set_nodelay(true)?;
+        let interest = Interest::READABLE | Interest::WRITABLE;
+        registry.register(&mut stream, Token(token), interest)?;
+        Ok(Link {
+            number,
+            server,
+            stream,
+            token,
+            ready: false,
+            over: false,
+        })
+    }
+
+    /// Writes. A stream that isn't connected yet, or has no room, takes 0 bytes.
+    pub(crate) fn write(&mut self, bytes: &[u8]) -> Wrote
+        ensures { IsPartOf (length bytes.now) result }
+    {
+        for _ in 0..TRIES {
+            match moved_of(self.stream.write(bytes)) {
+                Moved::Again => {}
+                moved => return wrote_of(moved),
+            }
+        }
+        Wrote::Count(0)
+    }
+
+    /// Whether there may be something to receive.
+    pub(crate) fn is_pending(&self) -> bool {
+        self.ready
+    }
+
+    /// Whether its end or its failure was received.
+    pub(crate) fn is_over(&self) -> bool {
+        self.over
+    }
+
+    /// Notes that something may have come, where the poll told this token.
+    pub(crate) fn wake(&mut self, token: usize) {
+        if self.token == token {
+            self.ready = true;
+        }
+    }
+
+    /// Moves some bytes, or its end, into the inbox.
+    #[tactic(auto, using(crate::proofs::BringsLemmas::none_brought, crate::proofs::BringsLemmas::one_brought))]
+    pub(crate) fn look(&mut self, inbox: &mut Inbox) -> Result<(), NoMemory>
+        ensures { BringsOnly (IsOfLink self.old.server self.old.number) inbox.old inbox.new }
+    {
+        if !self.ready || inbox.is_full() {
+            return Ok(());
+        }
+        let look = inbox.look_at_link(self.server, self.number, &mut self.stream)?;
+        self.over = look == Found::Over || look == Found::Failed;
+        self.ready = may_have_more(look);
+        Ok(())
+    }
+}

@@ -1,0 +1,157 @@
+// One UDP socket of a server.
+
+ghost use Rattle.sock_engine.specs.Inbox.{BringsOnly, IsOfServer};
+
+use crate::ends::{Moved, moved_of};
+use crate::inbox::{Found, Inbox, may_have_more};
+use crate::peer::any_of;
+use dns_message::NoMemory;
+use libc::net as c;
+use mio::net::UdpSocket;
+use mio::{Interest, Registry, Token};
+use net_world::Sent;
+use std::io;
+use std::net::{Net, SocketAddr};
+use std::os::fd::AsRawFd;
+
+/// The receive buffer that is asked for, in bytes, so that 10,000 replies have room. The system may give less.
+const RECEIVE_BUFFER: i32 = 8 << 20;
+
+/// How often a call is made that signals or told refusals cut off.
+const TRIES: u32 = 8;
+
+/// How many datagrams a look takes at most, so that one server leaves the others their turn.
+const LOOK_MOST: u32 = 4_096;
+
+/// A UDP socket that is connected to a server: only datagrams from that address and port come.
+#[derive(Drop)]
+pub(crate) struct Port {
+    socket: UdpSocket,
+    token: usize,
+    /// It may have something to receive. Only a receive that finds nothing clears it, since the poll tells a change once.
+    ready: bool,
+    /// The system told a refusal that was not added to the inbox yet.
+    refused: bool,
+    asked: u64,
+    answered: u64,
+}
+
+impl Port {
+    /// Opens one, whose port the system draws. What came before it was connected is thrown away.
+    pub(crate) fn open<R: Net>(
+        rt: &R,
+        registry: &Registry,
+        peer: SocketAddr,
+        token: usize,
+    ) -> io::Result<Port> {
+        let mut socket = UdpSocket::bind(rt, any_of(peer))?;
+        socket.connect(peer)?;
+        forget_strangers(&socket);
+        widen(&socket);
+        registry.register(&mut socket, Token(token), Interest::READABLE)?;
+        Ok(Port {
+            socket,
+            token,
+            ready: false,
+            refused: false,
+            asked: 0,
+            answered: 0,
+        })
+    }
+
+    /// Sends a datagram. Where the system hands out an earlier refusal in its place, it is sent again, and the refusal is
+    /// told later. One for which there is no room is lost.
+    pub(crate) fn send(&mut self, bytes: &[u8]) -> Sent {
+        let mut refused = false;
+        for _ in 0..TRIES {
+            match moved_of(self.socket.send(bytes)) {
+                Moved::Done(_) | Moved::Blocked => {
+                    self.asked = self.asked.saturating_add(1);
+                    self.refused |= refused;
+                    return Sent::Sent;
+                }
+                Moved::Again => {}
+                Moved::Failed => refused = true,
+            }
+        }
+        Sent::Failed
+    }
+
+    /// Whether there may be something to receive.
+    pub(crate) fn is_pending(&self) -> bool {
+        self.ready || self.refused
+    }
+
+    /// Whether each datagram that was sent has its reply, as far as their numbers tell.
+    pub(crate) fn is_answered(&self) -> bool {
+        self.answered >= self.asked
+    }
+
+    /// Notes that something may have come, where the poll told this token.
+    pub(crate) fn wake(&mut self, token: usize) {
+        if self.token == token {
+            self.ready = true;
+        }
+    }
+
+    /// Notes that something may have come.
+    pub(crate) fn suspect(&mut self) {
+        self.ready = true;
+    }
+
+    /// Moves what has come into the inbox, and behind it a refusal.
+    #[tactic(auto, using(crate::proofs::BringsLemmas::none_brought, crate::proofs::BringsLemmas::one_brought, crate::proofs::BringsLemmas::both_brought))]
+    pub(crate) fn look(&mut self, server: u32, inbox: &mut Inbox) -> Result<(), NoMemory>
+        ensures { BringsOnly (IsOfServer server) inbox.old inbox.new }
+    {
+        self.look_for_datagrams(server, inbox)?;
+        if self.refused {
+            inbox.push_refusal(server)?;
+            self.refused = false;
+        }
+        Ok(())
+    }
+
+    #[tactic(auto, using(crate::proofs::BringsLemmas::none_brought, crate::proofs::BringsLemmas::both_brought))]
+    fn look_for_datagrams(&mut self, server: u32, inbox: &mut Inbox) -> Result<(), NoMemory>
+        ensures { BringsOnly (IsOfServer server) inbox.old inbox.new }
+    {
+        for _ in 0..LOOK_MOST {
+            if !self.ready || inbox.is_full() {
+                break;
+            }
+            self.look_once(server, inbox)?;
+        }
+        Ok(())
+    }
+
+    #[tactic(auto, using(crate::proofs::BringsLemmas::none_brought, crate::proofs::BringsLemmas::one_brought))]
+    fn look_once(&mut self, server: u32, inbox: &mut Inbox) -> Result<(), NoMemory>
+        ensures { BringsOnly (IsOfServer server) inbox.old inbox.new }
+    {
+        let look = inbox.look_at_server(server, &self.socket)?;
+        if look == Found::Came {
+            self.answered = self.answered.saturating_add(1);
+        }
+        self.refused |= look == Found::Failed;
+        self.ready = may_have_more(look);
+        Ok(())
+    }
+}
+
+/// Asks for a large receive buffer. Without it more replies are lost, and asked for again.
+fn widen(socket: &UdpSocket) {
+    let mut value = [0u8; 16];
+    value[..4].copy_from_slice(&RECEIVE_BUFFER.to_ne_bytes());
+    let _ = unsafe { c::setsockopt(socket.as_raw_fd(), c::SOL_SOCKET, c::SO_RCVBUF, &value, 4) };
+}
+
+/// Throws away what came from anywhere between the binding and the connecting of the socket.
+fn forget_strangers(socket: &UdpSocket) {
+    let mut byte = [0u8; 1];
+    for _ in 0..LOOK_MOST {
+        if socket.recv(&mut byte).is_err() {
+            return;
+        }
+    }
+}
