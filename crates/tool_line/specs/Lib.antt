@@ -1,0 +1,14 @@
+pub mod Adig
+pub mod Ahost
+pub mod Asks
+pub mod Block
+pub mod Ending
+pub mod Files
+pub mod Heads
+pub mod Lookup
+pub mod Page
+pub mod Parser
+pub mod SettingFields
+pub mod Settings
+pub mod Values
+pub mod Words
