@@ -5,7 +5,7 @@ use Rattle.std.specs.List.{list_all, AllByRecursion}
 use Rattle.std.specs.Prelude.{All}
 use Rattle.std.proofs.lemmas.Bool.Decides.{Decides-and, Decides-like}
 use Rattle.std.proofs.lemmas.List.Elements.{All-from_recursion, recursion_from_All}
-use Rattle.dns_message.proofs.TestLemmas.{well_formed_says}
+use Rattle.dns_message.proofs.Theorems.{well_formed_says}
 use Rattle.dns_message.specs.Validity.{well_formed, IsWellFormed}
 use Rattle.dns_message.specs.declared.message.Record.{Record}
 

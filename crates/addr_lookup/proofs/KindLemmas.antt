@@ -4,7 +4,7 @@ use Rattle.std.specs.Prelude.{option_to_list, if◌then◌else◌}
 use Rattle.std.proofs.lemmas.List.{drop_more}
 use Rattle.dns_message.specs.declared.message.Record.{Record}
 use Rattle.channel_model.specs.Merge.{canonical_name, is_alias, target_of}
-use Rattle.channel_model.specs.Numbers.{kind_a, kind_aaaa}
+use Rattle.dns_message.specs.Numbers.{kind_a, kind_aaaa}
 use Rattle.channel_model.specs.Verdict.{is_of_kind}
 use Rattle.dns_message.specs.declared.name.Name.{Name}
 use Rattle.addr_lookup.specs.Kinds.{addresses_of_kind, address_of_kind}

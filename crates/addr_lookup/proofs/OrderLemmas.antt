@@ -2,7 +2,7 @@
 use Rattle.std.proofs.Common.{◌≡◌, List, subst}
 use Rattle.dest_sorting.specs.Order.{IsSortedBy}
 use Rattle.net_addr.specs.declared.addr.Addr.{Addr}
-use Rattle.channel_model.proofs.SortingLemmas.{sorted_is}
+use Rattle.channel_model.proofs.Theorems.{sorted_is}
 use Rattle.channel_model.specs.Merge.{sorted}
 
 -- with sources and addresses that are the same

@@ -7,23 +7,21 @@ use Rattle.std.proofs.lemmas.Bool.{and_parts}
 use Rattle.std.proofs.lemmas.Bool.Decides.{nat_tests}
 use Rattle.std.proofs.lemmas.List.{append-nil}
 use Rattle.byteorder.specs.Endian.{big_from}
-use Rattle.dns_message.proofs.PartLemmas.{stands_from}
-use Rattle.dns_message.proofs.RunGrammarLemmas.{name_is_read}
-use Rattle.dns_message.proofs.WrittenLemmas.{name_written}
+use Rattle.dns_message.proofs.Theorems.{stands_from, name_is_read, name_written}
 use Rattle.dns_message.specs.Name.{IsName, wire_length}
 use Rattle.dns_message.specs.Reading.{name_of}
 use Rattle.dns_message.specs.Shapes.{shape_by}
 use Rattle.dns_message.specs.Spelling.{name_bytes}
 use Rattle.dns_message.specs.Validity.{HasShape, HoldsNames, IsWellFormed}
 use Rattle.dns_message.specs.declared.message.Record.{Record}
-use Rattle.dns_rdata.proofs.SpellingLemmas.{name_spelled}
+use Rattle.dns_rdata.proofs.Theorems.{name_spelled}
 use Rattle.dns_rdata.specs.Parts.{whole_name, name_in, alone}
 use Rattle.dns_rdata.specs.Rdata.{data_of, data_in}
 use Rattle.dns_rdata.specs.declared.data.RecordData.TheVariants.{Cname}
 use Rattle.dns_rdata.specs.declared.data.RecordData.{RecordData}
 use Rattle.net_addr.specs.declared.addr.Addr.TheVariants.{V6}
 use Rattle.channel_model.specs.Merge.{target_of, labels_read}
-use Rattle.channel_model.specs.Numbers.{kind_aaaa, class_in}
+use Rattle.dns_message.specs.Numbers.{kind_aaaa, class_in}
 use Rattle.channel_model.specs.Verdict.{is_of_kind}
 use Rattle.addr_lookup.proofs.NumberLemmas.{number_is}
 use Rattle.addr_lookup.specs.Kinds.{address_of_kind}

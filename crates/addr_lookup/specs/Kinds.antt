@@ -5,7 +5,7 @@ use Rattle.net_addr.specs.Reading.{number_of}
 use Rattle.net_addr.specs.declared.addr.Addr.{Addr}
 use Rattle.net_addr.specs.declared.addr.Addr.TheVariants.{V4, V6}
 use Rattle.channel_model.specs.Merge.{addresses_v4, addresses_v6}
-use Rattle.channel_model.specs.Numbers.{kind_a, kind_aaaa}
+use Rattle.dns_message.specs.Numbers.{kind_a, kind_aaaa}
 use Rattle.channel_model.specs.Verdict.{is_of_kind}
 use Rattle.addr_lookup.specs.declared.records.Kind.{Kind}
 use Rattle.addr_lookup.specs.declared.records.Kind.TheVariants.{A, Aaaa}

@@ -74,7 +74,8 @@ fn answer_for(
     options: &Options,
     nosort: bool,
 ) -> Result<Option<Answer>, NoMemory>
-    ensures { IfOk result (λ answer. (channel : Setting) → channel.options ≡ options.now → answer ≡ answer_of channel number nosort finding) }
+    ensures { IfOk result (λ answer. (channel : Setting) → channel.options ≡ options.now
+        → answer ≡ answer_of channel number nosort finding) }
 {
     Ok(match finding {
         Finding::Nothing => None,

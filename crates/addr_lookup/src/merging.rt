@@ -45,7 +45,8 @@ pub fn merge(
     ensures answer { IfOk result (λ answer. (channel : Setting) → channel.options ≡ options.now
         → answer_of_legs channel number nosort candidate.now left.now right.now ≡ Some answer) }
     // The same by the ends that a journal gives the legs.
-    ensures both { IfOk result (λ answer. (channel : Setting) (first second : Ending) → channel.options ≡ options.now
+    ensures both { IfOk result (λ answer. (channel : Setting) (first second : Ending)
+        → channel.options ≡ options.now
         → IsEnd left.now first → IsEnd right.now second
         → answer ≡ merged channel number nosort candidate.now first second) }
     ensures left { IfOk result (λ answer. (channel : Setting) (end : Ending) → channel.options ≡ options.now

@@ -16,7 +16,8 @@ pub(crate) fn ordered(
     options: &Options,
     nosort: bool,
 ) -> Result<AddrList, NoMemory>
-    ensures { IfOk result (λ ordered. ordered ≡ (if nosort then addresses else sorted options.now.sources addresses)) }
+    ensures { IfOk result (λ ordered. ordered
+        ≡ (if nosort then addresses else sorted options.now.sources addresses)) }
 {
     if nosort {
         return Ok(addresses);

@@ -10,20 +10,9 @@ ghost use Rattle.addr_lookup.specs.Kinds.{addresses_of_kind, address_of_kind};
 use byteorder::{BigEndian, ByteOrder};
 use chan_types::{Addr, Name, NoMemory};
 use dns_message::Record;
+use dns_message::numbers::{CLASS_IN, KIND_A, KIND_AAAA, KIND_CNAME};
 use dns_rdata::{RdataFault, RecordData, rdata};
 use std::alloc::Global;
-
-/// The Internet class (RFC 1035, section 3.2.4).
-const CLASS_IN: u16 = 1;
-
-/// The type of an IPv4 address (RFC 1035, section 3.2.2).
-const KIND_A: u16 = 1;
-
-/// The type of an alias (RFC 1035, section 3.2.2).
-const KIND_CNAME: u16 = 5;
-
-/// The type of an IPv6 address (RFC 3596, section 2.1).
-const KIND_AAAA: u16 = 28;
 
 /// The kinds of records that are addresses.
 #[derive(Clone, Copy)]

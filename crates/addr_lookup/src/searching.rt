@@ -32,7 +32,8 @@ pub(crate) fn host_finding(
     options: &Options,
     hosts: &Hosts,
 ) -> Result<Finding, NoMemory>
-    ensures { IfOk result (λ finding. (request : ℕ) (nosort : Bool) → let channel = set_to options.now hosts.now in
+    ensures { IfOk result (λ finding. (request : ℕ) (nosort : Bool)
+        → let channel = set_to options.now hosts.now in
         unless_asked request (known_host channel request family nosort) (name_of_text text.now) ≡ answer_of channel request nosort finding) }
 {
     match asked_name(alloc, text)? {
@@ -69,7 +70,8 @@ fn name_finding(
     options: &Options,
     hosts: &Hosts,
 ) -> Result<Finding, NoMemory>
-    ensures { IfOk result (λ finding. (request : ℕ) (nosort : Bool) (read : TextOf) → read.name ≡ name → let channel = set_to options.now hosts.now in
+    ensures { IfOk result (λ finding. (request : ℕ) (nosort : Bool) (read : TextOf)
+        → read.name ≡ name → let channel = set_to options.now hosts.now in
         known_host channel request family nosort read ≡ answer_of channel request nosort finding) }
 {
     let addresses = listed(alloc, &name, family, options, hosts)?;
@@ -101,7 +103,8 @@ fn listed(
     options: &Options,
     hosts: &Hosts,
 ) -> Result<AddrList, NoMemory>
-    ensures { IfOk result (λ addresses. addresses ≡ listed_of (set_to options.now hosts.now) name.now family) }
+    ensures { IfOk result (λ addresses. addresses
+        ≡ listed_of (set_to options.now hosts.now) name.now family) }
 {
     if asks_hosts(options.lookups()) {
         hosts.addresses(alloc, name, family)

@@ -28,7 +28,7 @@ use Rattle.adig_tool.specs.Setup.{setup}
 use Rattle.adig_tool.specs.Stages.{kept_for_destroy, kept_for_take, IsReadyWith}
 use Rattle.adig_tool.specs.Stands.{IsAsked, IsDone, IsOpen, StandsAtStage, MayBe, owed}
 use Rattle.adig_tool.proofs.JournalLemmas.{asked_more, taken_same}
-use Rattle.channel_model.proofs.JournalLemmas.{lawful_push}
+use Rattle.channel_model.proofs.Theorems.{lawful_push}
 use Rattle.adig_tool.proofs.PastLemmas.{along}
 use Rattle.adig_tool.proofs.StandsLemmas.{asks, answers}
 

@@ -15,7 +15,7 @@ use Rattle.channel_model.specs.CutShort.{NearlyAgrees}
 use Rattle.channel_model.specs.Journal.{Accepted, accepted, is_destroyed, past_of}
 use Rattle.channel_model.specs.Stretch.{Agrees, beginning, behind}
 use Rattle.channel_model.specs.Traffic.{TrafficAgrees}
-use Rattle.channel_model.proofs.TrafficLemmas.{agrees_none, agrees_trans, agrees_whole}
+use Rattle.channel_model.proofs.Theorems.{agrees_none, agrees_trans, agrees_whole}
 use Rattle.adig_tool.proofs.CalledLemmas.{called_once}
 use Rattle.adig_tool.proofs.FateLemmas.{fates_later}
 use Rattle.adig_tool.proofs.ObeyedLemmas.{obeyed}

@@ -3,7 +3,7 @@ use Rattle.std.proofs.Common.{◌≡◌, List, [], ◌∷◌, ◌++◌, subst, a
 use Rattle.chan_types.specs.declared.journal.Entry.{Entry}
 use Rattle.chan_types.specs.declared.journal.What.{What}
 use Rattle.channel_model.specs.Journal.{Past, past_of}
-use Rattle.channel_model.proofs.JournalLemmas.{past_of-push}
+use Rattle.channel_model.proofs.Theorems.{past_of-push}
 use Rattle.adig_tool.specs.Entries.{own_entry}
 
 -- what holds of the past with the entry holds of the longer journal's

@@ -7,7 +7,7 @@ use Rattle.dns_message.specs.declared.message.Message.{Message}
 use Rattle.dns_message.specs.declared.message.Question.{Question}
 use Rattle.dns_message.specs.Name.{wire_length}
 use Rattle.dns_message.specs.Spelling.{message_bytes, question_bytes, record_bytes}
-use Rattle.dns_message.proofs.SpellingLemmas.{question_length}
+use Rattle.dns_message.proofs.Theorems.{question_length}
 use Rattle.channel_model.specs.Past.{plain_query}
 
 -- the query of a question has 16 bytes beside the name's

@@ -14,7 +14,7 @@ use Rattle.channel_model.specs.Links.{Link, told}
 use Rattle.channel_model.specs.Setting.{Setting}
 use Rattle.channel_model.specs.Stretch.{Agrees, Standing, behind}
 use Rattle.channel_model.specs.Traffic.{arrived, asked, connects, datagrams, faulted, faults, messages, noted, opened, queued, written}
-use Rattle.channel_model.proofs.TrafficLemmas.{noted-append}
+use Rattle.channel_model.proofs.Theorems.{noted-append}
 use Rattle.adig_tool.specs.Entries.{closing, take_of}
 use Rattle.adig_tool.proofs.WholeLemmas.{first_passes}
 

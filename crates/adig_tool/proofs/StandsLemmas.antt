@@ -9,7 +9,7 @@ use Rattle.chan_types.specs.Plans.{blank}
 use Rattle.channel_model.specs.Journal.{Past, accepted_by}
 use Rattle.channel_model.specs.Setting.{Setting}
 use Rattle.channel_model.specs.Flight.{Attempt, begun_by, closes, unless_closed}
-use Rattle.channel_model.proofs.OpeningServersLemmas.{no_set-servers}
+use Rattle.channel_model.proofs.Theorems.{no_set-servers}
 use Rattle.channel_model.specs.Past.{closing_of, closings, forced_behind, forced_by, with_closing}
 use Rattle.channel_model.specs.Servers.{servers_set_by}
 use Rattle.channel_model.specs.Completion.{completed_at, completed_by, ready}

@@ -16,9 +16,7 @@ use Rattle.channel_model.specs.Endings.{is_reading, turns_in}
 use Rattle.channel_model.specs.Journal.{Accepted, Past, accepted_by, followed_by, past_of}
 use Rattle.channel_model.specs.Setting.{Setting}
 use Rattle.channel_model.specs.Stretch.{Agrees, Standing}
-use Rattle.channel_model.proofs.JournalLemmas.{followed_by-append}
-use Rattle.channel_model.proofs.TrafficLemmas.{agrees_trans, agrees_none}
-use Rattle.channel_model.proofs.CutLemmas.{nearly_behind}
+use Rattle.channel_model.proofs.Theorems.{followed_by-append, agrees_trans, agrees_none, nearly_behind}
 use Rattle.adig_tool.proofs.FateLemmas.{fates_later}
 use Rattle.adig_tool.specs.Calls.{past_in, setting_of}
 use Rattle.adig_tool.specs.Seen.{Seen}

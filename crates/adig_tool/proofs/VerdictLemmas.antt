@@ -9,7 +9,7 @@ use Rattle.channel_model.specs.declared.judged.Judged.{Judged}
 use Rattle.channel_model.specs.declared.judged.Judged.TheVariants.{NextTcp, NextPlain, Failed, Final}
 use Rattle.channel_model.specs.LegEnd.{end_of}
 use Rattle.channel_model.specs.Merge.{bare, same_status}
-use Rattle.channel_model.specs.Numbers.{header_rcode, is_truncated}
+use Rattle.dns_message.specs.Numbers.{header_rcode, is_truncated}
 use Rattle.channel_model.specs.Past.{Closing}
 use Rattle.channel_model.specs.Replies.{Reply}
 use Rattle.channel_model.specs.Search.{last_answer}

@@ -62,13 +62,18 @@ pub fn ask<W: World, K: Sink>(
     ensures success { result.status ≡ SUCCESS → All IsSuccess result.calls }
     ensures failure { result.status ≡ FAILURE → ¬ All IsSuccess result.calls }
     ensures sink_fault { result.status ≡ SINK_FAULT → Rose (K.faults sink.old) (K.faults sink.new) }
-    ensures wait_fault { result.status ≡ WAIT_FAULT → Rose (W.wait_faults world.old) (W.wait_faults world.new) }
-    ensures last_wait { result.status ≡ WAIT_FAULT → GoesOnWith LastWaitFailed (W.log world.old) (W.log world.new) }
-    ensures all_turns { result.status ≡ STALLED → GoesOnWith (HasTurns turns) (W.log world.old) (W.log world.new) }
+    ensures wait_fault { result.status ≡ WAIT_FAULT
+        → Rose (W.wait_faults world.old) (W.wait_faults world.new) }
+    ensures last_wait { result.status ≡ WAIT_FAULT
+        → GoesOnWith LastWaitFailed (W.log world.old) (W.log world.new) }
+    ensures all_turns { result.status ≡ STALLED
+        → GoesOnWith (HasTurns turns) (W.log world.old) (W.log world.new) }
     ensures stalled { result.status ≡ STALLED → left_pending asked.now.server result.journal ≢ [] }
     ensures output { IsOutputOf asked.now.word.now result.calls result.status (K.bytes sink.old) (K.bytes sink.new) }
-    ensures wait_fault_text { result.status ≡ WAIT_FAULT → GrowsBy (K.bytes sink.old) (K.bytes sink.new) wait_fault_text }
-    ensures stalled_text { result.status ≡ STALLED → GrowsBy (K.bytes sink.old) (K.bytes sink.new) stalled_text }
+    ensures wait_fault_text { result.status ≡ WAIT_FAULT
+        → GrowsBy (K.bytes sink.old) (K.bytes sink.new) wait_fault_text }
+    ensures stalled_text { result.status ≡ STALLED
+        → GrowsBy (K.bytes sink.old) (K.bytes sink.new) stalled_text }
 {
     let Ok(mut channel) = Channel::make(alloc, asked.server) else {
         return Ended::early(alloc, OUT_OF_MEMORY);
@@ -96,12 +101,18 @@ fn session<W: World>(
     requires empty { channel.old.journal ≡ [] }
     requires uncalled { calls.old ≡ [] }
     ensures session { MakesSession result (request_for asked.now.word.now) channel.old channel.new calls.new (W.log world.old) (W.log world.new) }
-    ensures completed { result ≡ Ok LoopEnd.Completed → (pending (setting_of channel.new) (past_in channel.new) ≡ []) × (ready (setting_of channel.new) (past_in channel.new) ≡ []) }
-    ensures stalled { result ≡ Ok LoopEnd.Stalled → pending (setting_of channel.new) (past_in channel.new) ≢ [] }
+    ensures completed { result ≡ Ok LoopEnd.Completed
+        → (pending (setting_of channel.new) (past_in channel.new) ≡ [])
+        × (ready (setting_of channel.new) (past_in channel.new) ≡ []) }
+    ensures stalled { result ≡ Ok LoopEnd.Stalled
+        → pending (setting_of channel.new) (past_in channel.new) ≢ [] }
     ensures waits { W.wait_faults world.old ≤ W.wait_faults world.new }
-    ensures wait_fault { result ≡ Ok LoopEnd.WaitFault → Rose (W.wait_faults world.old) (W.wait_faults world.new) }
-    ensures last_wait { result ≡ Ok LoopEnd.WaitFault → GoesOnWith LastWaitFailed (W.log world.old) (W.log world.new) }
-    ensures all_turns { result ≡ Ok LoopEnd.Stalled → GoesOnWith (HasTurns turns) (W.log world.old) (W.log world.new) }
+    ensures wait_fault { result ≡ Ok LoopEnd.WaitFault
+        → Rose (W.wait_faults world.old) (W.wait_faults world.new) }
+    ensures last_wait { result ≡ Ok LoopEnd.WaitFault
+        → GoesOnWith LastWaitFailed (W.log world.old) (W.log world.new) }
+    ensures all_turns { result ≡ Ok LoopEnd.Stalled
+        → GoesOnWith (HasTurns turns) (W.log world.old) (W.log world.new) }
 {
     let mut runner = Runner::make(world, &asked.server)?;
     let spec = Spec::Query {
@@ -125,12 +136,18 @@ fn make_turns<W: World>(
     turns: u64,
 ) -> Result<LoopEnd, NoMemory>
     ensures turns { MakesTurns result channel.old channel.new calls.old calls.new (W.log world.old) (W.log world.new) }
-    ensures completed { result ≡ Ok LoopEnd.Completed → (pending (setting_of channel.new) (past_in channel.new) ≡ []) × (ready (setting_of channel.new) (past_in channel.new) ≡ []) }
-    ensures stalled { result ≡ Ok LoopEnd.Stalled → pending (setting_of channel.new) (past_in channel.new) ≢ [] }
+    ensures completed { result ≡ Ok LoopEnd.Completed
+        → (pending (setting_of channel.new) (past_in channel.new) ≡ [])
+        × (ready (setting_of channel.new) (past_in channel.new) ≡ []) }
+    ensures stalled { result ≡ Ok LoopEnd.Stalled
+        → pending (setting_of channel.new) (past_in channel.new) ≢ [] }
     ensures waits { W.wait_faults world.old ≤ W.wait_faults world.new }
-    ensures wait_fault { result ≡ Ok LoopEnd.WaitFault → Rose (W.wait_faults world.old) (W.wait_faults world.new) }
-    ensures last_wait { result ≡ Ok LoopEnd.WaitFault → GoesOnWith LastWaitFailed (W.log world.old) (W.log world.new) }
-    ensures all_turns { result ≡ Ok LoopEnd.Stalled → GoesOnWith (HasTurns turns) (W.log world.old) (W.log world.new) }
+    ensures wait_fault { result ≡ Ok LoopEnd.WaitFault
+        → Rose (W.wait_faults world.old) (W.wait_faults world.new) }
+    ensures last_wait { result ≡ Ok LoopEnd.WaitFault
+        → GoesOnWith LastWaitFailed (W.log world.old) (W.log world.new) }
+    ensures all_turns { result ≡ Ok LoopEnd.Stalled
+        → GoesOnWith (HasTurns turns) (W.log world.old) (W.log world.new) }
 {
     deliver_all(channel, calls);
     for _ in 0..turns {
@@ -185,8 +202,10 @@ fn report<K: Sink>(
     ensures failure { result ≡ FAILURE → (end ≡ Ok LoopEnd.Completed) × ¬ All IsSuccess calls.now }
     ensures sink_fault { result ≡ SINK_FAULT → Rose (K.faults sink.old) (K.faults sink.new) }
     ensures output { IsOutputOf word.now calls.now result (K.bytes sink.old) (K.bytes sink.new) }
-    ensures wait_fault { result ≡ WAIT_FAULT → (end ≡ Ok LoopEnd.WaitFault) × GrowsBy (K.bytes sink.old) (K.bytes sink.new) wait_fault_text }
-    ensures stalled { result ≡ STALLED → (end ≡ Ok LoopEnd.Stalled) × GrowsBy (K.bytes sink.old) (K.bytes sink.new) stalled_text }
+    ensures wait_fault { result ≡ WAIT_FAULT
+        → (end ≡ Ok LoopEnd.WaitFault) × GrowsBy (K.bytes sink.old) (K.bytes sink.new) wait_fault_text }
+    ensures stalled { result ≡ STALLED → (end ≡ Ok LoopEnd.Stalled)
+        × GrowsBy (K.bytes sink.old) (K.bytes sink.new) stalled_text }
 {
     match end {
         Ok(LoopEnd::Completed) => match page(alloc, word, calls) {

@@ -84,7 +84,8 @@ impl Channel {
     pub fn close(self) -> Journal
         ensures journal { result ≡ self.journal }
         ensures lawful { IsLawful (setup self.server) result }
-        ensures balanced { length (asked_in result) ≡ length (taken_in result) + length (pending (setup self.server) (past_of result)) + length (ready (setup self.server) (past_of result)) }
+        ensures balanced { length (asked_in result)
+            ≡ length (taken_in result) + length (pending (setup self.server) (past_of result)) + length (ready (setup self.server) (past_of result)) }
     {
         let Channel { entries, .. } = self;
         Journal::from_vec(entries)

@@ -1,3 +1,5 @@
+//! How a run ended.
+
 ghost use Rattle.std.specs.Prelude.{◌≡◌, []};
 
 use chan_types::{Calls, Journal};

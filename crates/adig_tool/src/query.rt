@@ -4,12 +4,10 @@ ghost use Rattle.std.specs.Prelude.{◌≡◌, false, IfOk};
 ghost use Rattle.dns_message.specs.Spelling.{message_bytes};
 ghost use Rattle.channel_model.specs.Past.{plain_query};
 
+use dns_message::numbers::FLAG_RD;
 use dns_message::{EncodeFault, Message, Question, QuestionList, RecordList, encode};
 use item_list::{Bytes, NoMemory};
 use std::alloc::Global;
-
-/// Recursion is desired (RFC 1035, section 4.1.1).
-const RD: u16 = 0x0100;
 
 /// The bytes of a query with this identifier, RD, and the one question.
 pub fn query_bytes(alloc: Global, asked: &Question, id: u16) -> Result<Bytes, NoMemory>
@@ -31,7 +29,7 @@ fn query(alloc: Global, asked: &Question, id: u16) -> Result<Message, NoMemory>
 {
     Ok(Message {
         id,
-        flags: RD,
+        flags: FLAG_RD,
         questions: QuestionList::from_vec(vec![in alloc; copy_of(alloc, asked)?]?),
         answers: RecordList::new(alloc),
         authorities: RecordList::new(alloc),

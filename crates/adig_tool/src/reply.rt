@@ -6,23 +6,21 @@ ghost use Rattle.dns_message.specs.Name.{same_name};
 ghost use Rattle.dns_message.specs.Question.{same_question};
 ghost use Rattle.edns_opt.specs.Opt.{rcode_of};
 ghost use Rattle.edns_opt.specs.Reading.{opt_of};
-ghost use Rattle.channel_model.specs.Numbers.{is_response, is_standard};
+ghost use Rattle.dns_message.specs.Numbers.{is_response, is_standard};
 ghost use Rattle.channel_model.specs.Replies.{reply_with};
 ghost use Rattle.channel_model.specs.Flight.{answers, asks_only};
 ghost use Rattle.channel_model.specs.Verdict.{status_of_rcode};
 ghost use Rattle.adig_tool.specs.Reply.{if_answers, status_by, status_of_reply, status_with};
 
 use chan_types::Status;
+use dns_message::numbers::{FLAG_QR, FLAGS_OPCODE};
 use dns_message::{Message, MessageFault, Name, Question, decode};
 use edns_opt::{EdnsFault, Opt, find, full_rcode};
 use item_list::NoMemory;
 use std::alloc::Global;
 
-/// The bit that tells a response from a query (RFC 1035, section 4.1.1).
-const QR: u16 = 0x8000;
-
 /// The lowest of the four bits that tell the kind of query, 0 for a standard one (RFC 1035, section 4.1.1).
-const OPCODE: u16 = 0x0800;
+const OPCODE: u16 = FLAGS_OPCODE / 15;
 
 /// The status with which the bytes end the request whose query had this identifier and this question, if they are the
 /// reply to it. Bytes whose OPT record can't be read are no reply.
@@ -47,7 +45,8 @@ fn status_by_message(
     asked: &Question,
     message: &Message,
 ) -> Result<Option<Status>, NoMemory>
-    ensures { IfOk result (λ found. found ≡ option_map status_of_reply (if_answers id asked.now (reply_with message.now (opt_of message.now)))) }
+    ensures { IfOk result (λ found. found
+        ≡ option_map status_of_reply (if_answers id asked.now (reply_with message.now (opt_of message.now)))) }
 {
     match find(alloc, message) {
         Ok(opt) if answers(message, id, asked) => Ok(Some(status_of_reply(message, opt.as_ref()))),
@@ -70,7 +69,7 @@ fn answers(message: &Message, id: u16, asked: &Question) -> bool
 fn is_response(message: &Message) -> bool
     ensures { result ≡ is_response message.now }
 {
-    message.flags / QR % 2 == 1
+    message.flags / FLAG_QR % 2 == 1
 }
 
 fn is_standard(message: &Message) -> bool

@@ -36,7 +36,8 @@ impl Runner {
     /// A runner that has told the network its server.
     #[tactic(auto, using(crate::proofs::PartsLemmas::serve_quiet))]
     pub fn make<W: World>(world: &mut W, server: &ServerAddr) -> Result<Runner, NoMemory>
-        ensures passes { (channel : Seen) → Passes 0 result channel channel (W.log world.old) (W.log world.new) }
+        ensures passes { (channel : Seen)
+            → Passes 0 result channel channel (W.log world.old) (W.log world.new) }
         ensures waits { W.wait_faults world.new ≡ W.wait_faults world.old }
     {
         world.serve(SERVER, server)?;
@@ -75,8 +76,10 @@ impl Runner {
     ) -> Result<Paused, NoMemory>
         ensures passes { Passes 0 result channel.now channel.now (W.log world.old) (W.log world.new) }
         ensures waits { W.wait_faults world.old ≤ W.wait_faults world.new }
-        ensures wait_fault { result ≡ Ok Paused.WaitFault → Rose (W.wait_faults world.old) (W.wait_faults world.new) }
-        ensures last_wait { result ≡ Ok Paused.WaitFault → GoesOnWith LastWaitFailed (W.log world.old) (W.log world.new) }
+        ensures wait_fault { result ≡ Ok Paused.WaitFault
+            → Rose (W.wait_faults world.old) (W.wait_faults world.new) }
+        ensures last_wait { result ≡ Ok Paused.WaitFault
+            → GoesOnWith LastWaitFailed (W.log world.old) (W.log world.new) }
     {
         if self.broken {
             return Err(NoMemory);

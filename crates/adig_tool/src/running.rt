@@ -30,7 +30,8 @@ pub fn run<W: World, F: Files, K: Sink>(
     turns: u64,
 ) -> Ended
     // Words of another form are refused, and nothing else is called.
-    ensures refused { AreRefused (map (λ word. word.now) words.now) → Refuses result.status result.journal result.calls files.old files.new world.old world.new (K.bytes sink.old) (K.bytes sink.new) }
+    ensures refused { AreRefused (map (λ word. word.now) words.now)
+        → Refuses result.status result.journal result.calls files.old files.new world.old world.new (K.bytes sink.old) (K.bytes sink.new) }
 
     // One lawful journal orders what happened to the one request of the words; no callback commanded anything.
     ensures lawful { ForWords (map (λ word. word.now) words.now) (λ server text. IsLawful (setup server) result.journal) }
@@ -47,8 +48,10 @@ pub fn run<W: World, F: Files, K: Sink>(
     // The exit status has its cause, and the output is that of the answer; no file is read.
     ensures status { HasExitCause (map (λ word. word.now) words.now) turns result.status result.journal result.calls (K.faults sink.old) (K.faults sink.new) (W.wait_faults world.old) (W.wait_faults world.new) (W.log world.old) (W.log world.new) }
     ensures output { ForWords (map (λ word. word.now) words.now) (λ server text. IsOutputOf text result.calls result.status (K.bytes sink.old) (K.bytes sink.new)) }
-    ensures wait_fault_text { result.status ≡ WAIT_FAULT → GrowsBy (K.bytes sink.old) (K.bytes sink.new) wait_fault_text }
-    ensures stalled_text { result.status ≡ STALLED → GrowsBy (K.bytes sink.old) (K.bytes sink.new) stalled_text }
+    ensures wait_fault_text { result.status ≡ WAIT_FAULT
+        → GrowsBy (K.bytes sink.old) (K.bytes sink.new) wait_fault_text }
+    ensures stalled_text { result.status ≡ STALLED
+        → GrowsBy (K.bytes sink.old) (K.bytes sink.new) stalled_text }
     ensures files { files.new ≡ files.old }
 {
     let _ = files;

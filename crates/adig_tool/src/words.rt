@@ -24,7 +24,9 @@ pub struct Asked<'a> {
 /// What the words ask: exactly `--server ADDRESS --no-edns NAME`, with an IPv4 address and a name outside `onion`.
 /// None where they aren't of that form.
 pub fn read_words<'a>(alloc: Global, words: &[&'a str]) -> Result<Option<Asked<'a>>, NoMemory>
-    ensures understood { IfOk result (λ found. IfSome found (λ asked. (address : ℕ) × (asked.server ≡ record { address = Addr.V4 address; port = 53 }) × Ask (map (λ word. word.now) words.now) address asked.word.now)) }
+    ensures understood { IfOk result (λ found. IfSome found (λ asked. (address : ℕ)
+        × (asked.server ≡ record { address = Addr.V4 address; port = 53 })
+        × Ask (map (λ word. word.now) words.now) address asked.word.now)) }
     ensures only { IfOk result (λ found. IfSome found (λ asked. ForWords (map (λ word. word.now) words.now) (λ server text. (asked.server ≡ server) × (asked.word.now ≡ text)))) }
     ensures refused { IfOk result (λ found. IfNone found (AreRefused (map (λ word. word.now) words.now))) }
 {

@@ -6,7 +6,7 @@ use Rattle.net_world.specs.declared.answers.Got.TheVariants.{Datagram, Nothing}
 use Rattle.net_world.specs.declared.answers.Waited.TheVariants.{Woken}
 use Rattle.net_world.specs.declared.log.WorldCall.{WorldCall}
 use Rattle.net_world.specs.declared.log.WorldCall.TheVariants.{Serve, Now, Word, Send, Receive, Wait}
-use Rattle.channel_model.specs.Numbers.{kind_a}
+use Rattle.dns_message.specs.Numbers.{kind_a}
 use Rattle.channel_model.specs.Traffic.{TrafficAgrees}
 use Rattle.channel_examples.specs.LastMoment as LastMoment
 use Rattle.channel_examples.specs.Plain as Plain

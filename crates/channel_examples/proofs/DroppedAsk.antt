@@ -14,7 +14,7 @@ use Rattle.channel_model.specs.Completion.{taken}
 use Rattle.channel_model.specs.Journal.{is_destroyed, past_of}
 use Rattle.channel_model.specs.Setting.{Setting}
 use Rattle.channel_examples.specs.Words.{channel_with, one_server, ask_x}
-use Rattle.channel_model.proofs.CommandLemmas.{each_is_accepted}
+use Rattle.channel_model.proofs.Theorems.{each_is_accepted}
 use Rattle.channel_examples.proofs.Words.{own, no_orders, always, script_of_steps}
 use Rattle.dns_message.specs.NameText as NameText
 

@@ -8,7 +8,7 @@ use Rattle.channel_model.specs.Journal.{past_of}
 use Rattle.channel_model.specs.Stretch.{Standing}
 use Rattle.channel_model.specs.Turn.{IsTurn}
 use Rattle.channel_examples.specs.Faults.{setting, journal}
-use Rattle.channel_model.proofs.TurnLemmas.{turn_of}
+use Rattle.channel_model.proofs.Theorems.{turn_of}
 use Rattle.channel_examples.proofs.Words.{own, query, all_written, received_nothing, word_itself, nothing_expires, nothing_written, nothing_closed}
 use Rattle.dns_message.specs.NameText as NameText
 use Rattle.dns_message.specs.Reading as Reading

@@ -16,7 +16,7 @@ use Rattle.channel_model.specs.Stretch.{Standing, beginning, behind}
 use Rattle.channel_model.specs.Turn.{receiving}
 use Rattle.channel_examples.specs.Words.{channel_with, one_server, journal_of, accepts, ask_x, good_reply}
 use Rattle.channel_examples.proofs.Words.{own, all_written}
-use Rattle.channel_model.proofs.ReadingLemmas.{course_reads, course_receives, so_far_reads}
+use Rattle.channel_model.proofs.Theorems.{course_reads, course_receives, so_far_reads}
 use Rattle.dns_message.specs.NameText as NameText
 use Rattle.dns_message.specs.Reading as Reading
 

@@ -20,8 +20,7 @@ use Rattle.channel_model.specs.Stretch.{Standing}
 use Rattle.channel_model.specs.Traffic.{TrafficAgrees}
 use Rattle.channel_model.specs.Turn.{IsTurn, HasStarted}
 use Rattle.channel_examples.specs.Words.{channel_with, one_server, ask_x, good_reply, reply_with_flags}
-use Rattle.channel_model.proofs.CourseLemmas.{course_agrees}
-use Rattle.channel_model.proofs.TurnLemmas.{turn_of}
+use Rattle.channel_model.proofs.Theorems.{course_agrees, turn_of}
 use Rattle.channel_examples.proofs.Words.{own, query, all_written, received_nothing, word_itself, nothing_expires, nothing_written, nothing_closed, nothing_starts}
 use Rattle.dns_message.specs.NameText as NameText
 use Rattle.dns_message.specs.Reading as Reading

@@ -12,7 +12,7 @@ use Rattle.channel_model.specs.Stretch.{Standing}
 use Rattle.channel_model.specs.Turn.{IsWholeReceive, most_receives, NoneDue, is_flushed, is_looked_at, HasExpired, HasStarted, HasWritten, HasClosed}
 use Rattle.channel_model.specs.Identifiers.{IsFirstFree}
 use Rattle.channel_model.specs.Completion.{waiting}
-use Rattle.channel_model.proofs.TrafficLemmas.{agrees_none}
+use Rattle.channel_model.proofs.Theorems.{agrees_none}
 use Rattle.chan_types.specs.Plans.{Plan, Moves, Deed, step}
 use Rattle.chan_types.specs.declared.journal.Entry.{Entry}
 use Rattle.chan_types.specs.declared.journal.What.{What}

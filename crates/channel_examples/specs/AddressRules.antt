@@ -18,7 +18,7 @@ use Rattle.channel_model.specs.Completion.{waiting}
 use Rattle.channel_model.specs.Journal.{past_of}
 use Rattle.channel_model.specs.Legs.{leg_of}
 use Rattle.channel_model.specs.Merge.{bare, canonical_name}
-use Rattle.channel_model.specs.Numbers.{kind_a, kind_aaaa, kind_cname}
+use Rattle.dns_message.specs.Numbers.{kind_a, kind_aaaa, kind_cname}
 use Rattle.channel_model.specs.Setting.{Setting}
 use Rattle.channel_model.specs.Tests.{first_unlawful}
 use Rattle.channel_examples.specs.Words.{channel_with, one_server, journal_of, accepts, status_in, fate_in, message, question, answer, x_test}

@@ -13,7 +13,7 @@ use Rattle.net_addr.specs.declared.addr.Addr.TheVariants.{V4, V6}
 use Rattle.net_addr.specs.declared.addr.Family.{Family}
 use Rattle.resolv_options.specs.Defaults.{plain_values}
 use Rattle.channel_model.specs.Merge.{bare, status_of_both}
-use Rattle.channel_model.specs.Numbers.{kind_a, kind_aaaa, kind_cname}
+use Rattle.dns_message.specs.Numbers.{kind_a, kind_aaaa, kind_cname}
 use Rattle.channel_model.specs.Setting.{Setting}
 use Rattle.channel_model.specs.Tests.{first_unlawful}
 use Rattle.channel_examples.specs.Words.{channel_with, one_server, message, question, answer, journal_of, accepts, fate_in, instead, status_in}

@@ -12,7 +12,7 @@ use Rattle.resolv_options.specs.Defaults.{plain_values}
 use Rattle.channel_model.specs.Journal.{past_of}
 use Rattle.channel_model.specs.Legs.{leg_of}
 use Rattle.channel_model.specs.Merge.{bare}
-use Rattle.channel_model.specs.Numbers.{kind_ptr}
+use Rattle.dns_message.specs.Numbers.{kind_ptr}
 use Rattle.channel_model.specs.Questions.{question_of}
 use Rattle.channel_model.specs.Setting.{Setting}
 use Rattle.channel_model.specs.Tests.{first_unlawful}

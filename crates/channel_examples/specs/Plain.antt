@@ -8,7 +8,7 @@ use Rattle.resolv_options.specs.Defaults.{plain_values}
 use Rattle.channel_model.specs.Journal.{past_of}
 use Rattle.channel_model.specs.Legs.{leg_of}
 use Rattle.channel_model.specs.Merge.{bare}
-use Rattle.channel_model.specs.Numbers.{kind_a}
+use Rattle.dns_message.specs.Numbers.{kind_a}
 use Rattle.channel_model.specs.Past.{spent, closings, leg_query}
 use Rattle.channel_model.specs.Setting.{Setting}
 use Rattle.channel_model.specs.Tests.{first_unlawful}

@@ -11,7 +11,7 @@ use Rattle.resolv_options.specs.Defaults.{plain_values, plain_flags}
 use Rattle.channel_model.specs.Completion.{pending}
 use Rattle.channel_model.specs.Journal.{past_of}
 use Rattle.channel_model.specs.Merge.{bare}
-use Rattle.channel_model.specs.Numbers.{kind_a, class_in}
+use Rattle.dns_message.specs.Numbers.{kind_a, class_in}
 use Rattle.channel_model.specs.Questions.{candidates_of}
 use Rattle.channel_model.specs.Setting.{Setting}
 use Rattle.channel_model.specs.Tests.{first_unlawful}

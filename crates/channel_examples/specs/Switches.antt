@@ -10,7 +10,7 @@ use Rattle.channel_model.specs.Choice.{failures}
 use Rattle.channel_model.specs.Journal.{past_of}
 use Rattle.channel_model.specs.Lawful.{first_due}
 use Rattle.channel_model.specs.Legs.{leg_of}
-use Rattle.channel_model.specs.Numbers.{kind_a}
+use Rattle.dns_message.specs.Numbers.{kind_a}
 use Rattle.channel_model.specs.Past.{leg_query}
 use Rattle.channel_model.specs.Setting.{Setting}
 use Rattle.channel_model.specs.Tests.{first_unlawful}

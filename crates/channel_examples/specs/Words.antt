@@ -19,7 +19,7 @@ use Rattle.resolv_options.specs.declared.options.Options.{Options}
 use Rattle.channel_model.specs.Completion.{fate}
 use Rattle.channel_model.specs.Flight.{in_flight, answers}
 use Rattle.channel_model.specs.Journal.{past_of}
-use Rattle.channel_model.specs.Numbers.{kind_a, class_in}
+use Rattle.dns_message.specs.Numbers.{kind_a, class_in}
 use Rattle.channel_model.specs.Setting.{Setting}
 
 -- servers at 192.0.2.53 and 192.0.2.54

@@ -6,7 +6,7 @@ use Rattle.dns_message.specs.Spelling.{message_bytes}
 use Rattle.resolv_options.specs.Defaults.{plain_values}
 use Rattle.channel_model.specs.Completion.{pending}
 use Rattle.channel_model.specs.Journal.{past_of}
-use Rattle.channel_model.specs.Numbers.{kind_aaaa, kind_a}
+use Rattle.dns_message.specs.Numbers.{kind_aaaa, kind_a}
 use Rattle.channel_model.specs.Setting.{Setting}
 use Rattle.channel_model.specs.Tests.{first_unlawful}
 use Rattle.channel_examples.specs.Words.{channel_with, two_servers, journal_of, accepts, ask_x, good_reply, flying_behind, message, question, x_test, opt_of_reply, instead}

@@ -8,7 +8,7 @@ use Rattle.std.specs.List.{AllByRecursion}
 use Rattle.std.specs.List.Sorted.{ties}
 use Rattle.std.specs.Ordering.{is_lt}
 use Rattle.std.specs.Prelude.{Bool, not, ◌≡◌, true, false, refl, List, [], ◌∷◌, ⊤, if◌then◌else◌, filter, cond, ℕ, ◌<◌, length, IsTrue, slice_index_or, suc}
-use Rattle.dest_sorting.proofs.RankLemmas.{rank_cmp, ranks_decide}
+use Rattle.dest_sorting.proofs.Theorems.{rank_cmp, ranks_decide}
 use Rattle.dest_sorting.specs.Order.{destination_before, source_of, IsSortedBy}
 use Rattle.dest_sorting.specs.Ranks.{rank_of}
 use Rattle.dest_sorting.specs.declared.ranks.Rank.{Rank}

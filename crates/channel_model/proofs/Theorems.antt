@@ -27,3 +27,22 @@ pub use Rattle.channel_model.proofs.FailureLemmas.{counts-changed, counts-kept, 
 -- Links of attempts over TCP.
 pub use Rattle.channel_model.proofs.LinkLemmas.{one_link, tcp_link-is}
 pub use Rattle.channel_model.proofs.LinkChoiceLemmas.{chosen_link-cases, greatest_link-above, new_link-fresh, tcp_link-cases}
+-- Commands of callbacks.
+pub use Rattle.channel_model.proofs.CommandLemmas.{each_is_accepted}
+-- The order of addresses.
+pub use Rattle.channel_model.proofs.SortingLemmas.{sorted_is}
+-- Journals and logs that agree, those that are one call apart, and the frames of messages on a link.
+pub use Rattle.channel_model.proofs.TrafficLemmas.{agrees_none, agrees_trans, agrees_whole, held_after-append, noted-append, noted_one, told-append}
+pub use Rattle.channel_model.proofs.CutLemmas.{agrees_nearly, nearly_behind}
+pub use Rattle.channel_model.proofs.FrameLemmas.{head-messages_in, left_in-append, messages_in-append, messages_in-framed, part-left_in, part-messages_in, whole-messages_in}
+-- Call by call: a call and the entries that note it, entries of others, pieces of a link, and what goes out.
+pub use Rattle.channel_model.proofs.StepLemmas.{AreOthers, agrees_calls, agrees_datagram, agrees_ended, agrees_expire, agrees_nothing, agrees_serve, agrees_step, agrees_word, moved, noted-others, noted-own}
+pub use Rattle.channel_model.proofs.PieceLemmas.{Brings, agrees_piece, agrees_sent, agrees_written, brings_append, brings_none, brings_one}
+pub use Rattle.channel_model.proofs.AddingLemmas.{advances_call, advances_joined, advances_none, advances_trans, breaks_joined, breaks_trans, breaks_whole, calls_stretch, leads_joined, leaves_joined, others_are, own-others}
+-- Turns, and courses of turns.
+pub use Rattle.channel_model.proofs.TurnLemmas.{now_agrees, part_agrees, parts_agree, turn_agrees, turn_of}
+pub use Rattle.channel_model.proofs.CourseLemmas.{course_agrees}
+pub use Rattle.channel_model.proofs.ReadingLemmas.{course_reads, course_receives, so_far_reads}
+-- How often an item stands in a list, and what holds of each item.
+pub use Rattle.channel_model.proofs.CountLemmas.{occurrences-append}
+pub use Rattle.channel_model.proofs.ListLemmas.{each-append, each-then}

@@ -13,7 +13,7 @@ use Rattle.dns_message.specs.declared.message.Message.{Message}
 use Rattle.dns_message.specs.declared.message.Question.{Question}
 use Rattle.channel_model.specs.Journal.{Past}
 use Rattle.channel_model.specs.Legs.{Leg, leg_of, is_leg}
-use Rattle.channel_model.specs.Numbers.{is_response, is_standard}
+use Rattle.dns_message.specs.Numbers.{is_response, is_standard}
 use Rattle.channel_model.specs.Questions.{question_of}
 use Rattle.channel_model.specs.Replies.{Reply, read_reply}
 use Rattle.channel_model.specs.Servers.{has_key}

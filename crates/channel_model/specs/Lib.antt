@@ -1,4 +1,3 @@
-pub mod Numbers
 pub mod Journal
 pub mod Servers
 pub mod Setting

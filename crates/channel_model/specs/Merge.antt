@@ -14,7 +14,7 @@ use Rattle.net_addr.specs.Reading.{number_of}
 use Rattle.net_addr.specs.declared.addr.Addr.{Addr}
 use Rattle.net_addr.specs.declared.addr.Addr.TheVariants.{V4, V6}
 use Rattle.channel_model.specs.LegEnd.{LegEnd}
-use Rattle.channel_model.specs.Numbers.{kind_a, kind_aaaa, kind_cname}
+use Rattle.dns_message.specs.Numbers.{kind_a, kind_aaaa, kind_cname}
 use Rattle.channel_model.specs.Replies.{read_reply}
 use Rattle.channel_model.specs.Setting.{Setting}
 use Rattle.channel_model.specs.Verdict.{is_of_kind, has_item}

@@ -12,7 +12,7 @@ use Rattle.edns_opt.specs.declared.opt.Opt.{Opt}
 use Rattle.channel_model.specs.Flight.{Attempt, asked_with, reply_to, closes, flight}
 use Rattle.channel_model.specs.Journal.{Past, spec_of}
 use Rattle.channel_model.specs.Legs.{Leg}
-use Rattle.channel_model.specs.Numbers.{query_flags}
+use Rattle.dns_message.specs.Numbers.{query_flags}
 use Rattle.channel_model.specs.Questions.{wanted_kind, question_of}
 use Rattle.channel_model.specs.Replies.{Reply}
 use Rattle.channel_model.specs.Servers.{attempts, leaves_server}

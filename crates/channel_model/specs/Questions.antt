@@ -10,7 +10,7 @@ use Rattle.net_addr.specs.Reverse.{reverse_labels}
 use Rattle.resolv_options.specs.Search.{candidates}
 use Rattle.channel_model.specs.Journal.{Past, spec_of}
 use Rattle.channel_model.specs.Legs.{is_second, Leg, candidate_of}
-use Rattle.channel_model.specs.Numbers.{kind_aaaa, kind_a, class_in, kind_ptr}
+use Rattle.dns_message.specs.Numbers.{kind_aaaa, kind_a, class_in, kind_ptr}
 use Rattle.channel_model.specs.Setting.{Setting}
 
 -- the name that a text is, and whether it is absolute

@@ -6,7 +6,7 @@ use Rattle.chan_types.specs.declared.status.Status.TheVariants.{FormErr, ServFai
 use Rattle.dns_message.specs.declared.message.Record.{Record}
 use Rattle.edns_opt.specs.Opt.{rcode_of}
 use Rattle.resolv_options.specs.declared.flags.Flags.{Flags}
-use Rattle.channel_model.specs.Numbers.{class_in, is_truncated, header_rcode}
+use Rattle.dns_message.specs.Numbers.{class_in, is_truncated, header_rcode}
 use Rattle.channel_model.specs.Replies.{Reply}
 use Rattle.channel_model.specs.declared.judged.Judged.{Judged}
 use Rattle.channel_model.specs.declared.judged.Judged.TheVariants.{NextTcp, NextPlain, Failed, Final}

@@ -1,4 +1,4 @@
-// Laws of the commands of callbacks.
+//! Laws of the commands of callbacks.
 
 ghost use Rattle.std.specs.Prelude.{◌≡◌, List, ℕ, IsFalse, All, filter_map, count_by};
 ghost use Rattle.chan_types.specs.declared.journal.Entry.{Entry};

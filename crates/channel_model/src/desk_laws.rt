@@ -13,9 +13,11 @@ ghost use Rattle.channel_model.specs.Seen.{entries_of};
 #[tactic(auto, using(crate::proofs::DeskLemmas::goes_on_refl, crate::proofs::DeskLemmas::goes_on_trans, crate::proofs::DeskLemmas::own_stays))]
 pub fn desks_go_on()
     ensures nothing { (known : Known) → GoesOn known known }
-    ensures call { (by : ℕ) (old new : Known) (here : List Entry) (added : Option What) → IsSameDesk old new → StandsAt old here
+    ensures call { (by : ℕ) (old new : Known) (here : List Entry) (added : Option What)
+        → IsSameDesk old new → StandsAt old here
         → new.seen ≡ here ++ entries_of old.seat by added → new.own ≡ old.own ++ entries_of old.seat by added
         → IsLawful new.setting new.seen → GoesOn old new }
     ensures together { (old middle new : Known) → GoesOn old middle → GoesOn middle new → GoesOn old new }
-    ensures own { (old new : Known) → GoesOn old new → old.own ≡ own_entries old.seat old.seen → new.own ≡ own_entries new.seat new.seen }
+    ensures own { (old new : Known) → GoesOn old new → old.own ≡ own_entries old.seat old.seen
+        → new.own ≡ own_entries new.seat new.seen }
 {}

@@ -1,4 +1,4 @@
-// Laws of messages on a link.
+//! Laws of messages on a link.
 
 ghost use Rattle.std.specs.Prelude.{◌≡◌, ◌++◌, List, ℕ, []};
 ghost use Rattle.std.specs.List.{flat_map};

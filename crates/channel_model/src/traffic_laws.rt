@@ -1,4 +1,4 @@
-// Laws of journals and logs.
+//! Laws of journals and logs.
 
 ghost use Rattle.std.specs.Prelude.{◌≡◌, List, ℕ, [], ◌∷◌, ◌++◌, ◌+◌, ◌≤◌, length, filter_map, IsFalse};
 ghost use Rattle.chan_types.specs.declared.journal.Entry.{Entry};

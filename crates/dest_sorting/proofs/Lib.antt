@@ -1,3 +1,4 @@
 pub mod PolicyLemmas
 pub mod RankLemmas
 pub mod SourceLemmas
+pub mod Theorems

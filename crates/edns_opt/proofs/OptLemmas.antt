@@ -15,7 +15,8 @@ use Rattle.edns_opt.specs.declared.opt.Opt.{Opt}
 use Rattle.edns_opt.specs.declared.fault.EdnsFault.{EdnsFault}
 use Rattle.edns_opt.specs.declared.fault.EdnsFault.TheVariants as edns_fault
 use Rattle.edns_opt.specs.Options.{option_spelling, spelling, AreOptions}
-use Rattle.edns_opt.specs.Opt.{kind_opt, is_opt, opt_records, FitsOpt, FitsRecord, Says, IsOptOf, HasCause, opt_record, message_with}
+use Rattle.dns_message.specs.Numbers.{kind_opt}
+use Rattle.edns_opt.specs.Opt.{is_opt, opt_records, FitsOpt, FitsRecord, Says, IsOptOf, HasCause, opt_record, message_with}
 use Rattle.edns_opt.specs.Reading.{options_in, options_of, opt_with, said_by, said_once, opt_of, EndsWith}
 use Rattle.edns_opt.proofs.OptionsLemmas.{spelling_more, options_again, stop_again, Holds, options_hold}
 

@@ -1,16 +1,13 @@
 -- What a message's OPT record says (RFC 6891, section 6.1), and the response code that it extends.
 use Rattle.std.specs.Prelude.{◌≡◌, ℕ, ◌+◌, ◌*◌, ◌%◌, ◌^◌, ◌<◌, ◌==◌, Bool, if◌then◌else◌, List, [], ◌∷◌, ◌++◌, length, filter, Option, Some, None, ⊤}
 use Rattle.std.specs.List.{AllByRecursion}
+use Rattle.dns_message.specs.Numbers.{kind_opt}
 use Rattle.dns_message.specs.declared.message.Message.{Message}
 use Rattle.dns_message.specs.declared.message.Record.{Record}
 use Rattle.edns_opt.specs.declared.opt.Opt.{Opt}
 use Rattle.edns_opt.specs.declared.fault.EdnsFault.{EdnsFault}
 use Rattle.edns_opt.specs.declared.fault.EdnsFault.TheVariants.{DoubleOpt, BadOptions, NoMemory}
 use Rattle.edns_opt.specs.Options.{spelling, FitsOption, AreBytes, StopsFitting}
-
--- the OPT record's type
-abbrev pub kind_opt : ℕ
-kind_opt = 41
 
 -- the record is an OPT record
 abbrev pub is_opt : Record → Bool

@@ -11,7 +11,8 @@ ghost use Rattle.edns_opt.specs.Reading.{EndsWith, opt_of};
 /// What a message's OPT record says is what is computed, each fault is the one that is computed, and what is computed is
 /// one of the two.
 pub fn opt_is_computed()
-    ensures found { (message : Message) (found : Option Opt) → IsOptOf message found → opt_of message ≡ Ok found }
+    ensures found { (message : Message) (found : Option Opt) → IsOptOf message found
+        → opt_of message ≡ Ok found }
     ensures cause { (message : Message) (fault : EdnsFault) → AllByRecursion FitsRecord message.additionals
         → HasCause message fault → EndsWith fault (opt_of message) }
     ensures either { (message : Message) → AllByRecursion FitsRecord message.additionals

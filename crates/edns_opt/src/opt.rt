@@ -5,9 +5,6 @@ ghost use Rattle.edns_opt.specs.Options.{spelling};
 
 use item_list::{Bytes, ItemList};
 
-/// The OPT record's type (RFC 6891, section 6.1.1).
-pub(crate) const KIND_OPT: u16 = 41;
-
 /// The most bytes of rdata: what its 16 bits of length can count (RFC 1035, section 3.2.1).
 const RDATA_MOST: usize = 65_535;
 

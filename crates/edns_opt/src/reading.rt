@@ -8,7 +8,8 @@ ghost use Rattle.edns_opt.specs.Reading.{first_option, options_of, opt_with, sai
 ghost use Rattle.edns_opt.specs.Causes.{HasCauseIn, IsDouble, seen};
 
 use crate::fault::EdnsFault;
-use crate::opt::{DO_BIT, EdnsItem, KIND_OPT, Opt, OptionList};
+use crate::opt::{DO_BIT, EdnsItem, Opt, OptionList};
+use dns_message::numbers::KIND_OPT;
 use dns_message::{Message, Record};
 use item_list::Bytes;
 use std::alloc::Global;

@@ -1,3 +1,5 @@
+//! Outside examples: messages with an OPT record, byte by byte.
+
 ghost use Rattle.std.specs.Prelude.{◌≡◌, [], IfOk};
 
 use super::*;

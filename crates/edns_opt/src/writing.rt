@@ -2,10 +2,12 @@
 
 ghost use Rattle.std.specs.Prelude.{◌≡◌, ◌+◌, ◌<◌, ◌≤◌, ◌^◌, [], ◌∷◌, ◌++◌, length, OnOk, IfOk, Some, Ok};
 ghost use Rattle.edns_opt.specs.Options.{option_spelling, spelling, FitsOption, AreOptions};
-ghost use Rattle.edns_opt.specs.Opt.{kind_opt, ttl_of, opt_records, message_with};
+ghost use Rattle.dns_message.specs.Numbers.{kind_opt};
+ghost use Rattle.edns_opt.specs.Opt.{ttl_of, opt_records, message_with};
 ghost use Rattle.edns_opt.specs.Reading.{opt_of};
 
-use crate::opt::{DO_BIT, EdnsItem, KIND_OPT, Opt};
+use crate::opt::{DO_BIT, EdnsItem, Opt};
+use dns_message::numbers::KIND_OPT;
 use dns_message::{Message, Name, Record};
 use item_list::{Bytes, NoMemory};
 use std::alloc::Global;

@@ -6,8 +6,7 @@ use Rattle.std.specs.Cmp.Lexicographic.{bytes_decides, pointwise_decides}
 use Rattle.byteorder.specs.Endian.{big_from}
 use Rattle.channel_model.specs.Flight.{answer_to, answers, asks_only, equal_name}
 use Rattle.channel_model.specs.Replies.{reply_with}
-use Rattle.dns_message.proofs.GrammarLemmas.{message_is_spelled}
-use Rattle.dns_message.proofs.TestLemmas.{one_test}
+use Rattle.dns_message.proofs.Theorems.{message_is_spelled, one_test}
 use Rattle.dns_message.specs.Grammar.{Spells}
 use Rattle.dns_message.specs.Numbers.{has_bit}
 use Rattle.dns_message.specs.Reading.{message_read}

@@ -10,14 +10,9 @@ use crate::replies::Reply;
 use chan_types::Status;
 use channel_model::Judged;
 use dns_message::Record;
+use dns_message::numbers::{CLASS_IN, FLAG_TC};
 use edns_opt::full_rcode;
 use resolv_options::Flags;
-
-/// The bit of a truncated message (RFC 1035, section 4.1.1).
-const TC: u16 = 0x0200;
-
-/// The Internet class (RFC 1035, section 3.2.4).
-const CLASS_IN: u16 = 1;
 
 /// What a reply means for the leg whose query went over TCP (`tcp`) or UDP, with an OPT record (`edns`) or without, and
 /// asked for records of a kind: the first of four rules that fits, which are this project's profile in the manner of
@@ -55,7 +50,7 @@ pub fn verdict(
 fn is_truncated(flags: u16) -> bool
     ensures { result ≡ has_bit 9 flags }
 {
-    flags / TC % 2 == 1
+    flags / FLAG_TC % 2 == 1
 }
 
 /// The server didn't answer the question: SERVFAIL, NOTIMP or REFUSED (RFC 1035, section 4.1.1).

@@ -5,6 +5,7 @@ ghost use Rattle.channel_model.specs.Past.{query_for};
 ghost use Rattle.dns_message.specs.Spelling.{message_bytes};
 ghost use Rattle.query_machine.specs.Query.{header_of_query, opt_of_query, question_of_query};
 
+use dns_message::numbers::{FLAG_RD, KIND_OPT};
 use dns_message::{Name, Question};
 use item_list::{Bytes, NoMemory};
 use std::alloc::Global;
@@ -17,12 +18,6 @@ const TAIL_LEN: usize = 4;
 
 /// The length of an OPT record without options (RFC 6891, section 6.1.2).
 const OPT_LEN: usize = 11;
-
-/// Recursion is desired: the lowest bit of the flags' first byte (RFC 1035, section 4.1.1).
-const RD: u8 = 1;
-
-/// The kind of an OPT record (RFC 6891, section 6.1.1).
-const KIND_OPT: u8 = 41;
 
 /// The bytes of a query with this identifier and this one question: RD unless `norecurse` is set, and an OPT record that
 /// offers replies of `edns` bytes, if there is one.
@@ -50,7 +45,8 @@ fn header(id: u16, norecurse: bool, edns: bool) -> [u8; 12]
     ensures { result ≡ header_of_query id norecurse edns }
 {
     let [high, low] = id.to_be_bytes();
-    let flags = if norecurse { 0 } else { RD };
+    let flags = if norecurse { 0 } else { FLAG_RD };
+    let [flags, _] = flags.to_be_bytes();
     let records = if edns { 1 } else { 0 };
     [high, low, flags, 0, 0, 1, 0, 0, 0, 0, 0, records]
 }
@@ -70,6 +66,7 @@ fn put_question(out: &mut Vec<u8>, name: &Name, kind: u16, class: u16) -> Result
 fn opt(size: u16) -> [u8; 11]
     ensures { result ≡ opt_of_query size }
 {
+    let [kind_high, kind_low] = KIND_OPT.to_be_bytes();
     let [high, low] = size.to_be_bytes();
-    [0, 0, KIND_OPT, high, low, 0, 0, 0, 0, 0, 0]
+    [0, kind_high, kind_low, high, low, 0, 0, 0, 0, 0, 0]
 }

@@ -10,6 +10,7 @@ ghost use Rattle.dns_message.specs.Name.{same_name};
 ghost use Rattle.query_machine.specs.Replies.{reply_seen, may_answer};
 
 use byteorder::{BigEndian, ByteOrder};
+use dns_message::numbers::{FLAG_QR, FLAGS_OPCODE};
 use dns_message::{Message, MessageFault, Name, Question, decode};
 use edns_opt::{EdnsFault, Opt, find};
 use item_list::NoMemory;
@@ -18,11 +19,8 @@ use std::alloc::Global;
 /// The length of a header (RFC 1035, section 4.1.1).
 const HEADER_LEN: usize = 12;
 
-/// The bit that tells a response from a query (RFC 1035, section 4.1.1).
-const QR: u16 = 0x8000;
-
 /// The lowest of the four bits that tell the kind of query, 0 for a standard one (RFC 1035, section 4.1.1).
-const OPCODE: u16 = 0x0800;
+const OPCODE: u16 = FLAGS_OPCODE / 15;
 
 /// A message that answers a query, and what its OPT record says if it has one.
 #[derive(Debug, Drop)]
@@ -42,7 +40,8 @@ pub fn matching(
     asked: &Question,
     exact: bool,
 ) -> Result<Option<Reply>, NoMemory>
-    ensures { IfOk result (λ found. option_map reply_seen found ≡ answer_to id exact (Some asked.now) bytes.now) }
+    ensures { IfOk result (λ found. option_map reply_seen found
+        ≡ answer_to id exact (Some asked.now) bytes.now) }
 {
     // Most strays show in the header, which costs no memory to read.
     if !may_answer(bytes, id) {
@@ -113,7 +112,7 @@ fn answers(message: &Message, id: u16, asked: &Question, exact: bool) -> bool
 fn is_response(flags: u16) -> bool
     ensures { result ≡ has_bit 15 flags }
 {
-    flags / QR % 2 == 1
+    flags / FLAG_QR % 2 == 1
 }
 
 /// The flags are those of a standard query or of the response to one.

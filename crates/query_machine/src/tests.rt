@@ -1,3 +1,5 @@
+//! Outside examples, and each call that may take memory with ample memory.
+
 mod legs;
 mod matches;
 mod picks;

@@ -5,7 +5,7 @@ use Rattle.std.proofs.lemmas.List.{map-append, take_more}
 use Rattle.std.proofs.lemmas.List.Elements.{filter-append}
 use Rattle.std.proofs.lemmas.Bool.Decides.{nat_tests}
 use Rattle.dns_message.specs.Name.{same_name, LastIs, last_is, wire_length}
-use Rattle.dns_message.proofs.TestLemmas.{last_is_says}
+use Rattle.dns_message.proofs.Theorems.{last_is_says}
 use Rattle.dns_message.specs.declared.name.NameText.{NameText}
 use Rattle.resolv_options.specs.declared.options.Options.{Options}
 use Rattle.resolv_options.specs.Search.{may_be_asked, dots, with_domains, without_repeats, candidates_after, candidates}

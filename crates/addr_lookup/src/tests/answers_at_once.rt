@@ -1,3 +1,5 @@
+//! What is answered without asking a server.
+
 use super::*;
 
 /// A hosts file as systems have it.

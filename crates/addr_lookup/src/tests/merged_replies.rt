@@ -1,3 +1,5 @@
+//! What the replies of an Address request come to.
+
 use super::*;
 
 /// A record: its owner, its type, its class and its rdata.

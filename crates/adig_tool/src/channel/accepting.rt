@@ -1,3 +1,5 @@
+//! Accepting a request: its question, or its status at once.
+
 ghost use Rattle.std.specs.Prelude.{◌≡◌, ◌+◌, ◌≤◌, [], IfOk, OnOk, vec_len, vec_capacity};
 ghost use Rattle.chan_types.specs.Plans.{blank};
 ghost use Rattle.channel_model.specs.Journal.{accepted};

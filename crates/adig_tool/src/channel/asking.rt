@@ -1,3 +1,5 @@
+//! Starting the attempt that waits.
+
 ghost use Rattle.std.specs.Prelude.{◌≡◌, ◌≢◌, [], IfOk, OnErr};
 ghost use Rattle.channel_model.specs.Completion.{waiting};
 ghost use Rattle.adig_tool.specs.Calls.{past_in, setting_of, Starts};

@@ -1,3 +1,5 @@
+//! What is due next, and how many requests and attempts there are.
+
 ghost use Rattle.std.specs.Prelude.{◌≡◌};
 ghost use Rattle.adig_tool.specs.Calls.{counts_in, due_in};
 

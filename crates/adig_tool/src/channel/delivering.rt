@@ -1,3 +1,5 @@
+//! Handing out what is completed, and destroying the channel.
+
 ghost use Rattle.adig_tool.specs.Calls.{Destroys, Takes};
 
 use super::{Channel, entry};

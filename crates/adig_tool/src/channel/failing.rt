@@ -1,3 +1,5 @@
+//! The end of an attempt without a reply: it expires, or its server fails.
+
 ghost use Rattle.std.specs.Prelude.{◌≡◌, ◌≤◌, IfOk, IsSomeAnd, OnErr};
 ghost use Rattle.adig_tool.specs.Calls.{due_in, Expires, Fails};
 

@@ -1,3 +1,5 @@
+//! Taking in a message.
+
 ghost use Rattle.std.specs.Prelude.{IfOk, OnErr, ◌≡◌};
 ghost use Rattle.adig_tool.specs.Calls.{Lands};
 ghost use Rattle.adig_tool.specs.Landed.{landed_by};

@@ -1,3 +1,5 @@
+//! The expiries of a turn.
+
 ghost use Rattle.std.specs.Prelude.{List, Option};
 ghost use Rattle.net_world.specs.declared.log.WorldCall.{WorldCall};
 ghost use Rattle.adig_tool.specs.Steps.{Passes};

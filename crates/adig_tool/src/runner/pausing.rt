@@ -1,3 +1,5 @@
+//! Waiting between turns.
+
 ghost use Rattle.std.specs.Prelude.{◌≡◌, ◌≤◌};
 ghost use Rattle.net_world.specs.Cause.{Rose};
 ghost use Rattle.channel_model.specs.Endings.{LastWaitFailed};
@@ -20,8 +22,10 @@ pub fn pause_once<W: World>(
 ) -> Result<Paused, NoMemory>
     ensures passes { Passes 0 result channel.now channel.now (W.log world.old) (W.log world.new) }
     ensures waits { W.wait_faults world.old ≤ W.wait_faults world.new }
-    ensures wait_fault { result ≡ Ok Paused.WaitFault → Rose (W.wait_faults world.old) (W.wait_faults world.new) }
-    ensures last_wait { result ≡ Ok Paused.WaitFault → GoesOnWith LastWaitFailed (W.log world.old) (W.log world.new) }
+    ensures wait_fault { result ≡ Ok Paused.WaitFault
+        → Rose (W.wait_faults world.old) (W.wait_faults world.new) }
+    ensures last_wait { result ≡ Ok Paused.WaitFault
+        → GoesOnWith LastWaitFailed (W.log world.old) (W.log world.new) }
 {
     if !may_wait(&channel.counts()) {
         return Ok(Paused::Skipped);

@@ -1,3 +1,5 @@
+//! The starts of a turn.
+
 ghost use Rattle.std.specs.Prelude.{◌≡◌};
 ghost use Rattle.adig_tool.specs.Steps.{Passes};
 

@@ -1,3 +1,5 @@
+//! How a leg goes on.
+
 use crate::{Flying, Judged, Leg, Phase};
 use chan_types::Status;
 use resolv_options::Options;

@@ -1,3 +1,5 @@
+//! Which messages answer a query.
+
 use super::address_of_example;
 use crate::matching;
 use std::test::Fail;

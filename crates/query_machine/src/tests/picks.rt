@@ -1,3 +1,5 @@
+//! Which server is next.
+
 use crate::Servers;
 use chan_types::{KeyList, ServerKey};
 use net_addr::{Addr, ServerAddr};

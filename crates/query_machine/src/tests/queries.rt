@@ -1,3 +1,5 @@
+//! The bytes of queries.
+
 use super::address_of_example;
 use crate::query_bytes;
 use std::test::Fail;

@@ -1,3 +1,5 @@
+//! What a reply means, as a table.
+
 use crate::{Judged, Reply, verdict};
 use chan_types::Status;
 use dns_message::{Message, Name, QuestionList, Record, RecordList};

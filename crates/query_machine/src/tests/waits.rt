@@ -1,3 +1,5 @@
+//! How long an attempt waits, and how many there are.
+
 use crate::{attempts, wait_of};
 use resolv_options::Options;
 use std::test::Fail;

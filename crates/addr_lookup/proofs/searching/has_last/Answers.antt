@@ -1,4 +1,4 @@
-use Rattle.dns_message.proofs.TestLemmas.{last_is_so}
+use Rattle.dns_message.proofs.Theorems.{last_is_so}
 use Rattle.addr_lookup.proofs.searching.has_last.Goals as goal
 
 pub returns : goal.returns

@@ -1,4 +1,4 @@
-use Rattle.dns_message.proofs.TestLemmas.{same_is}
+use Rattle.dns_message.proofs.Theorems.{same_is}
 use Rattle.adig_tool.proofs.reply.is_same_name.Goals as goal
 
 pub returns : goal.returns

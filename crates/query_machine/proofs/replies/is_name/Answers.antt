@@ -1,4 +1,4 @@
-use Rattle.dns_message.proofs.TestLemmas.{same_is}
+use Rattle.dns_message.proofs.Theorems.{same_is}
 use Rattle.query_machine.proofs.ReplyLemmas.{equal_is}
 use Rattle.query_machine.proofs.replies.is_name.Goals as goal
 

@@ -1,5 +1,5 @@
 use Rattle.std.proofs.Common.{codes}
-use Rattle.dns_message.proofs.TestLemmas.{last_is_so}
+use Rattle.dns_message.proofs.Theorems.{last_is_so}
 use Rattle.resolv_options.proofs.searching.is_onion.Goals as goal
 
 pub returns : goal.returns

@@ -1,4 +1,4 @@
-use Rattle.dns_message.proofs.TestLemmas.{same_is}
+use Rattle.dns_message.proofs.Theorems.{same_is}
 use Rattle.resolv_options.proofs.searching.is_same.Goals as goal
 
 pub returns : goal.returns

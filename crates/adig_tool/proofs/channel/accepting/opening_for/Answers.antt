@@ -1,6 +1,6 @@
 use Rattle.std.proofs.Common.{refl, sym, ◌∙◌}
 use Rattle.std.specs.Prelude.{codes}
-use Rattle.dns_message.proofs.TestLemmas.{last_is_so}
+use Rattle.dns_message.proofs.Theorems.{last_is_so}
 use Rattle.adig_tool.proofs.channel.accepting.opening_for.Goals as goal
 
 pub returns-then-last_is : goal.returns-then-last_is
