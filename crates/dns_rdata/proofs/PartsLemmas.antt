@@ -9,7 +9,7 @@ use Rattle.dns_message.specs.NameText.{is_label, is_name}
 use Rattle.dns_message.specs.Faults.{HasNameCause}
 use Rattle.dns_message.specs.declared.fault.NameFault.{NameFault}
 use Rattle.dns_message.specs.declared.fault.NameFault.TheVariants.{EmptyLabel, LongLabel, LongName, BadEscape, NoMemory}
-use Rattle.dns_message.proofs.PieceLemmas.{name_passes}
+use Rattle.dns_message.proofs.Theorems.{name_passes}
 use Rattle.dns_rdata.specs.declared.fault.RdataFault.{RdataFault}
 use Rattle.dns_rdata.specs.declared.fault.RdataFault.TheVariants as rdata_fault
 use Rattle.dns_rdata.specs.Parts.{Gives, name_in, first_string, then_strings, strings_within, strings_in, then_labels, labels_within, labels_in}

@@ -5,6 +5,7 @@ use Rattle.std.specs.Char.{is_ascii_digit}
 use Rattle.std.proofs.lemmas.Bool.{eqb-true}
 use Rattle.std.proofs.lemmas.Bool.Decides.{nat_tests}
 use Rattle.std.proofs.lemmas.Fmt.{decimal_by_steps, decimal_digit, decimal_nonempty, first_decimal}
+use Rattle.dns_message.specs.Numbers.{kind_a, kind_ns, kind_cname, kind_soa, kind_ptr, kind_hinfo, kind_mx, kind_txt, kind_aaaa, kind_srv, kind_opt, kind_any, class_in, class_ch, class_any}
 use Rattle.dns_rdata.specs.Table.{read_on, number_in, kind_text, class_text, kind_word, class_word}
 
 -- digits are read one behind the other
@@ -50,7 +51,7 @@ pub number_printed : (n : ℕ) → n < 65536 → number_in (decimal n) ≡ Some 
 number_printed n few = plain_number (decimal n) (decimal_nonempty n (omega arith)) (decimal_front n few) ∙ decimal_read n few
 
 -- a fact on a number, where it holds of one number and of all others
-either : (P : ℕ → Type 0) (k n : ℕ) → P k → (eqb n k ≡ false → P n) → P n
+pub either : (P : ℕ → Type 0) (k n : ℕ) → P k → (eqb n k ≡ false → P n) → P n
 either P k n here others = tested (eqb n k) refl where
   tested : (test : Bool) → eqb n k ≡ test → P n
   tested true is = let same : k ≡ n = sym (eqb-true n k is) in subst P same here
@@ -58,30 +59,30 @@ either P k n here others = tested (eqb n k) refl where
 
 -- a type's word is read as itself
 abbrev ReadsKind : ℕ → Type 0
-ReadsKind kind = kind < 65536 → kind ≢ 41 → kind_word (kind_text kind) ≡ Some kind
+ReadsKind kind = kind < 65536 → kind ≢ kind_opt → kind_word (kind_text kind) ≡ Some kind
 
 abbrev ReadsClass : ℕ → Type 0
 ReadsClass class = class < 65536 → class_word (class_text class) ≡ Some class
 
 pub kind_printed : (kind : ℕ) → ReadsKind kind
 kind_printed kind =
-    either ReadsKind 1 kind (λ few other. refl) (λ a.
-    either ReadsKind 2 kind (λ few other. refl) (λ b.
-    either ReadsKind 5 kind (λ few other. refl) (λ c.
-    either ReadsKind 6 kind (λ few other. refl) (λ d.
-    either ReadsKind 12 kind (λ few other. refl) (λ e.
-    either ReadsKind 13 kind (λ few other. refl) (λ f.
-    either ReadsKind 15 kind (λ few other. refl) (λ g.
-    either ReadsKind 16 kind (λ few other. refl) (λ h.
-    either ReadsKind 28 kind (λ few other. refl) (λ i.
-    either ReadsKind 33 kind (λ few other. refl) (λ j.
-    either ReadsKind 41 kind (λ few other. absurd (other refl)) (λ k.
-    either ReadsKind 255 kind (λ few other. refl) (λ l.
+    either ReadsKind kind_a kind (λ few other. refl) (λ a.
+    either ReadsKind kind_ns kind (λ few other. refl) (λ b.
+    either ReadsKind kind_cname kind (λ few other. refl) (λ c.
+    either ReadsKind kind_soa kind (λ few other. refl) (λ d.
+    either ReadsKind kind_ptr kind (λ few other. refl) (λ e.
+    either ReadsKind kind_hinfo kind (λ few other. refl) (λ f.
+    either ReadsKind kind_mx kind (λ few other. refl) (λ g.
+    either ReadsKind kind_txt kind (λ few other. refl) (λ h.
+    either ReadsKind kind_aaaa kind (λ few other. refl) (λ i.
+    either ReadsKind kind_srv kind (λ few other. refl) (λ j.
+    either ReadsKind kind_opt kind (λ few other. absurd (other refl)) (λ k.
+    either ReadsKind kind_any kind (λ few other. refl) (λ l.
     λ few other. rw (a, b, c, d, e, f, g, h, i, j, k, l) (number_printed kind few)))))))))))))
 
 pub class_printed : (class : ℕ) → ReadsClass class
 class_printed class =
-    either ReadsClass 1 class (λ few. refl) (λ a.
-    either ReadsClass 3 class (λ few. refl) (λ b.
-    either ReadsClass 255 class (λ few. refl) (λ c.
+    either ReadsClass class_in class (λ few. refl) (λ a.
+    either ReadsClass class_ch class (λ few. refl) (λ b.
+    either ReadsClass class_any class (λ few. refl) (λ c.
     λ few. rw (a, b, c) (number_printed class few))))

@@ -2,6 +2,7 @@
 use Rattle.std.specs.Prelude.{ℕ, ◌+◌, ◌/◌, ◌%◌, ◌^◌, ◌&&◌, ◌||◌, nat_le, ◌==◌, if◌then◌else◌, List, [], ◌∷◌, ◌++◌, length, map, flat_map, Option, Some, None, codes, decimal}
 use Rattle.std.specs.Char.{digit_char}
 use Rattle.dns_message.specs.declared.message.Record.{Record}
+use Rattle.dns_message.specs.Numbers.{kind_opt}
 use Rattle.dns_message.specs.NamePrinting.{text_of as name_text}
 use Rattle.net_addr.specs.Text.{text_of as address_text}
 use Rattle.dns_rdata.specs.declared.data.RecordData.{RecordData}
@@ -70,7 +71,7 @@ opt_words rr =
 -- the words behind a record's name
 abbrev pub words_behind : Record → List (List ℕ)
 words_behind rr =
-    if rr.kind == 41 then opt_words rr
+    if rr.kind == kind_opt then opt_words rr
     else (decimal rr.ttl ∷ class_text rr.class ∷ kind_text rr.kind ∷ rdata_words rr)
 
 -- a word behind a blank

@@ -1,7 +1,10 @@
 -- What rdata says, by the type and class of its record (RFC 1035, sections 3.3 and 3.4; RFC 2782; RFC 3596; RFC 6891).
-use Rattle.std.specs.Prelude.{ℕ, ◌&&◌, nat_lt, ◌==◌, if◌then◌else◌, List, [], ◌∷◌, length, drop, Option, Some, None, option_map}
+use Rattle.std.specs.Prelude.{◌≡◌, ℕ, ◌&&◌, nat_lt, ◌==◌, if◌then◌else◌, List, [], ◌∷◌, length, drop, Option, Some, None, option_map}
 use Rattle.std.specs.Option.{option_and_then}
+use Rattle.std.specs.List.{AllByRecursion}
 use Rattle.byteorder.specs.Endian.{big_from}
+use Rattle.dns_message.specs.Numbers.{kind_a, kind_ns, kind_cname, kind_soa, kind_ptr, kind_hinfo, kind_mx, kind_txt, kind_aaaa, kind_srv, kind_opt, class_in}
+use Rattle.dns_message.specs.declared.message.Message.{Message}
 use Rattle.dns_message.specs.declared.message.Record.{Record}
 use Rattle.net_addr.specs.declared.addr.Addr.{Addr}
 use Rattle.net_addr.specs.declared.addr.Addr.TheVariants.{V4, V6}
@@ -50,19 +53,29 @@ srv_in bytes =
 -- what rdata says in a record of this type and class; A, AAAA and SRV are so in the Internet's class alone
 abbrev pub data_in : ℕ → ℕ → List ℕ → Option RecordData
 data_in kind class bytes =
-    if kind == 1 && class == 1 then option_map A (v4_in bytes)
-    else (if kind == 2 then option_map Ns (whole_name bytes)
-    else (if kind == 5 then option_map Cname (whole_name bytes)
-    else (if kind == 6 then soa_in bytes
-    else (if kind == 12 then option_map Ptr (whole_name bytes)
-    else (if kind == 13 then hinfo_in bytes
-    else (if kind == 15 then mx_in bytes
-    else (if kind == 16 then option_map Txt (strings_in bytes)
-    else (if kind == 28 && class == 1 then option_map Aaaa (v6_in bytes)
-    else (if kind == 33 && class == 1 then srv_in bytes
-    else (if kind == 41 then Some (Opt bytes)
+    if kind == kind_a && class == class_in then option_map A (v4_in bytes)
+    else (if kind == kind_ns then option_map Ns (whole_name bytes)
+    else (if kind == kind_cname then option_map Cname (whole_name bytes)
+    else (if kind == kind_soa then soa_in bytes
+    else (if kind == kind_ptr then option_map Ptr (whole_name bytes)
+    else (if kind == kind_hinfo then hinfo_in bytes
+    else (if kind == kind_mx then mx_in bytes
+    else (if kind == kind_txt then option_map Txt (strings_in bytes)
+    else (if kind == kind_aaaa && class == class_in then option_map Aaaa (v6_in bytes)
+    else (if kind == kind_srv && class == class_in then srv_in bytes
+    else (if kind == kind_opt then Some (Opt bytes)
     else Some (Raw bytes)))))))))))
 
 -- what a record's rdata says, if it has the shape of its type and class
 unfoldable pub data_of : Record → Option RecordData
 data_of rr = data_in rr.kind rr.class rr.rdata
+
+-- the record's rdata has a typed form
+abbrev pub IsTyped : Record → Type 0
+IsTyped rr = (typed : RecordData) × (data_of rr ≡ Some typed)
+
+-- the rdata of each record of the message has a typed form
+pub record AreTyped (m : Message) : Type 0 where
+  pub answers : AllByRecursion IsTyped m.answers
+  pub authorities : AllByRecursion IsTyped m.authorities
+  pub additionals : AllByRecursion IsTyped m.additionals

@@ -2,39 +2,43 @@
 use Rattle.std.specs.Prelude.{ℕ, ◌+◌, ◌-◌, ◌*◌, Bool, false, ◌&&◌, nat_le, ◌==◌, if◌then◌else◌, List, [], ◌∷◌, ◌++◌, length, take, drop, map, find, Option, Some, None, codes, decimal}
 use Rattle.std.specs.Char.{is_ascii_digit, to_ascii_lowercase}
 use Rattle.std.specs.Str.{bytes_eq}
+use Rattle.dns_message.specs.Numbers.{kind_a, kind_ns, kind_cname, kind_soa, kind_ptr, kind_hinfo, kind_mx, kind_txt, kind_aaaa, kind_srv, kind_opt, kind_any}
+use Rattle.dns_message.specs.Numbers.{class_in, class_ch, class_any}
 
 -- the name of a type
 abbrev pub kind_name : ℕ → Option (List ℕ)
 kind_name kind =
-    if kind == 1 then Some (codes "A")
-    else (if kind == 2 then Some (codes "NS")
-    else (if kind == 5 then Some (codes "CNAME")
-    else (if kind == 6 then Some (codes "SOA")
-    else (if kind == 12 then Some (codes "PTR")
-    else (if kind == 13 then Some (codes "HINFO")
-    else (if kind == 15 then Some (codes "MX")
-    else (if kind == 16 then Some (codes "TXT")
-    else (if kind == 28 then Some (codes "AAAA")
-    else (if kind == 33 then Some (codes "SRV")
-    else (if kind == 41 then Some (codes "OPT")
-    else (if kind == 255 then Some (codes "ANY")
+    if kind == kind_a then Some (codes "A")
+    else (if kind == kind_ns then Some (codes "NS")
+    else (if kind == kind_cname then Some (codes "CNAME")
+    else (if kind == kind_soa then Some (codes "SOA")
+    else (if kind == kind_ptr then Some (codes "PTR")
+    else (if kind == kind_hinfo then Some (codes "HINFO")
+    else (if kind == kind_mx then Some (codes "MX")
+    else (if kind == kind_txt then Some (codes "TXT")
+    else (if kind == kind_aaaa then Some (codes "AAAA")
+    else (if kind == kind_srv then Some (codes "SRV")
+    else (if kind == kind_opt then Some (codes "OPT")
+    else (if kind == kind_any then Some (codes "ANY")
     else None)))))))))))
 
 -- the name of a class
 abbrev pub class_name : ℕ → Option (List ℕ)
 class_name class =
-    if class == 1 then Some (codes "IN")
-    else (if class == 3 then Some (codes "CH")
-    else (if class == 255 then Some (codes "ANY")
+    if class == class_in then Some (codes "IN")
+    else (if class == class_ch then Some (codes "CH")
+    else (if class == class_any then Some (codes "ANY")
     else None))
 
 -- the types whose name is also a word: all but OPT
 abbrev pub kind_words : List ℕ
-kind_words = 1 ∷ 2 ∷ 5 ∷ 6 ∷ 12 ∷ 13 ∷ 15 ∷ 16 ∷ 28 ∷ 33 ∷ 255 ∷ []
+kind_words =
+    kind_a ∷ kind_ns ∷ kind_cname ∷ kind_soa ∷ kind_ptr ∷ kind_hinfo ∷ kind_mx ∷ kind_txt ∷ kind_aaaa ∷ kind_srv
+    ∷ kind_any ∷ []
 
 -- the classes whose name is also a word: all
 abbrev pub class_words : List ℕ
-class_words = 1 ∷ 3 ∷ 255 ∷ []
+class_words = class_in ∷ class_ch ∷ class_any ∷ []
 
 -- the name, or without one this front and the number in decimal digits
 abbrev pub text_or : List ℕ → ℕ → Option (List ℕ) → List ℕ

@@ -13,7 +13,7 @@ mod words;
 
 pub use data::RecordData;
 pub use fault::RdataFault;
-pub use laws::{parts_are_as_spelled, printed_words_read_back};
+pub use laws::{parts_are_as_spelled, printed_words_read_back, well_formed_records_are_typed};
 pub use lines::line;
 pub use typing::rdata;
 pub use words::{class_text, class_word, kind_text, kind_word};

@@ -5,10 +5,10 @@ ghost use Rattle.dns_rdata.specs.Lines.{spaced, quoted, data_words, ttl_words, o
 
 use crate::data::RecordData;
 use crate::fault::RdataFault;
-use crate::names::KIND_OPT;
 use crate::text::{put_address, put_generic, put_name, put_quoted, put_spaced, put_word};
 use crate::typing::rdata;
 use crate::words::{put_class, put_kind};
+use dns_message::numbers::KIND_OPT;
 use dns_message::{Bytes, Name, NoMemory, Record};
 use std::alloc::Global;
 

@@ -1,3 +1,5 @@
+//! Outside examples: records as bytes and as lines, and the words of types and classes.
+
 use super::*;
 use dns_message::{Bytes, Name, Record};
 use std::alloc::Global;

@@ -1,44 +1,74 @@
 //! What the rdata of a record says.
 
-ghost use Rattle.std.specs.Prelude.{◌≡◌, ◌≢◌, Some, None, IfOk, IfErr};
+ghost use Rattle.std.specs.Prelude.{◌≡◌, ◌≢◌, Some, None, Err, IfOk, IfErr};
+ghost use Rattle.dns_message.specs.Validity.{IsWellFormed};
 ghost use Rattle.dns_rdata.specs.Parts.{Gives};
 ghost use Rattle.dns_rdata.specs.Rdata.{v4_in, v6_in, soa_in, hinfo_in, mx_in, srv_in, data_of, data_in};
+ghost use Rattle.dns_rdata.specs.Spelling.{data_bytes};
 ghost use Rattle.dns_rdata.specs.declared.fault.RdataFault.TheVariants as rdata_fault;
 
 use crate::data::RecordData;
 use crate::fault::RdataFault;
-use crate::names::{CLASS_IN, KIND_OPT};
 use crate::parts::{name_in, strings_in, whole_name};
 use byteorder::{BigEndian, ByteOrder};
+use dns_message::numbers::{
+    CLASS_IN, KIND_A, KIND_AAAA, KIND_CNAME, KIND_HINFO, KIND_MX, KIND_NS, KIND_OPT, KIND_PTR,
+    KIND_SOA, KIND_SRV, KIND_TXT,
+};
 use dns_message::{Bytes, Record};
 use net_addr::Addr;
 use std::alloc::Global;
 
 /// What the rdata of a record says. Names in it stand without pointers, as decoded messages have them. A, AAAA and SRV
 /// have their form in the class of the Internet alone; in another one they are `Raw`, as types without a form here are.
+/// Rdata without the shape of its type and class is told before any memory is taken.
 pub fn rdata(alloc: Global, item: &Record) -> Result<RecordData, RdataFault>
     ensures read { IfOk result (λ typed. data_of item.now ≡ Some typed) }
+    // Exactly these bytes spell what is read, numbers too.
+    ensures spelled { IfOk result (λ typed. item.now.rdata ≡ data_bytes typed) }
     // The rdata doesn't have the shape of its type and class.
-    ensures refused { IfErr result (λ fault. fault ≢ rdata_fault.NoMemory → data_of item.now ≡ None) }
+    ensures refused { IfErr result (λ fault. fault ≢ rdata_fault.NoMemory
+        → data_of item.now ≡ None) }
+    // Such rdata, as that which is cut, is never want of memory.
+    ensures bad { data_of item.now ≡ None → result ≡ Err rdata_fault.BadRdata }
+    // A well-formed record, as those of decoded messages are, is refused for want of memory alone.
+    ensures formed { IsWellFormed item.now → IfErr result (λ fault. fault ≡ rdata_fault.NoMemory) }
 {
-    data_in(alloc, item.kind, item.class, item.rdata.as_slice())
+    if item.is_well_formed() {
+        data_in(alloc, item.kind, item.class, item.rdata.as_slice())
+    } else {
+        Err(RdataFault::BadRdata)
+    }
 }
 
 /// What rdata says in a record of a type and class.
 fn data_in(alloc: Global, kind: u16, class: u16, bytes: &[u8]) -> Result<RecordData, RdataFault>
+    ensures read { Gives result (data_in kind class bytes.now) }
+    ensures spelled { IfOk result (λ typed. bytes.now ≡ data_bytes typed) }
+{
+    data_by_kind(alloc, kind, class, bytes)
+}
+
+/// The same, type by type.
+fn data_by_kind(
+    alloc: Global,
+    kind: u16,
+    class: u16,
+    bytes: &[u8],
+) -> Result<RecordData, RdataFault>
     ensures { Gives result (data_in kind class bytes.now) }
 {
     match kind {
-        1 if class == CLASS_IN => Ok(RecordData::A(v4_in(bytes)?)),
-        2 => Ok(RecordData::Ns(whole_name(alloc, bytes)?)),
-        5 => Ok(RecordData::Cname(whole_name(alloc, bytes)?)),
-        6 => soa_in(alloc, bytes),
-        12 => Ok(RecordData::Ptr(whole_name(alloc, bytes)?)),
-        13 => hinfo_in(alloc, bytes),
-        15 => mx_in(alloc, bytes),
-        16 => Ok(RecordData::Txt(strings_in(alloc, bytes)?)),
-        28 if class == CLASS_IN => Ok(RecordData::Aaaa(v6_in(bytes)?)),
-        33 if class == CLASS_IN => srv_in(alloc, bytes),
+        KIND_A if class == CLASS_IN => Ok(RecordData::A(v4_in(bytes)?)),
+        KIND_NS => Ok(RecordData::Ns(whole_name(alloc, bytes)?)),
+        KIND_CNAME => Ok(RecordData::Cname(whole_name(alloc, bytes)?)),
+        KIND_SOA => soa_in(alloc, bytes),
+        KIND_PTR => Ok(RecordData::Ptr(whole_name(alloc, bytes)?)),
+        KIND_HINFO => hinfo_in(alloc, bytes),
+        KIND_MX => mx_in(alloc, bytes),
+        KIND_TXT => Ok(RecordData::Txt(strings_in(alloc, bytes)?)),
+        KIND_AAAA if class == CLASS_IN => Ok(RecordData::Aaaa(v6_in(bytes)?)),
+        KIND_SRV if class == CLASS_IN => srv_in(alloc, bytes),
         KIND_OPT => Ok(RecordData::Opt(Bytes::of(alloc, bytes)?)),
         _ => Ok(RecordData::Raw(Bytes::of(alloc, bytes)?)),
     }

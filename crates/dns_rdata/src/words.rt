@@ -1,8 +1,9 @@
 //! Types and classes as words: reading them, and printing them (RFC 3597, section 5).
 
-ghost use Rattle.std.specs.Prelude.{◌≡◌, ◌++◌, IfOk, OnOk};
+ghost use Rattle.std.specs.Prelude.{◌≡◌, ℕ, ◌++◌, Some, IfSome, IfOk, OnOk};
 ghost use Rattle.std.specs.Option.{option_copied};
 ghost use Rattle.dns_rdata.specs.Table.{is_named, kind_name, class_name, read_on, number_in, numbered, text_or, kind_text as kind_text_of, class_text as class_text_of, kind_word as kind_of, class_word as class_of};
+ghost use Rattle.dns_rdata.specs.Words.{NamesKind, NamesClass};
 
 use crate::names::{CLASS_WORDS, KIND_WORDS, class_name, kind_name};
 use crate::text::put_number;
@@ -18,7 +19,11 @@ const CLASS: &[u8; 5] = b"CLASS";
 /// The type that a word names: a name of the table, or `TYPEn` with a decimal n up to 65535 that has no leading zero,
 /// in letters of either case. `OPT` names none; `TYPE41` does. It takes no memory.
 pub fn kind_word(word: &[u8]) -> Option<u16>
-    ensures { result ≡ kind_of word.now }
+    ensures value { result ≡ kind_of word.now }
+    // What is read is a word for that type: a name of the table, or TYPE with its number.
+    ensures found { IfSome result (NamesKind word.now) }
+    // A word for a type is read as that type, so a word names one type at most.
+    ensures only { (kind : ℕ) → NamesKind word.now kind → result ≡ Some kind }
 {
     for kind in KIND_WORDS {
         if is_named(word, kind_name(kind)) {
@@ -31,7 +36,11 @@ pub fn kind_word(word: &[u8]) -> Option<u16>
 /// The class that a word names: a name of the table, or `CLASSn` with a decimal n up to 65535 that has no leading zero,
 /// in letters of either case. It takes no memory.
 pub fn class_word(word: &[u8]) -> Option<u16>
-    ensures { result ≡ class_of word.now }
+    ensures value { result ≡ class_of word.now }
+    // What is read is a word for that class: a name of the table, or CLASS with its number.
+    ensures found { IfSome result (NamesClass word.now) }
+    // A word for a class is read as that class, so a word names one class at most.
+    ensures only { (class : ℕ) → NamesClass word.now class → result ≡ Some class }
 {
     for class in CLASS_WORDS {
         if is_named(word, class_name(class)) {
