@@ -7,6 +7,7 @@ ghost use Rattle.tool_line.specs.Page as meaning;
 
 use crate::text::Text;
 use chan_types::{Answer, Status};
+use dns_message::numbers::{FLAG_AA, FLAG_QR, FLAG_RA, FLAG_RD, FLAG_TC};
 use dns_message::{Message, MessageFault, Record, decode};
 use dns_rdata::{class_text, kind_text, line};
 use edns_opt::{EdnsFault, find, full_rcode};
@@ -107,11 +108,11 @@ fn full_code(alloc: Global, message: &Message) -> Result<u16, NoMemory>
 fn put_flags(text: &mut Text, flags: u16) -> Result<(), NoMemory>
     ensures { OnOk result (text.new ≡ text.old ++ flat_map spaced (meaning.flag_words flags)) }
 {
-    put_flag(text, flags / 0x8000, b"qr")?;
-    put_flag(text, flags / 0x0400, b"aa")?;
-    put_flag(text, flags / 0x0200, b"tc")?;
-    put_flag(text, flags / 0x0100, b"rd")?;
-    put_flag(text, flags / 0x0080, b"ra")
+    put_flag(text, flags / FLAG_QR, b"qr")?;
+    put_flag(text, flags / FLAG_AA, b"aa")?;
+    put_flag(text, flags / FLAG_TC, b"tc")?;
+    put_flag(text, flags / FLAG_RD, b"rd")?;
+    put_flag(text, flags / FLAG_RA, b"ra")
 }
 
 /// Prints the word of a flag that is set: the flag is the lowest of these bits.

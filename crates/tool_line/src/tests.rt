@@ -6,7 +6,17 @@ mod refusals;
 
 use super::*;
 use net_addr::{Addr, Family};
+use std::alloc::Global;
 use std::test::Fail;
+
+/// The words of a command line: its parts between blanks. So an empty line is one empty word.
+fn words_of(alloc: Global, line: &str) -> Result<Vec<&str>, Fail> {
+    let mut words = Vec::new(alloc);
+    for word in line.split(' ') {
+        words.push(word)?;
+    }
+    Ok(words)
+}
 
 /// Numbers by hand: decimal digits, no sign and no leading zero, between 1 and 65,535 or from 0.
 #[test]

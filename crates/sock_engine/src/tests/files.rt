@@ -5,40 +5,59 @@ use std::fmt::Display;
 use std::io::{ErrorKind, Print};
 use std::{env, fs, io, process};
 
-fn read<F: Files>(files: &mut F, path: &str, most: u64) -> Result<FileRead, NoMemory> {
-    files.read(path, most)
+/// What a read gives: this content (`c`), another (`o`), a file that is too large (`l`), none (`a`), or a failure (`f`).
+fn read<F: Files>(files: &mut F, path: &str, most: u64, content: &[u8]) -> Result<char, NoMemory> {
+    Ok(match files.read(path, most)? {
+        FileRead::Content(bytes) if bytes.as_slice() == content => 'c',
+        FileRead::Content(_) => 'o',
+        FileRead::Large => 'l',
+        FileRead::Absent => 'a',
+        FileRead::Failed => 'f',
+    })
+}
+
+/// What is in the file that the test makes.
+const TEXT: &[u8] = b"::1 a";
+
+/// The most bytes that are taken of it, and what its read gives.
+const LIMITS: [(u64, char); 4] = [(5, 'c'), (u64::MAX, 'c'), (4, 'l'), (0, 'l')];
+
+/// Whether the reads of a file with this text give what they should, one for each limit.
+fn limited<F: Files>(files: &mut F, path: &str) -> Result<bool, NoMemory> {
+    let mut as_wanted = true;
+    for (most, want) in LIMITS {
+        as_wanted = as_wanted && read(files, path, most, TEXT)? == want;
+    }
+    Ok(as_wanted)
 }
 
 #[test]
 fn files_are_read(rt: HostRuntime) -> Result<(), Fail> {
-    let alloc = rt.alloc();
-    let path = format!(in alloc; "/tmp/sock_engine_{}", process::id(rt.process()))?;
-    fs::write(&rt, path.as_str(), b"::1 a")?;
-    let below = format!(in alloc; "{path}/b")?;
+    let path = format!(in rt.alloc(); "/tmp/sock_engine_{}", process::id(rt.process()))?;
+    fs::write(&rt, path.as_str(), TEXT)?;
+    let below = format!(in rt.alloc(); "{path}/b")?;
     let mut files = RealFiles::make(rt);
-    for (path, most, want) in [
-        (
-            path.as_str(),
-            5,
-            FileRead::Content(Bytes::of(alloc, b"::1 a")?),
-        ),
-        (
-            path.as_str(),
-            u64::MAX,
-            FileRead::Content(Bytes::of(alloc, b"::1 a")?),
-        ),
-        (path.as_str(), 4, FileRead::Large),
-        (path.as_str(), 0, FileRead::Large),
-        (below.as_str(), 5, FileRead::Absent),
-        ("/tmp/sock_engine/none", 5, FileRead::Absent),
-        ("", 5, FileRead::Absent),
-        ("/tmp", 5, FileRead::Failed),
-        ("/dev/null", 0, FileRead::Content(Bytes::new(alloc))),
-        ("/dev/zero", 5, FileRead::Large),
-    ] {
-        assert!(rt; read(&mut files, path, most)? == want, "{path} {most}");
-    }
+    assert!(rt; limited(&mut files, path.as_str())?);
+    assert_eq!(rt; read(&mut files, below.as_str(), 5, TEXT)?, 'a');
     fs::remove_file(&rt, path.as_str())?;
+    Ok(())
+}
+
+/// Paths that systems have, each with the most bytes that are taken of it, and what its read gives.
+const PATHS: [(&str, u64, char); 5] = [
+    ("/tmp/sock_engine/none", 5, 'a'),
+    ("", 5, 'a'),
+    ("/tmp", 5, 'f'),
+    ("/dev/null", 0, 'c'),
+    ("/dev/zero", 5, 'l'),
+];
+
+#[test]
+fn other_paths_are_told_apart(rt: HostRuntime) -> Result<(), Fail> {
+    let mut files = RealFiles::make(rt);
+    for (path, most, want) in PATHS {
+        assert!(rt; read(&mut files, path, most, b"")? == want, "{path} {most}");
+    }
     Ok(())
 }
 

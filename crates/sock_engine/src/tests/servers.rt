@@ -67,6 +67,37 @@ fn an_echo_answers(rt: HostRuntime) -> Result<(), Fail> {
     Ok(())
 }
 
+/// Whether a query could be sent.
+fn is_sent<W: World>(world: &mut W, server: u32, query: &[u8]) -> Result<bool, NoMemory> {
+    Ok(world.send(server, query)? == Sent::Sent)
+}
+
+/// Whether the next thing is that the server refuses.
+fn is_refused<W: World>(world: &mut W, server: u32) -> Result<bool, NoMemory> {
+    Ok(next(world)? == Got::Failed(server, 0))
+}
+
+/// How many of the next two things are this reply; the other one is a refusal of the server.
+fn replies<W: World>(
+    alloc: Global,
+    world: &mut W,
+    server: u32,
+    reply: &[u8],
+) -> Result<usize, NoMemory> {
+    let wanted = Got::Datagram(server, Bytes::of(alloc, reply)?);
+    let refusal = Got::Failed(server, 0);
+    let mut replies = 0usize;
+    for _ in 0..2 {
+        let got = next(world)?;
+        if got == wanted {
+            replies = replies.saturating_add(1);
+        } else if got != refusal {
+            return Ok(0);
+        }
+    }
+    Ok(replies)
+}
+
 /// Nobody listens, so a query is refused. Then an echo opens that port: the next query reaches it, and behind its reply
 /// or before it the refusal is told.
 #[test]
@@ -74,43 +105,44 @@ fn a_refusal_costs_no_query(rt: HostRuntime) -> Result<(), Fail> {
     let at = far_socket(&rt, any_local())?.local_addr()?;
     let mut world = SockWorld::make(rt)?;
     world.serve(7, &local(at.port()))?;
-    assert_eq!(rt; world.send(7, b"a")?, Sent::Sent);
-    assert!(rt; next(&mut world)? == Got::Failed(7, 0));
-    assert_eq!(rt; world.send(7, b"b")?, Sent::Sent);
+    assert!(rt; is_sent(&mut world, 7, b"a")?);
+    assert!(rt; is_refused(&mut world, 7)?);
+    assert!(rt; is_sent(&mut world, 7, b"b")?);
     let far = far_socket(&rt, at)?;
     let child = thread::spawn(&rt, move || echo(&far, 1))?;
-    assert_eq!(rt; world.send(7, b"c")?, Sent::Sent);
-    let mut replies = 0usize;
-    for _ in 0..2 {
-        match next(&mut world)? {
-            Got::Datagram(7, bytes) => {
-                assert_eq!(rt; bytes.as_slice(), b"c".as_slice());
-                replies = replies.saturating_add(1);
-            }
-            got => assert!(rt; got == Got::Failed(7, 0)),
-        }
-    }
-    assert_eq!(rt; replies, 1);
+    assert!(rt; is_sent(&mut world, 7, b"c")?);
+    assert_eq!(rt; replies(rt.alloc(), &mut world, 7, b"c")?, 1);
     assert_eq!(rt; child.join(&rt), 1);
-    assert_eq!(rt; world.send(8, b"d")?, Sent::Failed);
+    assert!(rt; !is_sent(&mut world, 8, b"d")?);
     Ok(())
 }
 
 /// A tool with workers moves its World into a thread.
 fn crosses_threads<W: World + Send>(_world: &W) {}
 
-/// Two words of the generator and two more are hardly all the same, and the clock goes on.
+/// Whether four words of the generator are all the same.
+fn repeats<W: World>(world: &mut W) -> Result<bool, NoMemory> {
+    let first = world.word()?;
+    for _ in 0..3 {
+        if world.word()? != first {
+            return Ok(false);
+        }
+    }
+    Ok(true)
+}
+
+/// Whether a wait of 20 ms is woken, at that moment or later.
+fn wakes<W: World>(world: &mut W) -> Result<bool, NoMemory> {
+    let until = world.now()?.saturating_add(20);
+    Ok(world.wait(until)? == Waited::Woken && world.now()? >= until)
+}
+
+/// Four words of the generator are hardly all the same, and the clock goes on.
 #[test]
 fn words_and_time_go_on(rt: HostRuntime) -> Result<(), Fail> {
     let mut world = SockWorld::make(rt)?;
     crosses_threads(&world);
-    let words = [world.word()?, world.word()?, world.word()?, world.word()?];
-    assert!(rt; words != [words[0]; 4]);
-    let now = World::now(&mut world)?;
-    assert_eq!(rt;
-        World::wait(&mut world, now.saturating_add(20))?,
-        Waited::Woken
-    );
-    assert!(rt; World::now(&mut world)? >= now.saturating_add(20));
+    assert!(rt; !repeats(&mut world)?);
+    assert!(rt; wakes(&mut world)?);
     Ok(())
 }

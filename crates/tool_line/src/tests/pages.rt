@@ -5,7 +5,6 @@ use chan_types::{Answer, Spec, Status};
 use item_list::{Bytes, NoMemory};
 use net_addr::AddrList;
 use resolv_options::Name;
-use std::alloc::Global;
 
 /// A reply with the address 192.0.2.1 of example.com (RFC 1035, section 4.1).
 const REPLY: &[u8; 45] =
@@ -36,70 +35,109 @@ fn answer(
     })
 }
 
+/// Whether adig prints this page of an answer without addresses, to a query of class IN.
+fn is_page(
+    alloc: Global,
+    asked: (&str, u16),
+    answered: (Status, &[u8]),
+    page: &str,
+) -> Result<bool, Fail> {
+    let (name, kind) = asked;
+    let (status, message) = answered;
+    let answer = answer(alloc, status, message, &[])?;
+    let printed = adig_page(alloc, name.as_bytes(), kind, 1, &answer)?;
+    Ok(printed.as_slice() == page.as_bytes())
+}
+
+/// The page of an answer with an address.
+const REPLY_PAGE: &str = ";; example.com IN A
+;; status 0 SUCCESS
+;; id 4660 rcode 0 flags qr rd ra
+;; ANSWER
+example.com. 300 IN A 192.0.2.1
+";
+
+/// The page of an answer of all flags and sections.
+const WHOLE_PAGE: &str = ";; a IN ANY
+;; status 10 EBADRESP
+;; id 1 rcode 19 flags qr aa tc rd ra
+;; ANSWER
+a. 60 IN TYPE65280 \\# 2 0a0b
+;; AUTHORITY
+a. 5 IN NS ns.a.
+;; ADDITIONAL
+a. 0 IN A 192.0.2.9
+. OPT size 1232 ext 1 version 0 do 1 \\# 0
+";
+
 #[test]
 fn adig_prints_pages(rt: HostRuntime) -> Result<(), Fail> {
     let alloc = rt.alloc();
-    for (name, kind, status, message, page) in [
-        (
-            "example.com",
-            1,
-            Status::Success,
-            REPLY.as_slice(),
-            ";; example.com IN A\n;; status 0 SUCCESS\n;; id 4660 rcode 0 flags qr rd ra\n;; ANSWER\nexample.com. 300 IN A 192.0.2.1\n",
-        ),
-        (
-            "a..b",
-            28,
-            Status::BadName,
-            b"".as_slice(),
-            ";; a..b IN AAAA\n;; status 8 EBADNAME\n",
-        ),
-        (
-            "a",
-            255,
-            Status::BadResp,
-            WHOLE.as_slice(),
-            ";; a IN ANY\n;; status 10 EBADRESP\n;; id 1 rcode 19 flags qr aa tc rd ra\n;; ANSWER\na. 60 IN TYPE65280 \\# 2 0a0b\n;; AUTHORITY\na. 5 IN NS ns.a.\n;; ADDITIONAL\na. 0 IN A 192.0.2.9\n. OPT size 1232 ext 1 version 0 do 1 \\# 0\n",
-        ),
-    ] {
-        let answer = answer(alloc, status, message, &[])?;
-        let printed = adig_page(alloc, name.as_bytes(), kind, 1, &answer)?;
-        assert!(rt; printed.as_slice() == page.as_bytes(), "{name}");
-    }
-    let answer = answer(alloc, Status::TimedOut, b"", &[])?;
-    let spec = Spec::Reverse {
-        address: Addr::V4(0xc000_0201),
-    };
-    let page = b";; 192.0.2.1 IN PTR\n;; status 12 ETIMEOUT\n";
-    assert!(rt; page_of(alloc, &spec, &answer)?.as_slice() == page.as_slice());
+    let replied = (Status::Success, REPLY.as_slice());
+    assert!(rt; is_page(alloc, ("example.com", 1), replied, REPLY_PAGE)?);
+    let whole = (Status::BadResp, WHOLE.as_slice());
+    assert!(rt; is_page(alloc, ("a", 255), whole, WHOLE_PAGE)?);
+    let bad = (Status::BadName, b"".as_slice());
+    let page = ";; a..b IN AAAA\n;; status 8 EBADNAME\n";
+    assert!(rt; is_page(alloc, ("a..b", 28), bad, page)?);
     Ok(())
+}
+
+/// The lookup of 192.0.2.1 backwards.
+fn reversed() -> Spec {
+    Spec::Reverse {
+        address: Addr::V4(0xc000_0201),
+    }
+}
+
+#[test]
+fn adig_prints_an_address(rt: HostRuntime) -> Result<(), Fail> {
+    let alloc = rt.alloc();
+    let answer = answer(alloc, Status::TimedOut, b"", &[])?;
+    let page = ";; 192.0.2.1 IN PTR\n;; status 12 ETIMEOUT\n";
+    assert!(rt; page_of(alloc, &reversed(), &answer)?.as_slice() == page.as_bytes());
+    Ok(())
+}
+
+/// Whether ahost prints these lines, at this depth, of an answer to a request.
+fn is_block(
+    alloc: Global,
+    depth: u32,
+    spec: &Spec,
+    answer: &Answer,
+    lines: &str,
+) -> Result<bool, Fail> {
+    Ok(block_lines(alloc, depth, spec, answer)?.as_slice() == lines.as_bytes())
+}
+
+/// The lookup of the addresses of localhost.
+fn host(alloc: Global) -> Result<Spec, Fail> {
+    Ok(Spec::Address {
+        host: Bytes::of(alloc, b"localhost")?,
+        family: Family::Any,
+        nosort: false,
+    })
 }
 
 #[test]
 fn ahost_prints_blocks(rt: HostRuntime) -> Result<(), Fail> {
     let alloc = rt.alloc();
-    let reversed = Spec::Reverse {
-        address: Addr::V4(0xc000_0201),
-    };
     let answered = answer(alloc, Status::Success, NAMES.as_slice(), &[])?;
-    let lines = b"  192.0.2.1 0 SUCCESS\n    1.2.0.192.in-addr.arpa. 60 IN PTR host.test.\n";
-    assert!(rt; block_lines(alloc, 1, &reversed, &answered)?.as_slice() == lines.as_slice());
-    let host = Spec::Address {
-        host: Bytes::of(alloc, b"localhost")?,
-        family: Family::Any,
-        nosort: false,
-    };
-    let found = answer(
-        alloc,
-        Status::Success,
-        b"",
-        &[Addr::V6(1), Addr::V4(0x7f00_0001)],
-    )?;
-    let lines = b"localhost 0 SUCCESS\n  ::1\n  127.0.0.1\n";
-    assert!(rt; block_lines(alloc, 0, &host, &found)?.as_slice() == lines.as_slice());
-    let failed = answer(alloc, Status::NotFound, NAMES.as_slice(), &[])?;
+    let lines = "  192.0.2.1 0 SUCCESS\n    1.2.0.192.in-addr.arpa. 60 IN PTR host.test.\n";
+    assert!(rt; is_block(alloc, 1, &reversed(), &answered, lines)?);
+    let host = host(alloc)?;
+    let addresses = [Addr::V6(1), Addr::V4(0x7f00_0001)];
+    let found = answer(alloc, Status::Success, b"", addresses.as_slice())?;
     assert!(rt;
-        block_lines(alloc, 0, &host, &failed)?.as_slice() == b"localhost 4 ENOTFOUND\n".as_slice()
+        is_block(
+            alloc,
+            0,
+            &host,
+            &found,
+            "localhost 0 SUCCESS\n  ::1\n  127.0.0.1\n"
+        )?
     );
+    let failed = answer(alloc, Status::NotFound, NAMES.as_slice(), &[])?;
+    assert!(rt; is_block(alloc, 0, &host, &failed, "localhost 4 ENOTFOUND\n")?);
     Ok(())
 }
