@@ -14,8 +14,7 @@ use Rattle.std.proofs.lemmas.Grind.{common_steps}
 use Rattle.dns_message.specs.Name.{IsName, SameName, same_name}
 use Rattle.dns_message.specs.Wire.{wire_bytes}
 use Rattle.dns_message.specs.declared.message.Record.{Record}
-use Rattle.dns_message.proofs.TestLemmas.{same_name_says, one_test}
-use Rattle.dns_message.proofs.WireLemmas.{same_labels, same_bytes}
+use Rattle.dns_message.proofs.Theorems.{same_name_says, one_test, same_labels, same_bytes}
 use Rattle.test_nameserver.specs.Zone.{is_of}
 use Rattle.test_nameserver.specs.Index.{key_of, has_key, places_from, Indexes, places_at, with_index, IsIndexed}
 use Rattle.test_nameserver.proofs.MapLemmas.{found_at, found_after}

@@ -8,3 +8,6 @@ mod HearingLemmas
 mod QuestionLemmas
 mod PeerLemmas
 mod LinkLemmas
+mod WordLemmas
+mod TurnLemmas
+mod EndLemmas

@@ -8,7 +8,7 @@ use Rattle.dns_message.specs.Wire.{wire_bytes}
 use Rattle.dns_message.specs.Message.{IsQuestion}
 use Rattle.dns_message.specs.Question.{SameQuestion}
 use Rattle.dns_message.specs.declared.message.Question.{Question}
-use Rattle.dns_message.proofs.WireLemmas.{same_labels, same_bytes}
+use Rattle.dns_message.proofs.Theorems.{same_labels, same_bytes}
 use Rattle.test_nameserver.specs.Index.{key_of}
 use Rattle.test_nameserver.specs.Peer.{question_key}
 

@@ -7,7 +7,7 @@ use Rattle.dns_message.specs.Name.{wire_length}
 use Rattle.dns_message.specs.Spelling.{question_bytes, record_bytes, header_bytes, sections_bytes, message_bytes}
 use Rattle.dns_message.specs.declared.message.Question.{Question}
 use Rattle.dns_message.specs.declared.message.Record.{Record}
-use Rattle.dns_message.proofs.SpellingLemmas.{question_length}
+use Rattle.dns_message.proofs.Theorems.{question_length}
 use Rattle.edns_opt.specs.Opt.{opt_record}
 use Rattle.test_nameserver.specs.Reply.{reply_with, opt_records_for, own_opt}
 use Rattle.test_nameserver.specs.declared.query.Query.{Query}

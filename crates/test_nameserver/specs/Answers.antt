@@ -1,13 +1,14 @@
 -- Which records a zone has for a name and a type, with the aliases that lead to them (RFC 1034, sections 3.6.2 and 4.3.2).
 use Rattle.std.specs.Prelude.{ℕ, zero, suc, Bool, ◌||◌, ◌==◌, List, [], ◌∷◌, filter, find, Option, Some, None, option_map}
 use Rattle.std.specs.Option.{option_and_then}
+use Rattle.dns_message.specs.Numbers.{kind_any, kind_cname}
 use Rattle.dns_message.specs.declared.message.Record.{Record}
 use Rattle.dns_rdata.specs.Parts.{whole_name}
 use Rattle.test_nameserver.specs.Zone.{records_of}
 
 -- the record has the type that is asked for; 255 asks for all (RFC 1035, section 3.2.3)
 abbrev pub has_kind : ℕ → Record → Bool
-has_kind kind rr = kind == 255 || rr.kind == kind
+has_kind kind rr = kind == kind_any || rr.kind == kind
 
 -- the records of a type, in order
 abbrev pub of_kind : ℕ → List Record → List Record
@@ -15,7 +16,7 @@ of_kind kind records = filter (has_kind kind) records
 
 -- a CNAME record
 abbrev pub is_alias : Record → Bool
-is_alias rr = rr.kind == 5
+is_alias rr = rr.kind == kind_cname
 
 -- the first CNAME record, and the name that it leads to
 abbrev pub alias_of : List Record → Option (Record × List (List ℕ))

@@ -11,3 +11,12 @@ pub mod Peer
 pub mod PeerCalls
 pub mod Heard
 pub mod Seen
+pub mod Listening
+pub mod MemListener
+pub mod Order
+pub mod Output
+pub mod Statuses
+pub mod Ending
+pub mod Service
+pub mod Headline
+pub mod Turns

@@ -2,6 +2,7 @@
 use Rattle.std.specs.Prelude.{◌≡◌, ℕ, Bool, true, false, ◌+◌, ◌&&◌, nat_lt, nat_le, ◌==◌, not, is_some, if◌then◌else◌, List, [], ◌∷◌, ◌++◌, length, position, filter_map, codes, bytes_eq, Option, Some, None, option_map, Result, Ok, Err, ⊤}
 use Rattle.std.specs.Option.{option_and_then}
 use Rattle.byteorder.specs.Endian.{big_bytes}
+use Rattle.dns_message.specs.Numbers.{class_in, kind_a, kind_aaaa, kind_cname, kind_mx, kind_ns, kind_ptr, kind_txt}
 use Rattle.dns_message.specs.Spelling.{name_bytes}
 use Rattle.dns_message.specs.declared.message.Record.{Record}
 use Rattle.net_addr.specs.declared.addr.Addr.{Addr}
@@ -16,13 +17,13 @@ use Rattle.test_nameserver.specs.declared.fault.ZoneFault.TheVariants.{TooLarge,
 -- the type that a word names: A, NS, CNAME, PTR, MX, TXT (RFC 1035, section 3.2.2) or AAAA (RFC 3596), in upper case
 abbrev pub kind_in : List ℕ → Option ℕ
 kind_in word =
-    if bytes_eq word (codes "A") then Some 1
-    else (if bytes_eq word (codes "NS") then Some 2
-    else (if bytes_eq word (codes "CNAME") then Some 5
-    else (if bytes_eq word (codes "PTR") then Some 12
-    else (if bytes_eq word (codes "MX") then Some 15
-    else (if bytes_eq word (codes "TXT") then Some 16
-    else (if bytes_eq word (codes "AAAA") then Some 28
+    if bytes_eq word (codes "A") then Some kind_a
+    else (if bytes_eq word (codes "NS") then Some kind_ns
+    else (if bytes_eq word (codes "CNAME") then Some kind_cname
+    else (if bytes_eq word (codes "PTR") then Some kind_ptr
+    else (if bytes_eq word (codes "MX") then Some kind_mx
+    else (if bytes_eq word (codes "TXT") then Some kind_txt
+    else (if bytes_eq word (codes "AAAA") then Some kind_aaaa
     else None))))))
 
 -- the four bytes of an IPv4 address
@@ -42,9 +43,9 @@ string_of word = if nat_le (length word) 255 then Some (length word ∷ word) el
 -- the rdata that one word is, of a type that has one
 abbrev pub rdata_of_word : ℕ → List ℕ → Option (List ℕ)
 rdata_of_word kind word =
-    if kind == 1 then option_and_then v4_bytes (address_of word)
-    else (if kind == 28 then option_and_then v6_bytes (address_of word)
-    else (if kind == 16 then string_of word
+    if kind == kind_a then option_and_then v4_bytes (address_of word)
+    else (if kind == kind_aaaa then option_and_then v6_bytes (address_of word)
+    else (if kind == kind_txt then string_of word
     else option_map name_bytes (name_of word)))
 
 -- the rdata of an MX record: a preference, and the name of the exchange (RFC 1035, section 3.3.9)
@@ -54,13 +55,13 @@ mx_rdata preference exchange = option_and_then (λ number. option_map (λ name. 
 -- the rdata that the words behind a type are: MX has two, the others one
 abbrev pub rdata_of : ℕ → List (List ℕ) → Option (List ℕ)
 rdata_of kind [] = None
-rdata_of kind (word ∷ []) = if kind == 15 then None else rdata_of_word kind word
-rdata_of kind (word ∷ second ∷ []) = if kind == 15 then mx_rdata word second else None
+rdata_of kind (word ∷ []) = if kind == kind_mx then None else rdata_of_word kind word
+rdata_of kind (word ∷ second ∷ []) = if kind == kind_mx then mx_rdata word second else None
 rdata_of kind (word ∷ second ∷ third ∷ words) = None
 
 -- a record of the Internet's class
 abbrev pub record_with : List (List ℕ) → ℕ → ℕ → List ℕ → Record
-record_with name ttl kind rdata = record { name = name; kind = kind; class = 1; ttl = ttl; rdata = rdata }
+record_with name ttl kind rdata = record { name = name; kind = kind; class = class_in; ttl = ttl; rdata = rdata }
 
 -- the record of these words, if they have the form; the time to live is at most 2 ^ 31 - 1 (RFC 2181, section 8)
 abbrev pub record_of_words : List (List ℕ) → Option Record

@@ -1,5 +1,6 @@
 -- The reply of a nameserver to a query (RFC 1035, section 4.1.1; RFC 6891, sections 6.1 and 6.2.3).
 use Rattle.std.specs.Prelude.{ℕ, ◌+◌, ◌*◌, ◌/◌, ◌%◌, ◌^◌, ◌==◌, nat_le, max, Bool, true, false, if◌then◌else◌, List, [], ◌∷◌, length, Option, Some, None, option_map}
+use Rattle.dns_message.specs.Numbers.{flag_aa, flag_qr, flag_ra, flag_rd, flag_tc, rcode_name_error, rcode_no_error, rcode_not_implemented}
 use Rattle.dns_message.specs.Spelling.{message_bytes}
 use Rattle.dns_message.specs.declared.message.Message.{Message}
 use Rattle.dns_message.specs.declared.message.Record.{Record}
@@ -20,7 +21,7 @@ are_none records = length records == 0
 
 -- the response code: NOTIMP (4) to another OPCODE, NXDOMAIN (3) to a name without a record, and else NOERROR (0)
 abbrev pub rcode_for : List Record → Query → ℕ
-rcode_for zone query = if is_standard query then (if are_none (records_of query.question.name zone) then 3 else 0) else 4
+rcode_for zone query = if is_standard query then (if are_none (records_of query.question.name zone) then rcode_name_error else rcode_no_error) else rcode_not_implemented
 
 -- the answers, which another OPCODE has none of
 abbrev pub answers_for : List Record → Query → List Record
@@ -28,7 +29,7 @@ answers_for zone query = if is_standard query then answers_of zone query.questio
 
 -- the flags: QR, AA and RA, the bit RD of the query, TC where the reply is cut, and the response code; OPCODE and Z are 0
 abbrev pub reply_flags : ℕ → Bool → ℕ → ℕ
-reply_flags asked cut rcode = 2 ^ 15 + 2 ^ 10 + 2 ^ 7 + asked / 2 ^ 8 % 2 * 2 ^ 8 + (if cut then 2 ^ 9 else 0) + rcode
+reply_flags asked cut rcode = flag_qr + flag_aa + flag_ra + asked / flag_rd % 2 * flag_rd + (if cut then flag_tc else 0) + rcode
 
 -- what the OPT record of a reply says: its sender takes datagrams of 1232 bytes (this project's profile)
 abbrev pub own_opt : Opt

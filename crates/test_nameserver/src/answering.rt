@@ -8,16 +8,11 @@ ghost use Rattle.test_nameserver.specs.Target.{canonical_of};
 ghost use Rattle.test_nameserver.specs.Answers.{has_kind, of_kind, is_alias, alias_of, answers_over};
 
 use crate::zone::Zone;
+use dns_message::numbers::{KIND_ANY, KIND_CNAME};
 use dns_message::{Name, Record, RecordList};
 use dns_rdata::{RdataFault, RecordData, rdata};
 use item_list::{Bytes, NoMemory};
 use std::alloc::Global;
-
-/// The type of an alias (RFC 1035, section 3.3.1).
-const KIND_CNAME: u16 = 5;
-
-/// The type that asks for all records (RFC 1035, section 3.2.3).
-const KIND_ANY: u16 = 255;
 
 /// Whether the record has the type that is asked for.
 fn has_kind(kind: u16, item: &Record) -> bool
@@ -105,7 +100,8 @@ fn target_of(alloc: Global, item: &Record) -> Result<Option<Name>, NoMemory>
 
 /// The first CNAME record, and the name that it leads to.
 fn alias_in<'a>(alloc: Global, found: &[&'a Record]) -> Result<Option<(&'a Record, Name)>, NoMemory>
-    ensures { IfOk result (λ alias. option_map (λ pair. (pair.0.now, pair.1)) alias ≡ alias_of (map (λ item. item.now) found.now)) }
+    ensures { IfOk result (λ alias. option_map (λ pair. (pair.0.now, pair.1)) alias
+        ≡ alias_of (map (λ item. item.now) found.now)) }
 {
     let Some(item) = first_alias(found) else {
         return Ok(None);

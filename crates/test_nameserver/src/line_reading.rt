@@ -7,12 +7,10 @@ ghost use Rattle.test_nameserver.specs.Words.{words_of};
 use crate::rdata_words::{kind_in, rdata_in};
 use crate::words::{number_up_to, words_in};
 use dns_message::Record;
+use dns_message::numbers::CLASS_IN;
 use item_list::NoMemory;
 use std::alloc::Global;
 use text_lines::read_name;
-
-/// The class of the Internet (RFC 1035, section 3.2.4).
-const CLASS_IN: u16 = 1;
 
 /// The greatest time to live (RFC 2181, section 8).
 const TTL_MOST: u32 = 2_147_483_647;

@@ -35,7 +35,8 @@ pub(crate) fn unread_with(
     link: u64,
     bytes: &[u8],
 ) -> Result<Option<Bytes>, NoMemory>
-    ensures { IfOk result (λ unread. unread ≡ option_map (λ found. found.unread ++ bytes.now) (find (meaning.has_number link) links.now)) }
+    ensures { IfOk result (λ unread. unread
+        ≡ option_map (λ found. found.unread ++ bytes.now) (find (meaning.has_number link) links.now)) }
 {
     let Some(found) = find_open(links, link) else {
         return Ok(None);

@@ -7,8 +7,8 @@ ghost use Rattle.test_nameserver.specs.Seen.{seen, messages_seen};
 use item_list::NoMemory;
 use std::alloc::Global;
 
-/// The message that stands whole in front, and what stands behind it.
-fn first_message(bytes: &[u8]) -> Option<(&[u8], &[u8])>
+/// The message that stands whole in front of what a link carries, and what stands behind it.
+pub fn first_message(bytes: &[u8]) -> Option<(&[u8], &[u8])>
     ensures { meaning.first_message bytes.now ≡ option_map seen result }
 {
     let [high, low, rest @ ..] = bytes else {

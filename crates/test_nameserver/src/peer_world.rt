@@ -194,7 +194,8 @@ impl PeerWorld {
 
     /// Hears what an open link carries.
     fn carry(&mut self, link: u64, unread: &[u8], call: WorldCall) -> Result<(), NoMemory>
-        ensures ok { OnOk result (self.new ≡ logged call (meaning.carried link self.old (messages_in unread.now))) }
+        ensures ok { OnOk result (self.new
+            ≡ logged call (meaning.carried link self.old (messages_in unread.now))) }
         ensures err { OnErr result (self.new ≡ self.old) }
     {
         let (messages, rest) = messages_in(self.alloc, unread)?;

@@ -7,6 +7,7 @@ ghost use Rattle.test_nameserver.specs.Lines as meaning;
 
 use crate::words::number_up_to;
 use dns_message::Name;
+use dns_message::numbers::{KIND_A, KIND_AAAA, KIND_CNAME, KIND_MX, KIND_NS, KIND_PTR, KIND_TXT};
 use item_list::{Bytes, NoMemory};
 use net_addr::Addr;
 use std::alloc::Global;
@@ -17,21 +18,6 @@ const STRING_MOST: usize = 255;
 
 /// The greatest preference of an MX record: what its 16 bits hold (RFC 1035, section 3.3.9).
 const PREFERENCE_MOST: u32 = 65_535;
-
-/// The types that a zone has (RFC 1035, section 3.2.2; RFC 3596, section 2.1).
-const KIND_A: u16 = 1;
-
-const KIND_NS: u16 = 2;
-
-const KIND_CNAME: u16 = 5;
-
-const KIND_PTR: u16 = 12;
-
-const KIND_MX: u16 = 15;
-
-const KIND_TXT: u16 = 16;
-
-const KIND_AAAA: u16 = 28;
 
 /// The type that a word names.
 pub(crate) fn kind_in(word: &[u8]) -> Option<u16>

@@ -7,25 +7,20 @@ ghost use Rattle.test_nameserver.specs.Reply as meaning;
 use crate::answering::add_answers;
 use crate::query::{Query, query_in};
 use crate::zone::Zone;
+use dns_message::numbers::{
+    FLAG_AA, FLAG_QR, FLAG_RA, FLAG_RD, FLAG_TC, FLAGS_OPCODE, RCODE_NAME_ERROR, RCODE_NO_ERROR,
+    RCODE_NOT_IMPLEMENTED,
+};
 use dns_message::{EncodeFault, Message, Question, QuestionList, RecordList, encode};
 use edns_opt::{Opt, OptionList, with_opt};
 use item_list::{Bytes, NoMemory};
 use std::alloc::Global;
 
 /// The flags of every reply: QR, AA and RA (RFC 1035, section 4.1.1).
-const REPLY: u16 = 0x8480;
+const REPLY: u16 = FLAG_QR + FLAG_AA + FLAG_RA;
 
-/// The bits TC and RD (RFC 1035, section 4.1.1).
-const CUT: u16 = 0x0200;
-
-const DESIRED: u16 = 0x0100;
-
-/// Response codes (RFC 1035, section 4.1.1).
-const NO_ERROR: u16 = 0;
-
-const NAME_ERROR: u16 = 3;
-
-const NOT_IMPLEMENTED: u16 = 4;
+/// The lowest of the four bits that tell the kind of query, 0 for a standard one (RFC 1035, section 4.1.1).
+const OPCODE: u16 = FLAGS_OPCODE / 15;
 
 /// The most CNAME records that are followed (this project's profile).
 const ALIASES_MOST: u8 = 8;
@@ -43,7 +38,7 @@ const MESSAGE_MOST: u16 = 65_535;
 fn is_standard(query: &Query) -> bool
     ensures { result ≡ meaning.is_standard query.now }
 {
-    query.flags / 0x0800 % 16 == 0
+    query.flags / OPCODE % 16 == 0
 }
 
 /// The response code.
@@ -52,12 +47,12 @@ fn rcode_for(alloc: Global, zone: &Zone, query: &Query) -> Result<u16, NoMemory>
     ensures short { IfOk result (λ rcode. rcode < 16) }
 {
     if !is_standard(query) {
-        return Ok(NOT_IMPLEMENTED);
+        return Ok(RCODE_NOT_IMPLEMENTED);
     }
     if zone.records_of(alloc, &query.question.name)?.is_empty() {
-        return Ok(NAME_ERROR);
+        return Ok(RCODE_NAME_ERROR);
     }
-    Ok(NO_ERROR)
+    Ok(RCODE_NO_ERROR)
 }
 
 /// The answers.
@@ -83,8 +78,8 @@ fn reply_flags(asked: u16, cut: bool, rcode: u16) -> u16
     requires { rcode < 16 }
     ensures { result ≡ meaning.reply_flags asked cut rcode }
 {
-    let desired = asked / DESIRED % 2 * DESIRED;
-    REPLY + desired + if cut { CUT } else { 0 } + rcode
+    let desired = asked / FLAG_RD % 2 * FLAG_RD;
+    REPLY + desired + if cut { FLAG_TC } else { 0 } + rcode
 }
 
 /// The question of a query again.

@@ -1,3 +1,5 @@
+//! Outside examples: zones, queries and replies, byte by byte.
+
 use super::*;
 use std::alloc::Global;
 use std::test::Fail;
@@ -20,52 +22,74 @@ fn answered(alloc: Global, zone: &Zone, query: &[u8]) -> Result<Bytes, Fail> {
     })
 }
 
-// By hand after RFC 1035, section 4.1: QR, AA, RD and RA, and the response code; names without pointers.
+/// Whether a zone answers this to a query, over UDP.
+fn is_answered(alloc: Global, zone: &Zone, query: &[u8], reply: &[u8]) -> Result<bool, Fail> {
+    Ok(answered(alloc, zone, query)?.as_slice() == reply)
+}
+
+/// A query for the address of h3.load.test., and the reply of a zone without it.
+const QUERY_NONE: &[u8; 30] =
+    b"\x12\x34\x01\0\0\x01\0\0\0\0\0\0\x02h3\x04load\x04test\0\0\x01\0\x01";
+
+const REPLY_NONE: &[u8; 30] =
+    b"\x12\x34\x85\x83\0\x01\0\0\0\0\0\0\x02h3\x04load\x04test\0\0\x01\0\x01";
+
+/// A query for the address of h2.load.test., without RD and with a capital letter, and the reply.
+const QUERY_HOST: &[u8; 30] = b"\x12\x34\0\0\0\x01\0\0\0\0\0\0\x02H2\x04load\x04test\0\0\x01\0\x01";
+
+const REPLY_HOST: &[u8; 58] =
+    b"\x12\x34\x84\x80\0\x01\0\x01\0\0\0\0\x02H2\x04load\x04test\0\0\x01\0\x01\x02h2\x04load\x04test\0\0\x01\0\x01\0\0\0\x3c\0\x04\x0a\0\0\x02";
+
+// By hand after RFC 1035, section 4.1: QR, AA, RD and RA, and the response code; names without pointers. The fourth host
+// isn't there.
 #[test]
-fn queries_are_answered(rt: HostRuntime) -> Result<(), Fail> {
+fn hosts_are_answered(rt: HostRuntime) -> Result<(), Fail> {
     let alloc = rt.alloc();
-    let load = Zone::load(alloc, 4)?;
-    let alias = Zone::read(alloc, b"a.test. 60 CNAME b.test.\nb.test. 60 A 192.0.2.7")?;
-    for (zone, query, reply) in [
-        // The fourth host isn't there.
-        (
-            &load,
-            b"\x12\x34\x01\0\0\x01\0\0\0\0\0\0\x02h3\x04load\x04test\0\0\x01\0\x01".as_slice(),
-            b"\x12\x34\x85\x83\0\x01\0\0\0\0\0\0\x02h3\x04load\x04test\0\0\x01\0\x01".as_slice(),
-        ),
-        (
-            &load,
-            b"\x12\x34\0\0\0\x01\0\0\0\0\0\0\x02H2\x04load\x04test\0\0\x01\0\x01",
-            b"\x12\x34\x84\x80\0\x01\0\x01\0\0\0\0\x02H2\x04load\x04test\0\0\x01\0\x01\x02h2\x04load\x04test\0\0\x01\0\x01\0\0\0\x3c\0\x04\x0a\0\0\x02",
-        ),
-        (
-            &alias,
-            QUERY_A,
-            b"\x12\x34\x85\x80\0\x01\0\x02\0\0\0\0\x01a\x04test\0\0\x01\0\x01\x01a\x04test\0\0\x05\0\x01\0\0\0\x3c\0\x08\x01b\x04test\0\x01b\x04test\0\0\x01\0\x01\0\0\0\x3c\0\x04\xc0\0\x02\x07",
-        ),
-        // The name is there, and has no text; its alias leads to a name without one.
-        (
-            &alias,
-            QUERY_OPT,
-            b"\x12\x34\x85\x80\0\x01\0\x01\0\0\0\x01\x01a\x04test\0\0\x10\0\x01\x01a\x04test\0\0\x05\0\x01\0\0\0\x3c\0\x08\x01b\x04test\0\0\0\x29\x04\xd0\0\0\0\0\0\0",
-        ),
-        // OPCODE 2 isn't implemented.
-        (
-            &alias,
-            b"\x12\x34\x10\0\0\x01\0\0\0\0\0\0\x01a\x04test\0\0\x01\0\x01",
-            b"\x12\x34\x84\x84\0\x01\0\0\0\0\0\0\x01a\x04test\0\0\x01\0\x01",
-        ),
-        // A response, a message without a question, and bytes that are no message.
-        (
-            &alias,
-            b"\x12\x34\x81\0\0\x01\0\0\0\0\0\0\x01a\x04test\0\0\x01\0\x01",
-            b"-",
-        ),
-        (&alias, b"\x12\x34\x01\0\0\0\0\0\0\0\0\0", b"-"),
-        (&alias, b"\x12\x34", b"-"),
-    ] {
-        assert_eq!(rt; answered(alloc, zone, query)?.as_slice(), reply);
-    }
+    let zone = Zone::load(alloc, 4)?;
+    assert!(rt; is_answered(alloc, &zone, QUERY_NONE, REPLY_NONE)?);
+    assert!(rt; is_answered(alloc, &zone, QUERY_HOST, REPLY_HOST)?);
+    Ok(())
+}
+
+/// A zone in which a.test. is an alias of b.test.
+fn alias(alloc: Global) -> Result<Zone, Fail> {
+    Ok(Zone::read(alloc, b"a.test. 60 CNAME b.test.\nb.test. 60 A 192.0.2.7")?)
+}
+
+/// The reply with the alias and the address.
+const REPLY_A: &[u8; 72] =
+    b"\x12\x34\x85\x80\0\x01\0\x02\0\0\0\0\x01a\x04test\0\0\x01\0\x01\x01a\x04test\0\0\x05\0\x01\0\0\0\x3c\0\x08\x01b\x04test\0\x01b\x04test\0\0\x01\0\x01\0\0\0\x3c\0\x04\xc0\0\x02\x07";
+
+/// The reply with the alias alone: the name is there, and has no text; its alias leads to a name without one.
+const REPLY_OPT: &[u8; 61] =
+    b"\x12\x34\x85\x80\0\x01\0\x01\0\0\0\x01\x01a\x04test\0\0\x10\0\x01\x01a\x04test\0\0\x05\0\x01\0\0\0\x3c\0\x08\x01b\x04test\0\0\0\x29\x04\xd0\0\0\0\0\0\0";
+
+#[test]
+fn aliases_are_answered(rt: HostRuntime) -> Result<(), Fail> {
+    let alloc = rt.alloc();
+    let zone = alias(alloc)?;
+    assert!(rt; is_answered(alloc, &zone, QUERY_A, REPLY_A)?);
+    assert!(rt; is_answered(alloc, &zone, QUERY_OPT, REPLY_OPT)?);
+    Ok(())
+}
+
+/// A query with OPCODE 2, which isn't implemented, and the reply.
+const QUERY_STATUS: &[u8; 24] = b"\x12\x34\x10\0\0\x01\0\0\0\0\0\0\x01a\x04test\0\0\x01\0\x01";
+
+const REPLY_STATUS: &[u8; 24] = b"\x12\x34\x84\x84\0\x01\0\0\0\0\0\0\x01a\x04test\0\0\x01\0\x01";
+
+/// A response.
+const RESPONSE: &[u8; 24] = b"\x12\x34\x81\0\0\x01\0\0\0\0\0\0\x01a\x04test\0\0\x01\0\x01";
+
+// A response, a message without a question, and bytes that are no message, have no reply.
+#[test]
+fn other_messages_are_answered(rt: HostRuntime) -> Result<(), Fail> {
+    let alloc = rt.alloc();
+    let zone = alias(alloc)?;
+    assert!(rt; is_answered(alloc, &zone, QUERY_STATUS, REPLY_STATUS)?);
+    assert!(rt; is_answered(alloc, &zone, RESPONSE, b"-")?);
+    assert!(rt; is_answered(alloc, &zone, b"\x12\x34\x01\0\0\0\0\0\0\0\0\0", b"-")?);
+    assert!(rt; is_answered(alloc, &zone, b"\x12\x34", b"-")?);
     Ok(())
 }
 
@@ -81,6 +105,17 @@ fn texts(alloc: Global, len: usize) -> Result<Zone, Fail> {
     Ok(Zone::read(alloc, lines.as_slice())?)
 }
 
+/// How many bytes the reply to a query for the texts has over TCP.
+fn length_over_tcp(alloc: Global, zone: &Zone) -> Result<Option<usize>, Fail> {
+    Ok(match answer(alloc, zone, QUERY_TXT, true)? {
+        Some(reply) => Some(reply.len()),
+        None => None,
+    })
+}
+
+/// The reply to a query for the texts that is cut.
+const REPLY_CUT: &[u8; 24] = b"\x12\x34\x87\x80\0\x01\0\0\0\0\0\0\x01a\x04test\0\0\x10\0\x01";
+
 // The question takes 24 bytes with the header, the first text 274, and the second 19 and its own bytes.
 #[test]
 fn long_replies_are_cut(rt: HostRuntime) -> Result<(), Fail> {
@@ -88,35 +123,51 @@ fn long_replies_are_cut(rt: HostRuntime) -> Result<(), Fail> {
     let fits = texts(alloc, 195)?;
     let long = texts(alloc, 196)?;
     assert_eq!(rt; answered(alloc, &fits, QUERY_TXT)?.len(), 512);
-    assert_eq!(rt;
-        answered(alloc, &long, QUERY_TXT)?.as_slice(),
-        b"\x12\x34\x87\x80\0\x01\0\0\0\0\0\0\x01a\x04test\0\0\x10\0\x01".as_slice()
-    );
+    assert!(rt; is_answered(alloc, &long, QUERY_TXT, REPLY_CUT)?);
     assert_eq!(rt; answered(alloc, &long, QUERY_OPT)?.len(), 524);
-    let over_tcp = answer(alloc, &long, QUERY_TXT, true)?;
-    assert!(rt; matches!(&over_tcp, Some(reply) if reply.len() == 513));
+    assert!(rt; length_over_tcp(alloc, &long)? == Some(513));
     Ok(())
 }
 
-/// How many answers a reply counts, in two bytes (RFC 1035, section 4.1.1); none without one.
-fn answers_counted(reply: &[u8]) -> Option<&[u8]> {
-    reply.get(6..8)
+/// Whether the reply to a query counts so many answers, in two bytes (RFC 1035, section 4.1.1).
+fn has_answers(alloc: Global, zone: &Zone, query: &[u8], count: &[u8]) -> Result<bool, Fail> {
+    Ok(answered(alloc, zone, query)?.as_slice().get(6..8) == Some(count))
 }
 
-// Nine aliases, one behind the other: the eighth leads to a name whose records still count, but its alias doesn't.
+/// Nine aliases, one behind the other, and a text of the ninth name.
+const ALIASES: &str = "a.test. 1 CNAME b
+b 1 CNAME c
+c 1 CNAME d
+d 1 CNAME e
+e 1 CNAME f
+f 1 CNAME g
+g 1 CNAME h
+h 1 CNAME i
+i 1 TXT t
+i 1 CNAME j
+j 1 A 192.0.2.1";
+
+// The eighth alias leads to a name whose records still count, but its alias doesn't.
 #[test]
 fn eight_aliases_are_followed(rt: HostRuntime) -> Result<(), Fail> {
     let alloc = rt.alloc();
-    let lines =
-        b"a.test. 1 CNAME b\nb 1 CNAME c\nc 1 CNAME d\nd 1 CNAME e\ne 1 CNAME f\nf 1 CNAME g\ng 1 CNAME h\nh 1 CNAME i\n";
-    let mut text = Vec::from_slice(alloc, lines)?;
-    text.extend_from_slice(b"i 1 TXT t\ni 1 CNAME j\nj 1 A 192.0.2.1")?;
-    let zone = Zone::read(alloc, text.as_slice())?;
-    for (query, count) in [(QUERY_A, b"\0\x08".as_slice()), (QUERY_TXT, b"\0\x09")] {
-        let reply = answered(alloc, &zone, query)?;
-        assert!(rt; answers_counted(reply.as_slice()) == Some(count));
-    }
+    let zone = Zone::read(alloc, ALIASES.as_bytes())?;
+    assert!(rt; has_answers(alloc, &zone, QUERY_A, b"\0\x08")?);
+    assert!(rt; has_answers(alloc, &zone, QUERY_TXT, b"\0\x09")?);
     Ok(())
+}
+
+/// How many records a zone's text has.
+fn records_in(alloc: Global, text: &str) -> Result<usize, Fail> {
+    Ok(Zone::read(alloc, text.as_bytes())?.records().len())
+}
+
+/// The first bad line of a zone's text, and 0 where that isn't the fault.
+fn bad_line(alloc: Global, text: &str) -> u64 {
+    match Zone::read(alloc, text.as_bytes()) {
+        Err(ZoneFault::BadLine(line)) => line,
+        _ => 0,
+    }
 }
 
 #[test]
@@ -132,7 +183,7 @@ fn lines_are_records(rt: HostRuntime) -> Result<(), Fail> {
         ("a 1 TXT \"a\nb 1 PTR c\nb 1 NS d", 3),
         ("a.test. 0 A 192.0.2.1\na 1 MX 0 b\na 1 MX 65535 b", 3),
     ] {
-        assert_eq!(rt; Zone::read(alloc, text.as_bytes())?.records().len(), count);
+        assert_eq!(rt; records_in(alloc, text)?, count);
     }
     for (text, line) in [
         ("a.test. 60 A", 1),
@@ -148,9 +199,7 @@ fn lines_are_records(rt: HostRuntime) -> Result<(), Fail> {
         ("a 1 SRV 1 1 1 b", 1),
         ("a 1 A 192.0.2.1\r", 1),
     ] {
-        assert!(rt;
-            matches!(Zone::read(alloc, text.as_bytes()), Err(ZoneFault::BadLine(found)) if found == line)
-        );
+        assert_eq!(rt; bad_line(alloc, text), line);
     }
     Ok(())
 }

@@ -74,7 +74,8 @@ fn records_at<'a>(
     indexes: &[usize],
 ) -> Result<Vec<&'a Record>, NoMemory>
     requires { indexes.now ≡ places_from 0 (has_key key.now) records.now }
-    ensures { IfOk result (λ found. map (λ item. item.now) found.items ≡ filter (has_key key.now) records.now) }
+    ensures { IfOk result (λ found. map (λ item. item.now) found.items
+        ≡ filter (has_key key.now) records.now) }
 {
     let _ = key;
     let mut found = Vec::with_capacity(alloc, indexes.len())?;

@@ -5,6 +5,7 @@ ghost use Rattle.dns_message.specs.Name.{IsName};
 ghost use Rattle.test_nameserver.specs.Load as meaning;
 
 use crate::zone::Zone;
+use dns_message::numbers::{CLASS_IN, KIND_A};
 use dns_message::{Name, NameFault, Record};
 use item_list::{Bytes, NoMemory};
 use std::alloc::Global;
@@ -14,11 +15,6 @@ const FIRST_ADDRESS: u32 = 0x0a00_0000;
 
 /// How long a host's address may be kept, in seconds (this project's profile).
 const TTL: u32 = 60;
-
-/// The type of an address and the class of the Internet (RFC 1035, sections 3.2.2 and 3.2.4).
-const KIND_A: u16 = 1;
-
-const CLASS_IN: u16 = 1;
 
 /// The name of labels that make one.
 fn name_of(alloc: Global, labels: &[&[u8]]) -> Result<Name, NoMemory>

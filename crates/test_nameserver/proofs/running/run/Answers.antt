@@ -1,0 +1,31 @@
+use Rattle.std.proofs.Common.{rules}
+use Rattle.test_nameserver.specs.Order.{order_seen}
+use Rattle.test_nameserver.specs.Service.{GoesOnWith, IsServiceOf}
+use Rattle.test_nameserver.proofs.EndLemmas.{exit_cause, exit_refused, for_none, only_order, none_ordered, service_said}
+use Rattle.test_nameserver.proofs.running.run.Goals as goal
+
+pub returns-in-Some-clause-status : goal.returns-in-Some-clause-status
+returns-in-Some-clause-status g c =
+    exit_cause _ c.carry_out.result c.tell.result (g.F.Files.files c.args.files.now) _ _ _ _ _ _ c.tell.ensures.known c.tell.ensures.sink_fault
+    (order_seen c.in-Some.order) (only_order _ c.in-Some.order c.in-Some.ensures.only) c.carry_out.ensures.cause
+
+pub returns-in-Some-clause-service : goal.returns-in-Some-clause-service
+returns-in-Some-clause-service g c =
+    service_said _ (order_seen c.in-Some.order) (g.F.Files.files c.args.files.now) c.carry_out.result c.tell.result _ _
+    (only_order _ c.in-Some.order c.in-Some.ensures.only) c.tell.ensures.known c.carry_out.ensures.service
+
+pub returns-in-None-clause-status : goal.returns-in-None-clause-status
+returns-in-None-clause-status g c =
+    exit_refused _ c.tell-in-None.result (g.F.Files.files c.args.files.now) _ _ _ _ _ _
+    (none_ordered _ c.in-None.ensures.only) c.tell-in-None.ensures.known c.tell-in-None.ensures.sink_fault
+
+pub returns-in-None-clause-output : goal.returns-in-None-clause-output
+returns-in-None-clause-output g c = record {
+  whole = λ sink memory. search rules;
+  part = (2, c.tell-in-None.ensures.part);
+}
+
+pub returns-in-None-clause-service : goal.returns-in-None-clause-service
+returns-in-None-clause-service g c =
+    for_none _ (λ order. GoesOnWith (IsServiceOf (g.F.Files.files c.args.files.now) order c.tell-in-None.result) (g.L.Listener.log c.args.listener.now) (g.L.Listener.log c.args.listener.now))
+    (none_ordered _ c.in-None.ensures.only)

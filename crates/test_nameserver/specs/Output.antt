@@ -1,0 +1,30 @@
+-- What a run of the server's program puts.
+use Rattle.std.specs.Prelude.{◌≡◌, ◌≢◌, ℕ, ◌==◌, if◌then◌else◌, List, [], ◌∷◌, ◌++◌, codes, Option, option_map}
+use mathlib.Core.List.{IsPrefix}
+use Rattle.test_nameserver.specs.Statuses.{status_usage, status_file_fault, status_sink_fault, status_out_of_memory, status_socket_fault, status_bad_zone}
+
+-- a line of the program's own
+abbrev pub line : List ℕ → List ℕ
+line text = codes "tns: " ++ text ++ 10 ∷ []
+
+-- the text of an exit status, or none
+abbrev pub text_for : ℕ → List ℕ
+text_for status =
+    if status == status_usage then line (codes "usage")
+    else (if status == status_file_fault then line (codes "file fault")
+    else (if status == status_socket_fault then line (codes "socket fault")
+    else (if status == status_bad_zone then line (codes "bad zone")
+    else [])))
+
+-- bytes that are told go on with this text
+abbrev pub GrowsBy : Option (List ℕ) → Option (List ℕ) → List ℕ → Type 0
+GrowsBy old new text = new ≡ option_map (λ bytes. bytes ++ text) old
+
+-- bytes that are told go on with a part of this text from its beginning, or with nothing
+abbrev pub GrowsByPart : Option (List ℕ) → Option (List ℕ) → List ℕ → Type 0
+GrowsByPart old new text = (part : List ℕ) × IsPrefix part text × GrowsBy old new part
+
+-- what a run put: the text of its exit status, and where the output failed or memory was wanting, a part of one such text
+pub record IsOutputOf (status : ℕ) (old new : Option (List ℕ)) : Type 0 where
+  pub whole : status ≢ status_sink_fault → status ≢ status_out_of_memory → GrowsBy old new (text_for status)
+  pub part : (told : ℕ) × GrowsByPart old new (text_for told)
