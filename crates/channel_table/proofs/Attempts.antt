@@ -1,0 +1,56 @@
+-- How many servers a list has, and how many attempts a leg may spend.
+use Rattle.std.proofs.Common.{◌≡◌, ℕ, suc, ◌+◌, ◌*◌, ◌≤◌, Bool, true, false, List, [], ◌∷◌, Option, Some, None, refl, ap, subst, take, length, cond, arith}
+use Rattle.std.proofs.lemmas.Nat.{mul-le}
+use Rattle.std.specs.Prelude.{IfSome, if◌then◌else◌, unwrap_or}
+use Rattle.chan_types.specs.declared.server_key.ServerKey.{ServerKey}
+use Rattle.net_addr.specs.declared.addr.ServerAddr.{ServerAddr}
+use Rattle.resolv_options.specs.Values.{AreWithinLimits}
+use Rattle.channel_model.proofs.Theorems.{servers_some, set_allowed}
+use Rattle.channel_model.specs.Choice.{Failing}
+use Rattle.channel_model.specs.Journal.{Past}
+use Rattle.channel_model.specs.Lawful.{IsLawfulPast, MaySet}
+use Rattle.channel_model.specs.Servers.{attempts, keyed_from, servers_at, servers_set_by}
+use Rattle.channel_model.specs.Setting.{Setting}
+use Rattle.channel_table.specs.Counted.{AreCounted}
+use Rattle.channel_table.specs.Ends.{attempts_with}
+
+keyed-length : (key : ℕ) (servers : List ServerAddr) → length (keyed_from key servers) ≡ length servers
+keyed-length key [] = refl
+keyed-length key (server ∷ servers) = ap suc (keyed-length (key + 1) servers)
+
+-- a channel has 8 servers at most
+few_listed : (setting : Setting) (past : Past) → length setting.options.servers ≤ 8 → IsLawfulPast setting past → length (servers_at setting past) ≤ 8
+few_listed setting [] few lawful = omega (arith, few, keyed-length 0 setting.options.servers)
+few_listed setting (what ∷ past) few lawful = by_set (servers_set_by what) (set_allowed setting past what lawful.0) (few_listed setting past few lawful.1)
+  where
+    by_set : (o : Option (List ServerKey)) → IfSome o (MaySet setting past) → length (servers_at setting past) ≤ 8 → length (unwrap_or o (servers_at setting past)) ≤ 8
+    by_set None may rest = rest
+    by_set (Some list) may rest = may.few
+
+module _ (setting : Setting) (past : Past) (list : List ServerKey) (counts : List Failing) (key link starts : ℕ) (counted : AreCounted setting past list counts key link starts) (limits : AreWithinLimits setting.options) (lawful : IsLawfulPast setting past) where
+  -- a table has one to eight servers
+  pub list_some : 1 ≤ length list
+  list_some = subst (λ (l : List ServerKey). 1 ≤ length l) counted.listed (servers_some setting past lawful limits.some_server)
+
+  pub list_few : length list ≤ 8
+  list_few = subst (λ (l : List ServerKey). length l ≤ 8) counted.listed (few_listed setting past limits.few_servers lawful)
+
+  -- a leg may spend so many attempts
+  pub attempts_are : attempts setting past ≡ attempts_with setting.options list
+  attempts_are = ap (λ (l : List ServerKey). length (if setting.options.flags.primary then take 1 l else l) * setting.options.tries) counted.listed
+
+-- the servers in use are 8 at most
+pub used_few : (primary : Bool) (list : List ServerKey) → length list ≤ 8 → length (cond primary (take 1 list) list) ≤ 8
+used_few true [] few = omega arith
+used_few true (server ∷ list) few = omega arith
+used_few false list few = few
+
+-- they are the first one, or all
+pub used_count : (primary : Bool) (list : List ServerKey) → 1 ≤ length list → cond primary 1 (length list) ≡ length (cond primary (take 1 list) list)
+used_count true [] some = absurd (omega (arith, some))
+used_count true (server ∷ list) some = refl
+used_count false list some = refl
+
+-- 10 tries of 8 servers are 80
+pub few_attempts : (used tries : ℕ) → used ≤ 8 → tries ≤ 10 → used * tries ≤ 80
+few_attempts used tries few fewer = mul-le used tries 8 10 few fewer

@@ -1,0 +1,79 @@
+-- What a table has of a past beside its requests, behind one entry more.
+use Rattle.std.proofs.Common.{◌≡◌, ◌∙◌, ℕ, suc, ◌+◌, false, List, [], ◌∷◌, Some, None, refl, ap, sym, map, length, arith}
+use Rattle.std.specs.List.{range_with_len}
+use Rattle.std.specs.Option.{option_map_or}
+use Rattle.std.specs.Prelude.{max, ◌++◌, ◌≤◌}
+use Rattle.chan_types.specs.declared.journal.What.{What}
+use Rattle.chan_types.specs.declared.server_key.ServerKey.{ServerKey}
+use Rattle.net_addr.specs.declared.addr.ServerAddr.{ServerAddr}
+use Rattle.channel_model.proofs.Theorems.{counts-kept, counts-unjudged, no_set-servers, started-kept}
+use Rattle.channel_model.specs.Choice.{Failing, failures_of_list, greatest_link, link_of}
+use Rattle.channel_model.specs.Flight.{Attempt, begun_by, closes, flight}
+use Rattle.channel_model.specs.Journal.{Past}
+use Rattle.channel_model.specs.Past.{Closing, outcome_of}
+use Rattle.channel_model.specs.Servers.{greatest_key, greatest_of, keyed_from, servers_set_by}
+use Rattle.channel_model.specs.Setting.{Setting}
+use Rattle.query_machine.specs.Servers.{fresh_server, fresh_servers}
+use Rattle.resolv_options.specs.Values.{AreWithinLimits}
+use Rattle.channel_table.specs.Counted.{AreCounted}
+
+max_none : (n : ℕ) → max 0 n ≡ n
+max_none n = omega arith
+
+module _ (setting : Setting) (what : What) (past : Past) (list : List ServerKey) (counts : List Failing) (key link starts : ℕ)
+    (counted : AreCounted setting past list counts key link starts) (sets : servers_set_by what ≡ None) (begins : begun_by what ≡ None) where
+  -- an entry that sets no servers and begins nothing changes the counts of failures alone
+  pub counted_anew : (more : List Failing) → failures_of_list setting (what ∷ past) ≡ more → AreCounted setting (what ∷ past) list more key link starts
+  counted_anew more failed = record {
+    listed = no_set-servers setting what past sets ∙ counted.listed;
+    failed = failed;
+    keyed = ap (λ o. option_map_or (greatest_of (greatest_key setting past)) o (greatest_key setting past)) sets ∙ counted.keyed;
+    linked = ap (λ o. max (link_of o) (greatest_link past)) begins ∙ max_none (greatest_link past) ∙ counted.linked;
+    begun = ap length (started-kept what past begins) ∙ counted.begun;
+  }
+
+  -- one that closes no attempt changes nothing
+  pub counted_kept : ((a : Attempt) → flight setting a.leg past ≡ Some a → closes setting a what past ≡ false) → AreCounted setting (what ∷ past) list counts key link starts
+  counted_kept closes_none = counted_anew counts (counts-kept setting what past sets closes_none ∙ counted.failed)
+
+  -- nor one whose closings mean nothing
+  pub counted_unjudged : ((a : Attempt) (earlier : List Closing) → outcome_of setting a what past earlier ≡ None) → AreCounted setting (what ∷ past) list counts key link starts
+  counted_unjudged unjudged = counted_anew counts (counts-unjudged setting what past sets unjudged ∙ counted.failed)
+
+greatest_keyed : (key : ℕ) (servers : List ServerAddr) → greatest_of key (keyed_from (key + 1) servers) ≡ key + length servers
+greatest_keyed key [] = omega arith
+greatest_keyed key (server ∷ servers) = ap (λ k. greatest_of k (keyed_from (key + 1 + 1) servers)) (later key) ∙ greatest_keyed (key + 1) servers ∙ omega arith
+  where
+    later : (k : ℕ) → max k (k + 1) ≡ k + 1
+    later k = omega arith
+
+-- the greatest of the keys with which a channel is made
+greatest_opening : (servers : List ServerAddr) → 1 ≤ length servers → greatest_of 0 (keyed_from 0 servers) + 1 ≡ length servers
+greatest_opening [] some = absurd (omega (arith, some))
+greatest_opening (server ∷ servers) some = ap (λ k. k + 1) (greatest_keyed 0 servers) ∙ omega arith
+
+fresh_opening : (key : ℕ) (servers : List ServerAddr) → ◌≡◌ {A = List Failing} (map (λ (s : ServerKey). record { server = s.key; count = 0 }) (keyed_from key servers)) (map fresh_server (range_with_len key (length servers)))
+fresh_opening key [] = refl
+fresh_opening key (server ∷ servers) = ap (λ rest. fresh_server key ∷ rest) (fresh_opening (key + 1) servers)
+
+-- one server more behind those with keys
+pub keyed-more : (key : ℕ) (servers : List ServerAddr) (server : ServerAddr) → keyed_from key (servers ++ server ∷ []) ≡ keyed_from key servers ++ record { key = key + length servers; address = server } ∷ []
+keyed-more key [] server = ap (λ k. record { key = k; address = server } ∷ []) (no_more key)
+  where
+    no_more : (k : ℕ) → k ≡ k + 0
+    no_more k = omega arith
+keyed-more key (first ∷ servers) server = ap (λ rest. record { key = key; address = first } ∷ rest) (keyed-more (key + 1) servers server ∙ ap (λ k. keyed_from (key + 1) servers ++ record { key = k; address = server } ∷ []) (onwards key (length servers)))
+  where
+    onwards : (k n : ℕ) → k + 1 + n ≡ k + suc n
+    onwards k n = omega arith
+
+-- a channel begins with the servers of its options, none of which has failed
+pub counted_first : (setting : Setting) (list : List ServerKey) (counts : List Failing) (key count : ℕ) → AreWithinLimits setting.options → list ≡ keyed_from 0 setting.options.servers → counts ≡ fresh_servers count
+    → count ≡ length setting.options.servers → key + 1 ≡ count → AreCounted setting [] list counts key 0 0
+counted_first setting list counts key count limits listed fresh all last = record {
+  listed = sym listed;
+  failed = fresh_opening 0 setting.options.servers ∙ ap fresh_servers (sym all) ∙ sym fresh;
+  keyed = omega (arith, greatest_opening setting.options.servers limits.some_server, last, all);
+  linked = refl;
+  begun = refl;
+}

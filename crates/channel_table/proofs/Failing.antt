@@ -1,0 +1,183 @@
+-- How a table follows a Fault.
+use Rattle.std.proofs.Common.{◌≡◌, ◌∙◌, ℕ, ◌+◌, ◌<◌, ◌≤◌, ◌^◌, Bool, true, false, List, [], ◌∷◌, ◌++◌, Option, Some, None, Result, Ok, Err, refl, ap, sym, subst, map, length, cond, arith, eq-eqb, eqb-true, true≢false}
+use Rattle.std.proofs.lemmas.Bool.{and_parts}
+use Rattle.std.proofs.lemmas.List.{append-nil, map-append}
+use Rattle.std.proofs.lemmas.List.Elements.{filter_map-append}
+use Rattle.std.proofs.lemmas.List.Sums.{sum_by-cons}
+use Rattle.std.specs.List.{AllByRecursion, cons_option, list_any}
+use Rattle.std.specs.Result.{IsErr}
+use Rattle.std.specs.Prelude.{IfSome, IsFalse, count_by, filter, filter_map, flat_map, if◌then◌else◌, option_map, option_to_list, ◌==◌, ◌||◌, ◌≢◌}
+use Rattle.chan_types.specs.declared.journal.What.TheVariants.{Fault}
+use Rattle.chan_types.specs.declared.script.Script.{Script}
+use Rattle.chan_types.specs.declared.server_key.ServerKey.{ServerKey}
+use Rattle.chan_types.specs.declared.status.Status.TheVariants.{ConnRefused}
+use Rattle.chan_types.specs.declared.ticket.Ticket.{Ticket}
+use Rattle.channel_model.proofs.Theorems.{as_many-filter, as_many-length, fault_spares, in_flight-none, listed}
+use Rattle.channel_model.specs.Choice.{Failing}
+use Rattle.channel_model.specs.Flight.{Attempt, closes, flight, in_flight, went_over}
+use Rattle.channel_model.specs.Journal.{Past}
+use Rattle.channel_model.specs.Lawful.{IsLawfulPast}
+use Rattle.channel_model.specs.LegFacts.{LegFacts}
+use Rattle.channel_model.specs.Legs.{Leg}
+use Rattle.channel_model.specs.Meanings.{Fails}
+use Rattle.channel_model.specs.Servers.{attempts, has_key, servers_at}
+use Rattle.channel_model.specs.Setting.{Setting}
+use Rattle.channel_model.specs.declared.judged.Judged.TheVariants.{Failed}
+use Rattle.item_list.specs.declared.no_memory.NoMemory.{NoMemory}
+use Rattle.query_machine.specs.Servers.{one_more, recounted}
+use Rattle.query_machine.specs.declared.leg.Flying.{Flying}
+use Rattle.resolv_options.specs.Values.{AreWithinLimits}
+use Rattle.resolv_options.specs.declared.flags.Flags.{Flags}
+use Rattle.channel_table.proofs.Counting.{counted_kept}
+use Rattle.channel_table.proofs.FailureSteps.{counted_changed, counted_there, one_more-is}
+use Rattle.channel_table.proofs.Outcomes.{Becomes, Follows, Outcome}
+use Rattle.channel_table.proofs.RowEnds.{outcome_after, row_after}
+use Rattle.channel_table.proofs.RowFrames.{row_spared, spared_follows, spared_uncompleted}
+use Rattle.channel_table.proofs.TableSteps.{Stands, table_behind}
+use Rattle.channel_table.proofs.Telling.{busy_rows}
+use Rattle.channel_table.specs.After.{after}
+use Rattle.channel_table.specs.Counted.{AreCounted}
+use Rattle.channel_table.specs.Failing.{fails_at, kept_of, ticket_made}
+use Rattle.channel_table.specs.Legs.{attempt_of, flown_by}
+use Rattle.channel_table.specs.Rows.{RowStands, TableStands, flew_over, flown, flying_of, flying_over, leg_of_row, number_of, ticket_number}
+use Rattle.channel_table.specs.declared.row.After.{After}
+use Rattle.channel_table.specs.declared.row.After.TheVariants.{Ends, Stays}
+use Rattle.channel_table.specs.declared.row.Row.{Row}
+
+module _ {T : Type 0} (flags : Flags) (server link most : ℕ) where
+  outcomes : List (Row T) → List (Outcome (Row T) (Ticket T))
+  outcomes [] = []
+  outcomes (row ∷ rows) = outcome_after row (fails_at flags server link most row) ∷ outcomes rows
+
+  becomes : (rows : List (Row T)) → Becomes (outcomes rows) rows (filter_map kept_of (map (fails_at flags server link most) rows)) (filter_map ticket_made (map (fails_at flags server link most) rows))
+  unfolding outcomes
+  becomes [] = record { rows_before = refl; rows_behind = refl; tickets_behind = refl }
+  becomes (row ∷ rows) = by_after (fails_at flags server link most row) (becomes rows)
+    where
+      by_after : (o : After T) → Becomes (outcomes rows) rows (filter_map kept_of (map (fails_at flags server link most) rows)) (filter_map ticket_made (map (fails_at flags server link most) rows))
+          → Becomes (outcome_after row o ∷ outcomes rows) (row ∷ rows) (cons_option (kept_of o) (filter_map kept_of (map (fails_at flags server link most) rows))) (cons_option (ticket_made o) (filter_map ticket_made (map (fails_at flags server link most) rows)))
+      by_after (Stays new) rest = record { rows_before = ap (λ rs. row ∷ rs) rest.rows_before; rows_behind = ap (λ rs. new ∷ rs) rest.rows_behind; tickets_behind = rest.tickets_behind }
+      by_after (Ends ticket) rest = record { rows_before = ap (λ rs. row ∷ rs) rest.rows_before; rows_behind = rest.rows_behind; tickets_behind = ap (λ ts. ticket ∷ ts) rest.tickets_behind }
+
+module _ {T : Type 0} (plan : T → Script) (setting : Setting) (past : Past) (server link moment most : ℕ) (may : attempts setting past ≡ most) (few : most ≤ 80) where
+  follow : (row : Row T) (o : Option Flying) → flying_of row ≡ o → (b : Bool) → flying_over server link o ≡ b → RowStands plan setting past row
+      → Follows number_of ticket_number flown setting (Fault server link moment) past (outcome_after row (if b then after setting.options.flags (Failed ConnRefused) [] most row else Stays row))
+      × Stands plan setting (Fault server link moment) past (outcome_after row (if b then after setting.options.flags (Failed ConnRefused) [] most row else Stays row))
+  follow row None is true over stands = absurd (true≢false (sym over))
+  follow row (Some flying) is true over stands = row_after plan setting (Fault server link moment) past row flying (Failed ConnRefused) [] most stands is over refl refl refl refl may few
+  follow row o is false over stands =
+      let spared = fault_spares setting past (leg_of_row row) server link moment (subst (λ f. IfSome f (λ a. IsFalse (closes setting a (Fault server link moment) past))) (sym (ap (λ (f : LegFacts). f.flies) stands.leg.facts ∙ ap (flown_by (leg_of_row row)) is)) (not_over o over)) in
+      let none = spared_uncompleted plan setting (Fault server link moment) past row refl spared stands in
+      (spared_follows plan setting (Fault server link moment) past row (record { spared = spared; others = λ k. tt; uncompleted = none }) stands, row_spared plan setting (Fault server link moment) past row spared (λ k. tt) none stands)
+    where
+      not_over : (f : Option Flying) → flying_over server link f ≡ false → IfSome (option_map (attempt_of (leg_of_row row)) f) (λ a. IsFalse (closes setting a (Fault server link moment) past))
+      not_over None e = tt
+      not_over (Some flying) e = e
+
+  each_follows : (rows : List (Row T)) → AllByRecursion (RowStands plan setting past) rows → AllByRecursion (Follows number_of ticket_number flown setting (Fault server link moment) past) (outcomes setting.options.flags server link most rows) × AllByRecursion (Stands plan setting (Fault server link moment) past) (outcomes setting.options.flags server link most rows)
+  unfolding outcomes
+  each_follows [] each = (tt, tt)
+  each_follows (row ∷ rows) each =
+      let one = follow row (flying_of row) refl (flew_over server link row) refl each.0 in
+      let rest = each_follows rows each.1 in
+      ((one.0, rest.0), (one.1, rest.1))
+
+  -- the attempts over the link fail
+  pub table_failed : (rows : List (Row T)) (tickets : List (Ticket T)) → TableStands plan setting past rows tickets
+      → TableStands plan setting (Fault server link moment ∷ past) (filter_map kept_of (map (fails_at setting.options.flags server link most) rows)) (tickets ++ filter_map ticket_made (map (fails_at setting.options.flags server link most) rows))
+  table_failed rows tickets table =
+      let each = each_follows rows table.each_row in
+      table_behind plan setting (Fault server link moment) past (outcomes setting.options.flags server link most rows) rows (filter_map kept_of (map (fails_at setting.options.flags server link most) rows)) tickets (filter_map ticket_made (map (fails_at setting.options.flags server link most) rows))
+      refl refl refl (becomes setting.options.flags server link most rows) each.0 each.1 table
+
+  over_count : (rows : List (Row T)) → length (filter (λ a. went_over a server link) (flat_map flown rows)) ≡ count_by (flew_over server link) rows
+  over_count [] = refl
+  over_count (row ∷ rows) = by_attempt (leg_of_row row) (flying_of row) (over_count rows) ∙ sym (sum_by-cons (λ (r : Row T). cond (flew_over server link r) 1 0) row rows)
+    where
+      by_test : (a : Attempt) (b : Bool) → length (filter (λ a. went_over a server link) (flat_map flown rows)) ≡ count_by (flew_over server link) rows
+          → length (cond b (a ∷ filter (λ a. went_over a server link) (flat_map flown rows)) (filter (λ a. went_over a server link) (flat_map flown rows))) ≡ cond b 1 0 + count_by (flew_over server link) rows
+      by_test a true rest = omega (arith, rest)
+      by_test a false rest = omega (arith, rest)
+
+      by_attempt : (leg : Leg) (o : Option Flying) → length (filter (λ a. went_over a server link) (flat_map flown rows)) ≡ count_by (flew_over server link) rows
+          → length (filter (λ a. went_over a server link) (option_to_list (flown_by leg o) ++ flat_map flown rows)) ≡ cond (flying_over server link o) 1 0 + count_by (flew_over server link) rows
+      by_attempt leg None rest = omega (arith, rest)
+      by_attempt leg (Some flying) rest = by_test (attempt_of leg flying) (flying_over server link (Some flying)) rest
+
+  -- and so many there were
+  pub failed_count : (rows : List (Row T)) (tickets : List (Ticket T)) → TableStands plan setting past rows tickets → length (filter (λ a. went_over a server link) (in_flight setting past)) ≡ count_by (flew_over server link) rows
+  failed_count rows tickets table =
+      as_many-length _ _ (as_many-filter (λ a. went_over a server link) (in_flight setting past) (flat_map flown rows) table.stand.flying_are) ∙ over_count rows
+
+  none_over : (rows : List (Row T)) → count_by (flew_over server link) rows ≡ 0 → list_any (flew_over server link) rows ≡ false
+  none_over [] none = refl
+  none_over (row ∷ rows) none = by_test (flew_over server link row) (sym (sum_by-cons (λ (r : Row T). cond (flew_over server link r) 1 0) row rows) ∙ none) (none_over rows)
+    where
+      by_test : (b : Bool) → cond b 1 0 + count_by (flew_over server link) rows ≡ 0 → (count_by (flew_over server link) rows ≡ 0 → list_any (flew_over server link) rows ≡ false) → (b || list_any (flew_over server link) rows) ≡ false
+      by_test true none rest = absurd (omega (arith, none))
+      by_test false none rest = rest (omega (arith, none))
+
+  -- an attempt in flight that went over the link
+  record IsOver : Type 0 where
+    attempt : Attempt
+    flies : flight setting attempt.leg past ≡ Some attempt
+    over : went_over attempt server link ≡ true
+
+  some_over : (rows : List (Row T)) → AllByRecursion (RowStands plan setting past) rows → count_by (flew_over server link) rows ≢ 0 → IsOver
+  some_over [] each some = absurd (some refl)
+  some_over (row ∷ rows) each some = by_test (flew_over server link row) refl (λ none. some (sum_by-cons (λ (r : Row T). cond (flew_over server link r) 1 0) row rows ∙ none)) (some_over rows each.1)
+    where
+      by_flying : (o : Option Flying) → flying_of row ≡ o → flying_over server link o ≡ true → IsOver
+      by_flying None is e = absurd cc
+      by_flying (Some flying) is e = record { attempt = attempt_of (leg_of_row row) flying; flies = ap (λ (f : LegFacts). f.flies) each.0.leg.facts ∙ ap (flown_by (leg_of_row row)) is; over = e }
+
+      by_test : (b : Bool) → flew_over server link row ≡ b → cond b 1 0 + count_by (flew_over server link) rows ≢ 0 → (count_by (flew_over server link) rows ≢ 0 → IsOver) → IsOver
+      by_test true e some rest = by_flying (flying_of row) refl e
+      by_test false e some rest = rest (λ none. some (omega (arith, none)))
+
+  -- where there are such attempts, their server has a count
+  pub counted_over : (rows : List (Row T)) (tickets : List (Ticket T)) (list : List ServerKey) (counts : List Failing) (key greatest starts : ℕ) → TableStands plan setting past rows tickets → AreCounted setting past list counts key greatest starts → AreWithinLimits setting.options → IsLawfulPast setting past
+      → count_by (flew_over server link) rows ≢ 0 → list_any (λ (item : Failing). item.server == server) counts ≡ true
+  counted_over rows tickets list counts key greatest starts table counted limits lawful some =
+      let one = some_over rows table.each_row some in
+      let at : one.attempt.server ≡ server = eqb-true one.attempt.server server (and_parts (one.attempt.server == server) (one.attempt.link == link) one.over).0 in
+      let there = (listed setting past lawful limits.some_server one.attempt.leg).flies one.attempt one.flies in
+      subst (λ (cs : List Failing). list_any (λ (item : Failing). item.server == server) cs ≡ true) counted.failed
+      (counted_there setting past server (servers_at setting past) (subst (λ s. has_key s (servers_at setting past) ≡ true) at there))
+
+  -- the count of the server's failures behind a Fault
+  pub counted_faulted : (rows : List (Row T)) (tickets : List (Ticket T)) (list : List ServerKey) (counts : List Failing) (key greatest starts count : ℕ) → TableStands plan setting past rows tickets → AreCounted setting past list counts key greatest starts → length past + 1 < 2 ^ 64
+      → count ≡ count_by (flew_over server link) rows → AreCounted setting (Fault server link moment ∷ past) list (if count == 0 then counts else recounted server one_more counts) key greatest starts
+  counted_faulted rows tickets list counts key greatest starts count table counted small is = by_test (count == 0) refl
+    where
+      by_test : (b : Bool) → (count == 0) ≡ b → AreCounted setting (Fault server link moment ∷ past) list (cond b counts (recounted server one_more counts)) key greatest starts
+      by_test true e =
+          let none = none_over rows (sym is ∙ eqb-true count 0 e) in
+          counted_kept setting (Fault server link moment) past list counts key greatest starts counted refl refl
+          (λ a flies. in_flight-none setting (λ b. went_over b server link) a.leg past a flies (busy_rows plan setting past server link rows tickets table ∙ none))
+      by_test false e =
+          let one = some_over rows table.each_row (λ none. true≢false (sym (eq-eqb count 0 (is ∙ none)) ∙ e)) in
+          counted_changed setting (Fault server link moment) past list counts key greatest starts counted refl refl server (Some (Failed ConnRefused)) one_more one.attempt (λ n few. one_more-is n (length past) few small) one.flies
+          (eqb-true one.attempt.server server (and_parts (one.attempt.server == server) (one.attempt.link == link) one.over).0) one.over
+          (λ b flies closed. (eqb-true b.server server (and_parts (b.server == server) (b.link == link) closed).0, refl))
+
+-- a fault that found no memory
+pub fails_failed : (server link at : ℕ) (result : Result ℕ NoMemory) (setting : Setting) (past : Past) → IsErr result → Fails server link at result setting past None
+fails_failed server link at (Ok count) setting past failed = absurd (cc failed)
+fails_failed server link at (Err fault) setting past failed = refl
+
+-- one more row of those that failed or stayed
+module _ {T : Type 0} (f : Row T → After T) (ys : List (Row T)) (x : Row T) where
+  pub stays_more : (row : Row T) → f x ≡ Stays row
+      → (filter_map kept_of (map f (ys ++ x ∷ [])) ≡ filter_map kept_of (map f ys) ++ row ∷ []) × (filter_map ticket_made (map f (ys ++ x ∷ [])) ≡ filter_map ticket_made (map f ys))
+  stays_more row e = (
+    ap (filter_map kept_of) (map-append f ys (x ∷ [])) ∙ filter_map-append kept_of (map f ys) (f x ∷ []) ∙ ap (λ o. filter_map kept_of (map f ys) ++ cons_option (kept_of o) []) e,
+    ap (filter_map ticket_made) (map-append f ys (x ∷ [])) ∙ filter_map-append ticket_made (map f ys) (f x ∷ []) ∙ ap (λ o. filter_map ticket_made (map f ys) ++ cons_option (ticket_made o) []) e ∙ append-nil (filter_map ticket_made (map f ys)),
+  )
+
+  pub ends_more : (ticket : Ticket T) → f x ≡ Ends ticket
+      → (filter_map kept_of (map f (ys ++ x ∷ [])) ≡ filter_map kept_of (map f ys)) × (filter_map ticket_made (map f (ys ++ x ∷ [])) ≡ filter_map ticket_made (map f ys) ++ ticket ∷ [])
+  ends_more ticket e = (
+    ap (filter_map kept_of) (map-append f ys (x ∷ [])) ∙ filter_map-append kept_of (map f ys) (f x ∷ []) ∙ ap (λ o. filter_map kept_of (map f ys) ++ cons_option (kept_of o) []) e ∙ append-nil (filter_map kept_of (map f ys)),
+    ap (filter_map ticket_made) (map-append f ys (x ∷ [])) ∙ filter_map-append ticket_made (map f ys) (f x ∷ []) ∙ ap (λ o. filter_map ticket_made (map f ys) ++ cons_option (ticket_made o) []) e,
+  )

@@ -1,0 +1,39 @@
+-- What a loop over the rows finds first.
+use Rattle.std.proofs.Common.{◌≡◌, ◌∙◌, ℕ, ◌+◌, ◌-◌, ◌<◌, ◌%◌, ◌^◌, Bool, true, false, List, [], ◌∷◌, ◌++◌, Option, Some, None, refl, ap, sym, arith, take, drop, get_or, length, leb}
+use Rattle.std.proofs.lemmas.Bool.{leb-false, leb-true}
+use Rattle.std.proofs.lemmas.Grind.{flat_map-append}
+use Rattle.std.proofs.lemmas.List.{take_more}
+use Rattle.std.specs.Prelude.{flat_map, is_some}
+use Rattle.channel_model.specs.Lawful.{first}
+use Rattle.query_machine.specs.Legs.{IsWaiting, flying_in, status_in}
+use Rattle.query_machine.specs.declared.leg.Phase.{Phase}
+use Rattle.query_machine.specs.declared.leg.Phase.TheVariants as phases
+use Rattle.channel_table.proofs.Ending.{split_at}
+
+module _ {X Y : Type 0} (f : X → List Y) (xs : List X) (i : ℕ) (x : X) (inside : i < length xs) (is : x ≡ get_or xs i x) (none : flat_map f (take i xs) ≡ []) where
+  -- an item that gives something behind those that give nothing gives the first
+  pub found_first : (y : Y) → f x ≡ y ∷ [] → first (flat_map f xs) ≡ Some y
+  found_first y e = ap (λ zs. first (flat_map f zs)) (split_at xs i x inside is) ∙ ap first (flat_map-append f (take i xs) (x ∷ drop (i + 1) xs)) ∙ rw (none, e) refl
+
+  -- and one that gives nothing is passed
+  pub passed : f x ≡ [] → flat_map f (take (i + 1) xs) ≡ []
+  passed e = ap (flat_map f) (take_more xs i x inside ∙ ap (λ r. take i xs ++ r ∷ []) (sym is)) ∙ flat_map-append f (take i xs) (x ∷ []) ∙ rw (none, e) refl
+
+-- each identifier is reached
+pub reaches : (word id : ℕ) → word < 2 ^ 16 → id < 2 ^ 16 → (steps : ℕ) × (steps < 2 ^ 16) × ((word + steps) % 2 ^ 16 ≡ id)
+reaches word id small inside = by_order (leb word id) refl
+  where
+    by_order : (b : Bool) → leb word id ≡ b → (steps : ℕ) × (steps < 2 ^ 16) × ((word + steps) % 2 ^ 16 ≡ id)
+    by_order true e = let below = leb-true word id e in (id - word, omega (arith, inside), omega (arith, below, inside))
+    by_order false e = let above = leb-false word id e in (id + 65536 - word, omega (arith, above, small), omega (arith, above, small, inside))
+
+-- there is none where a test says so
+pub no_attempt : {A : Type 0} (o : Option A) → is_some o ≡ false → o ≡ None
+no_attempt None e = refl
+no_attempt (Some x) e = absurd cc
+
+-- a leg that isn't in flight and hasn't ended waits
+pub waits_so : (phase : Phase) → flying_in phase ≡ None → status_in phase ≡ None → IsWaiting phase
+waits_so phases.Waiting lands unended = tt
+waits_so (phases.InFlight flying) lands unended = absurd cc
+waits_so (phases.Ended status) lands unended = absurd cc

@@ -1,0 +1,118 @@
+-- How a leg follows the entry that closes its attempt.
+use Rattle.std.proofs.Common.{◌≡◌, ◌∙◌, ℕ, ◌+◌, ◌<◌, ◌≤◌, Bool, true, false, ◌∷◌, Option, Some, None, refl, ap, ap₂, sym, cond, arith}
+use Rattle.std.proofs.lemmas.Bool.{leb-false}
+use Rattle.std.specs.Bool.{then_some}
+use Rattle.std.specs.Prelude.{nat_le, not, option_map, ◌&&◌, ◌||◌}
+use Rattle.chan_types.specs.declared.journal.What.{What}
+use Rattle.chan_types.specs.declared.status.Status.{Status}
+use Rattle.channel_model.proofs.Theorems.{closed-end, closed-facts}
+use Rattle.channel_model.specs.Flight.{begun_by, closes, flight}
+use Rattle.channel_model.specs.Journal.{Past}
+use Rattle.channel_model.specs.LegEnd.{ending_status, leg_end}
+use Rattle.channel_model.specs.LegFacts.{LegFacts, facts_closed}
+use Rattle.channel_model.specs.Legs.{Leg}
+use Rattle.channel_model.specs.Past.{bytes_of, closings, is_failed, is_next_plain, is_next_tcp, outcome_of, spent}
+use Rattle.channel_model.specs.Servers.{attempts}
+use Rattle.channel_model.specs.Setting.{Setting}
+use Rattle.channel_model.specs.declared.judged.Judged.{Judged}
+use Rattle.channel_model.specs.declared.judged.Judged.TheVariants.{Failed, Final, NextPlain, NextTcp}
+use Rattle.query_machine.specs.Legs.{flying_in, forced_with, leg_behind, phase_with, spent_with, status_in}
+use Rattle.query_machine.specs.declared.leg.Flying.{Flying}
+use Rattle.query_machine.specs.declared.leg.Leg as machine
+use Rattle.channel_table.specs.Legs.{LegStands, attempt_of, facts_of, flown_by}
+
+or_comm : (a b : Bool) → (a || b) ≡ (b || a)
+or_comm true true = refl
+or_comm true false = refl
+or_comm false true = refl
+or_comm false false = refl
+
+and_comm : (a b : Bool) → (a && b) ≡ (b && a)
+and_comm true true = refl
+and_comm true false = refl
+and_comm false true = refl
+and_comm false false = refl
+
+-- the status with which a leg has ended that waits or has ended so
+status_of_phase : (o : Option Status) → status_in (phase_with o) ≡ o
+status_of_phase None = refl
+status_of_phase (Some status) = refl
+
+-- such a leg isn't in flight
+pub phase_lands : (o : Option Status) → flying_in (phase_with o) ≡ None
+phase_lands None = refl
+phase_lands (Some status) = refl
+
+-- the count of the spent attempts doesn't reach its greatest
+spent_same : (judged : Judged) (n : ℕ) → n < 80 → spent_with judged n ≡ cond (is_failed (Some judged)) 1 0 + n
+spent_same NextTcp n few = omega (arith, few)
+spent_same NextPlain n few = omega (arith, few)
+spent_same (Failed status) n few = omega (arith, few)
+spent_same (Final status) n few = omega (arith, few)
+
+-- a leg that goes on has spent few attempts
+still_few : (judged : Judged) (n m most : ℕ) → m ≡ cond (is_failed (Some judged)) 1 0 + n → n < 80 → most ≤ 80 → ending_status (Some judged) m most ≡ None → m < 80
+still_few NextTcp n m most is few may on = omega (arith, is, few)
+still_few NextPlain n m most is few may on = omega (arith, is, few)
+still_few (Failed status) n m most is few may on = by_test (nat_le most m) refl on
+  where
+    by_test : (b : Bool) → nat_le most m ≡ b → ◌≡◌ {A = Option Status} (then_some b status) None → m < 80
+    by_test true le on = absurd cc
+    by_test false le on = omega (arith, leb-false most m le, may)
+still_few (Final status) n m most is few may on = absurd cc
+
+forced_same : (judged : Judged) (flying : Flying) (o : Option Flying) → o ≡ Some flying → (cond (is_next_tcp (Some judged) || is_next_plain (Some judged)) (Some flying.server) None) ≡ forced_with judged o
+forced_same judged flying o is = by_test (is_next_tcp (Some judged) || is_next_plain (Some judged)) ∙ ap (forced_with judged) (sym is)
+  where
+    by_test : (b : Bool) → ◌≡◌ {A = Option ℕ} (cond b (Some flying.server) None) (then_some b flying.server)
+    by_test true = refl
+    by_test false = refl
+
+-- the state behind the end of the attempt says what the past says then
+facts_behind : (leg : Leg) (state : machine.Leg) (flying : Flying) (judged : Judged) (most : ℕ) → flying_in state.phase ≡ Some flying → state.spent < 80
+    → facts_closed flying.server (Some judged) (facts_of leg state) ≡ facts_of leg (leg_behind judged most state)
+facts_behind leg state flying judged most is few =
+    let lands = sym (phase_lands (ending_status (Some judged) (spent_with judged state.spent) most)) in
+    let spends = sym (spent_same judged state.spent few) in
+    let over = or_comm (is_next_tcp (Some judged)) state.over_tcp in
+    let opt = and_comm (not (is_next_plain (Some judged))) state.has_opt in
+    let forced = forced_same judged flying (flying_in state.phase) is in
+    λ k. record {
+      flies = option_map (attempt_of leg) (lands k);
+      due = option_map (λ (f : Flying). f.due) (lands k);
+      spends = spends k;
+      over_tcp = over k;
+      with_opt = opt k;
+      forced = forced k;
+    }
+
+module _ (setting : Setting) (what : What) (past : Past) (leg : Leg) (state : machine.Leg) (flying : Flying) (judged : Judged) (most : ℕ) (stands : LegStands setting past leg state) (is : flying_in state.phase ≡ Some flying)
+    (closed : closes setting (attempt_of leg flying) what past ≡ true) (begins : begun_by what ≡ None)
+    (means : outcome_of setting (attempt_of leg flying) what past (closings setting leg past) ≡ Some judged) (may : attempts setting past ≡ most) (few : most ≤ 80) where
+  flies : flight setting leg past ≡ Some (attempt_of leg flying)
+  flies = ap (λ (f : LegFacts). f.flies) stands.facts ∙ ap (flown_by leg) is
+
+  spends : spent (closings setting leg past) ≡ state.spent
+  spends = ap (λ (f : LegFacts). f.spends) stands.facts
+
+  status : ending_status (outcome_of setting (attempt_of leg flying) what past (closings setting leg past)) (cond (is_failed (outcome_of setting (attempt_of leg flying) what past (closings setting leg past))) 1 0 + spent (closings setting leg past)) (attempts setting past)
+      ≡ status_in (leg_behind judged most state).phase
+  status =
+      ap₂ (λ o n. ending_status o (cond (is_failed o) 1 0 + n) (attempts setting past)) means spends
+      ∙ ap₂ (λ n m. ending_status (Some judged) n m) (sym (spent_same judged state.spent stands.few)) may
+      ∙ sym (status_of_phase (ending_status (Some judged) (spent_with judged state.spent) most))
+
+  -- the leg has ended exactly where its state says so
+  pub leg_ended : leg_end setting leg (what ∷ past) ≡ option_map (λ (s : Status). record { status = s; reply = bytes_of what }) (status_in (leg_behind judged most state).phase)
+  leg_ended =
+      closed-end setting what past leg (attempt_of leg flying) flies closed stands.open'
+      ∙ ap (option_map (λ (s : Status). record { status = s; reply = bytes_of what })) status
+
+  -- a leg that goes on stands as its state says
+  pub leg_goes_on : status_in (leg_behind judged most state).phase ≡ None → LegStands setting (what ∷ past) leg (leg_behind judged most state)
+  leg_goes_on on = record {
+    facts = closed-facts setting what past leg (attempt_of leg flying) flies closed begins ∙ ap₂ (λ o f. facts_closed flying.server o f) means stands.facts ∙ facts_behind leg state flying judged most is stands.few;
+    open' = leg_ended ∙ ap (option_map (λ (s : Status). record { status = s; reply = bytes_of what })) on;
+    unended = on;
+    few = still_few judged state.spent (spent_with judged state.spent) most (spent_same judged state.spent stands.few) stands.few few (sym (status_of_phase (ending_status (Some judged) (spent_with judged state.spent) most)) ∙ on);
+  }

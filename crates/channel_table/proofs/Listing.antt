@@ -1,0 +1,203 @@
+-- How a table follows a new list of servers.
+use Rattle.std.proofs.Common.{◌≡◌, ◌∙◌, ℕ, ◌+◌, ◌-◌, ◌^◌, ◌<◌, ◌≤◌, Bool, true, false, List, [], ◌∷◌, ◌++◌, Option, Some, None, Result, Ok, Err, refl, ap, ap₂, sym, subst, map, length, cond, arith, true≢false}
+use Rattle.std.proofs.lemmas.List.{append-nil, length-map}
+use Rattle.std.proofs.lemmas.List.Sums.{sum_by-cons}
+use Rattle.std.specs.List.{AllByRecursion}
+use Rattle.std.specs.Prelude.{IsFalse, count_by, filter, flat_map, max, not, option_to_list}
+use Rattle.chan_types.specs.declared.journal.What.TheVariants.{Servers}
+use Rattle.chan_types.specs.declared.script.Script.{Script}
+use Rattle.chan_types.specs.declared.server_key.ServerKey.{ServerKey}
+use Rattle.chan_types.specs.declared.ticket.Ticket.{Ticket}
+use Rattle.net_addr.specs.declared.addr.ServerAddr.{ServerAddr}
+use Rattle.channel_model.proofs.Theorems.{as_many-filter, as_many-length, fate-kept, keys_given, may_set, rekeyed-addresses, rekeyed-differ, request_of-later, set-end, set-facts}
+use Rattle.channel_model.specs.Choice.{Failing, greatest_link}
+use Rattle.channel_model.specs.Flight.{Attempt, closes, in_flight, unless_closed}
+use Rattle.channel_model.specs.Journal.{Past, is_destroyed}
+use Rattle.channel_model.specs.Lawful.{MaySet}
+use Rattle.channel_model.specs.LegFacts.{LegFacts, facts_closed, facts_set}
+use Rattle.channel_model.specs.Legs.{Leg}
+use Rattle.channel_model.specs.Servers.{KeysDiffer, greatest_key, greatest_of, has_key, keys_for, servers_at}
+use Rattle.channel_model.specs.Meanings.{SetsServers}
+use Rattle.channel_model.specs.Setting.{Setting}
+use Rattle.channel_model.specs.declared.answers.SetFault.{SetFault}
+use Rattle.channel_model.specs.declared.answers.SetFault.TheVariants.{Closed, Full, NoMemory}
+use Rattle.std.specs.Result.{IsErrAnd}
+use Rattle.query_machine.proofs.Theorems.{renewed_counts}
+use Rattle.query_machine.specs.Legs.{flying_in, status_in}
+use Rattle.query_machine.specs.Servers.{renewed}
+use Rattle.query_machine.specs.declared.leg.Flying.{Flying}
+use Rattle.query_machine.specs.declared.leg.Leg as machine
+use Rattle.query_machine.specs.declared.leg.Phase.TheVariants as phases
+use Rattle.channel_table.proofs.Outcomes.{Becomes, Follows, Outcome, stays}
+use Rattle.channel_table.proofs.RowFrames.{left_one}
+use Rattle.channel_table.proofs.SearchSteps.{passed_stay}
+use Rattle.channel_table.proofs.TableSteps.{Stands, table_behind}
+use Rattle.channel_table.specs.Counted.{AreCounted}
+use Rattle.channel_table.specs.Legs.{LegStands, attempt_of, facts_of, flown_by}
+use Rattle.channel_table.specs.Listing.{flying_left, has_left, kept_in, leg_set, row_set}
+use Rattle.channel_table.specs.Rows.{RowStands, TableStands, flown, flying_of, leg_of_row, number_of, ticket_number}
+use Rattle.channel_table.specs.declared.row.Row.{Row}
+
+module _ (list : List ServerKey) (leg : Leg) (state : machine.Leg) where
+  -- the leg where its attempt ends, and where it doesn't
+  ended : machine.Leg
+  ended = record state { phase = phases.Waiting; forced = None }
+
+  going : machine.Leg
+  going = record state { forced = kept_in list state.forced }
+
+  no_sum : (n : ℕ) → 0 + n ≡ n
+  no_sum n = omega arith
+
+  set_as : (o : Option Flying) → flying_in state.phase ≡ o → (P : machine.Leg → Type 0) → P (cond (flying_left list o) (record state { phase = phases.Waiting; forced = None }) (record state { forced = kept_in list state.forced })) → P (leg_set list state)
+  set_as o is P p = subst (λ f. P (cond (flying_left list f) (record state { phase = phases.Waiting; forced = None }) (record state { forced = kept_in list state.forced }))) (sym is) p
+
+  facts_after : (o : Option Flying) → flying_in state.phase ≡ o
+      → facts_set list (flown_by leg o) (facts_of leg state) ≡ facts_of leg (cond (flying_left list o) (record state { phase = phases.Waiting; forced = None }) (record state { forced = kept_in list state.forced }))
+  facts_after None is = refl
+  facts_after (Some flying) is = by_test (has_key flying.server list)
+    where
+      by_test : (b : Bool) → cond b (record (facts_of leg state) { forced = kept_in list state.forced }) (facts_closed flying.server None (facts_of leg state))
+          ≡ facts_of leg (cond (not b) (record state { phase = phases.Waiting; forced = None }) (record state { forced = kept_in list state.forced }))
+      by_test true = refl
+      by_test false = ap (λ (n : ℕ). record { flies = None; due = None; spends = n; over_tcp = state.over_tcp; with_opt = state.has_opt; forced = None }) (no_sum state.spent)
+
+  unended_after : (b : Bool) → status_in state.phase ≡ None → status_in (cond b (record state { phase = phases.Waiting; forced = None }) (record state { forced = kept_in list state.forced })).phase ≡ None
+  unended_after true is = refl
+  unended_after false is = is
+
+  few_after : (b : Bool) → state.spent < 80 → (cond b (record state { phase = phases.Waiting; forced = None }) (record state { forced = kept_in list state.forced })).spent < 80
+  few_after true few = few
+  few_after false few = few
+
+  -- a leg stands behind a new list as it is set
+  pub leg_set_stands : (setting : Setting) (past : Past) → LegStands setting past leg state → LegStands setting (Servers list ∷ past) leg (leg_set list state)
+  leg_set_stands setting past stands = record {
+    facts =
+        set-facts setting list past leg ∙ ap₂ (facts_set list) (ap (λ (f : LegFacts). f.flies) stands.facts) stands.facts
+        ∙ facts_after (flying_in state.phase) refl;
+    open' = set-end setting list past leg ∙ stands.open';
+    unended = unended_after (flying_left list (flying_in state.phase)) stands.unended;
+    few = few_after (flying_left list (flying_in state.phase)) stands.few;
+  }
+
+  -- its attempt is what the list leaves of it
+  pub flown_after : (setting : Setting) (past : Past) (o : Option Flying) → flying_in state.phase ≡ o
+      → flown_by leg (flying_in (cond (flying_left list o) (record state { phase = phases.Waiting; forced = None }) (record state { forced = kept_in list state.forced })).phase) ≡ unless_closed setting (Servers list) past (flown_by leg o)
+  flown_after setting past None is = ap (flown_by leg) is
+  flown_after setting past (Some flying) is = by_test (has_key flying.server list)
+    where
+      by_test : (b : Bool) → flown_by leg (flying_in (cond (not b) (record state { phase = phases.Waiting; forced = None }) (record state { forced = kept_in list state.forced })).phase) ≡ cond (not b) None (Some (attempt_of leg flying))
+      by_test true = ap (flown_by leg) is
+      by_test false = refl
+
+module _ {T : Type 0} (plan : T → Script) (setting : Setting) (past : Past) (list : List ServerKey) where
+  row_follows : (row : Row T) → RowStands plan setting past row
+      → flown (row_set list row) ≡ filter (λ a. not (closes setting a (Servers list) past)) (flown row)
+  row_follows row stands =
+      ap option_to_list (flown_after list (leg_of_row row) row.leg setting past (flying_of row) refl) ∙ sym (left_one plan setting (Servers list) past (flown_by (leg_of_row row) (flying_of row)))
+
+  row_stands_set : (row : Row T) → RowStands plan setting past row → RowStands plan setting (Servers list ∷ past) (row_set list row)
+  row_stands_set row stands =
+      let stay = passed_stay setting row.number stands.spec stands.one_leg (Servers list) past 0 stands.passed stands.came in
+      record {
+        spec = stands.spec;
+        one_leg = stands.one_leg;
+        passed = stands.passed;
+        candidates = stands.candidates;
+        few = stands.few;
+        legged = stands.legged;
+        came = stay.0;
+        emptied = stay.1 ∙ stands.emptied;
+        asks = stands.asks;
+        accepts = request_of-later row.number (Servers list) past _ stands.accepts;
+        undecided = fate-kept setting (Servers list) past row.number refl ∙ stands.undecided;
+        leg = leg_set_stands list (leg_of_row row) row.leg setting past stands.leg;
+        begun = stands.begun;
+        later = stands.later;
+      }
+
+  set_all : List (Row T) → List (Outcome (Row T) (Ticket T))
+  set_all [] = []
+  set_all (row ∷ rows) = stays row (row_set list row) ∷ set_all rows
+
+  set_all-becomes : (rows : List (Row T)) → Becomes (set_all rows) rows (map (row_set list) rows) []
+  unfolding set_all
+  set_all-becomes [] = record { rows_before = refl; rows_behind = refl; tickets_behind = refl }
+  set_all-becomes (row ∷ rows) =
+      let rest = set_all-becomes rows in
+      record { rows_before = ap (λ rs. row ∷ rs) rest.rows_before; rows_behind = ap (λ rs. row_set list row ∷ rs) rest.rows_behind; tickets_behind = rest.tickets_behind }
+
+  set_all-follow : (rows : List (Row T)) → AllByRecursion (RowStands plan setting past) rows → AllByRecursion (Follows number_of ticket_number flown setting (Servers list) past) (set_all rows)
+  unfolding set_all
+  set_all-follow [] each = tt
+  set_all-follow (row ∷ rows) each = ((refl, refl, row_follows row each.0), set_all-follow rows each.1)
+
+  set_all-stand : (rows : List (Row T)) → AllByRecursion (RowStands plan setting past) rows → AllByRecursion (Stands plan setting (Servers list) past) (set_all rows)
+  unfolding set_all
+  set_all-stand [] each = tt
+  set_all-stand (row ∷ rows) each = (row_stands_set row each.0, set_all-stand rows each.1)
+
+  -- the rows are set
+  pub table_set : (rows : List (Row T)) (tickets : List (Ticket T)) → TableStands plan setting past rows tickets → TableStands plan setting (Servers list ∷ past) (map (row_set list) rows) tickets
+  table_set rows tickets table =
+      subst (TableStands plan setting (Servers list ∷ past) (map (row_set list) rows)) (append-nil tickets)
+      (table_behind plan setting (Servers list) past (set_all rows) rows (map (row_set list) rows) tickets [] refl refl refl (set_all-becomes rows) (set_all-follow rows table.each_row) (set_all-stand rows table.each_row) table)
+
+  left_count : (rows : List (Row T)) → length (filter (λ (a : Attempt). not (has_key a.server list)) (flat_map flown rows)) ≡ count_by (has_left list) rows
+  left_count [] = refl
+  left_count (row ∷ rows) = by_attempt (leg_of_row row) (flying_of row) (left_count rows) ∙ sym (sum_by-cons (λ (r : Row T). cond (has_left list r) 1 0) row rows)
+    where
+      by_test : (a : Attempt) (b : Bool) → length (filter (λ (a : Attempt). not (has_key a.server list)) (flat_map flown rows)) ≡ count_by (has_left list) rows
+          → length (cond b (a ∷ filter (λ (a : Attempt). not (has_key a.server list)) (flat_map flown rows)) (filter (λ (a : Attempt). not (has_key a.server list)) (flat_map flown rows))) ≡ cond b 1 0 + count_by (has_left list) rows
+      by_test a true rest = omega (arith, rest)
+      by_test a false rest = omega (arith, rest)
+
+      by_attempt : (leg : Leg) (o : Option Flying) → length (filter (λ (a : Attempt). not (has_key a.server list)) (flat_map flown rows)) ≡ count_by (has_left list) rows
+          → length (filter (λ (a : Attempt). not (has_key a.server list)) (option_to_list (flown_by leg o) ++ flat_map flown rows)) ≡ cond (flying_left list o) 1 0 + count_by (has_left list) rows
+      by_attempt leg None rest = omega (arith, rest)
+      by_attempt leg (Some flying) rest = by_test (attempt_of leg flying) (flying_left list (Some flying)) rest
+
+  -- and so many attempts end
+  pub set_count : (rows : List (Row T)) (tickets : List (Ticket T)) → TableStands plan setting past rows tickets → length (filter (λ (a : Attempt). not (has_key a.server list)) (in_flight setting past)) ≡ count_by (has_left list) rows
+  set_count rows tickets table =
+      as_many-length _ _ (as_many-filter (λ (a : Attempt). not (has_key a.server list)) (in_flight setting past) (flat_map flown rows) table.stand.flying_are) ∙ left_count rows
+
+-- what a table has beside its requests
+pub counted_set : (setting : Setting) (past : Past) (list before : List ServerKey) (counts : List Failing) (key link starts : ℕ) → AreCounted setting past before counts key link starts → AreCounted setting (Servers list ∷ past) list (renewed list counts) (greatest_of key list) link starts
+counted_set setting past list before counts key link starts counted = record {
+  listed = refl;
+  failed = renewed_counts setting list past ∙ ap (renewed list) counted.failed;
+  keyed = ap (λ k. greatest_of k list) counted.keyed;
+  linked = no_link (greatest_link past) ∙ counted.linked;
+  begun = counted.begun;
+}
+  where
+    no_link : (n : ℕ) → max 0 n ≡ n
+    no_link n = omega arith
+
+-- a new list, as it is made: it has its servers by the rule, and may become the channel's
+module _ (setting : Setting) (past : Past) (addresses : List ServerAddr) (list : List ServerKey) (is : list ≡ keys_for setting addresses past) where
+  pub keys_apart : KeysDiffer list
+  keys_apart = subst KeysDiffer (sym is) (rekeyed-differ addresses (servers_at setting past) (greatest_key setting past) (keys_given setting past))
+
+  pub set_length : length list ≡ length addresses
+  set_length = sym (length-map list (λ (s : ServerKey). s.address)) ∙ ap length (ap (map (λ (s : ServerKey). s.address)) is ∙ rekeyed-addresses addresses (servers_at setting past) (greatest_key setting past))
+
+  pub may_become : IsFalse (is_destroyed past) → 1 ≤ length addresses → length addresses ≤ 8 → MaySet setting past list
+  may_become open_ some few = subst (MaySet setting past) (sym is) (may_set setting past addresses open_ some few)
+
+no_closed : ◌≡◌ {A = SetFault} NoMemory Closed → ⊥
+no_closed e = cc
+
+no_full : ◌≡◌ {A = SetFault} NoMemory Full → ⊥
+no_full e = cc
+
+-- a change of servers that found no memory
+pub sets_failed : (addresses : List ServerAddr) (result : Result ℕ SetFault) (setting : Setting) (past : Past) → IsErrAnd result (λ fault. fault ≡ NoMemory) → is_destroyed past ≡ false → greatest_key setting past ≤ 2 ^ 32 - 9 → SetsServers addresses result setting past None
+sets_failed addresses (Ok count) setting past failed open_ few = absurd failed
+sets_failed addresses (Err fault) setting past failed open_ few = (
+  refl,
+  (λ closed. absurd (no_closed (sym failed ∙ closed)), λ destroyed. absurd (true≢false (sym destroyed ∙ open_))),
+  (λ full. absurd (no_full (sym failed ∙ full)), λ both. absurd (omega (arith, both.1, few))),
+)

@@ -1,0 +1,83 @@
+-- How a table follows the end of one row's attempt.
+use Rattle.std.proofs.Common.{◌≡◌, ◌∙◌, ℕ, ◌+◌, ◌≤◌, Bool, true, false, List, [], ◌∷◌, ◌++◌, Some, None, refl, ap, subst, map, cond, arith, take, drop, eq-eqb}
+use Rattle.std.proofs.lemmas.List.{map-append}
+use Rattle.std.specs.List.{AllByRecursion}
+use Rattle.std.specs.Prelude.{◌&&◌, ◌==◌}
+use Rattle.chan_types.specs.declared.journal.What.{What}
+use Rattle.chan_types.specs.declared.script.Script.{Script}
+use Rattle.chan_types.specs.declared.ticket.Ticket.{Ticket}
+use Rattle.channel_model.proofs.Theorems.{pending_once, occurrences-append}
+use Rattle.channel_model.specs.Completion.{completed_by, occurrences, pending, taken_by}
+use Rattle.channel_model.specs.Flight.{begun_by, closes}
+use Rattle.channel_model.specs.Journal.{Past, accepted_by}
+use Rattle.channel_model.specs.Lawful.{IsLawfulPast}
+use Rattle.channel_model.specs.Legs.{is_leg, leg_of}
+use Rattle.channel_model.specs.Past.{bytes_of, closings, outcome_of}
+use Rattle.channel_model.specs.Search.{search_answer}
+use Rattle.channel_model.specs.Servers.{attempts}
+use Rattle.channel_model.specs.Setting.{Setting}
+use Rattle.channel_model.specs.declared.judged.Judged.{Judged}
+use Rattle.channel_table.proofs.OneRow.{each-split, one_ends, one_stays}
+use Rattle.channel_table.proofs.Outcomes.{Follows}
+use Rattle.channel_table.proofs.RowEnds.{outcome_after, row_after}
+use Rattle.channel_table.proofs.RowFrames.{IsSpared}
+use Rattle.channel_table.proofs.TableSteps.{Stands}
+use Rattle.channel_table.specs.After.{after}
+use Rattle.channel_table.specs.Ends.{Becomes, EndsRow}
+use Rattle.channel_table.specs.Rows.{RowStands, TableStands, flown, flying_of, leg_of_row, number_of, ticket_number}
+use Rattle.query_machine.specs.declared.leg.Flying.{Flying}
+use Rattle.channel_table.specs.Legs.{attempt_of}
+use Rattle.channel_table.specs.declared.row.After.{After}
+use Rattle.channel_table.specs.declared.row.After.TheVariants.{Ends, Stays}
+use Rattle.channel_table.specs.declared.row.Row.{Row}
+
+-- a row of another request
+abbrev pub IsOther : {T : Type 0} → ℕ → Row T → Type 0
+IsOther number row = (row.number == number) ≡ false
+
+-- none of its legs is one of that request
+pub other_leg : (request number k leg : ℕ) → (request == number) ≡ false → is_leg (leg_of request k) number leg ≡ false
+other_leg request number k leg other = ap (λ b. b && (k == leg)) other
+
+module _ {T : Type 0} where
+  other_rows : (number : ℕ) (rows : List (Row T)) → occurrences number (map number_of rows) ≡ 0 → AllByRecursion (IsOther number) rows
+  other_rows number [] none = tt
+  other_rows number (r ∷ rows) none = by_test (r.number == number) refl none (other_rows number rows)
+    where
+      by_test : (b : Bool) → (r.number == number) ≡ b → cond b (occurrences number (map number_of rows) + 1) (occurrences number (map number_of rows)) ≡ 0
+          → (occurrences number (map number_of rows) ≡ 0 → AllByRecursion (IsOther number) rows) → ((r.number == number) ≡ false) × AllByRecursion (IsOther number) rows
+      by_test true is none rest = absurd (omega (arith, none))
+      by_test false is none rest = (is, rest none)
+
+  -- the rows before and behind one are those of other requests
+  pub others_apart : (setting : Setting) (past : Past) (before behind : List (Row T)) (row : Row T) → IsLawfulPast setting past → pending setting past ≡ map number_of (before ++ row ∷ behind)
+      → AllByRecursion (IsOther row.number) before × AllByRecursion (IsOther row.number) behind
+  others_apart setting past before behind row lawful are =
+      let all : pending setting past ≡ map number_of before ++ row.number ∷ map number_of behind = are ∙ map-append number_of before (row ∷ behind) in
+      let few = pending_once setting past lawful row.number in
+      let parts = ap (occurrences row.number) all ∙ occurrences-append row.number (map number_of before) (row.number ∷ map number_of behind) in
+      let own : occurrences row.number (row.number ∷ map number_of behind) ≡ occurrences row.number (map number_of behind) + 1 = rw (eq-eqb row.number row.number refl) refl in
+      (other_rows row.number before (omega (arith, few, parts, own)), other_rows row.number behind (omega (arith, few, parts, own)))
+
+module _ {T : Type 0} (plan : T → Script) (setting : Setting) (what : What) (past : Past) (judged : Judged) (reply : List ℕ) (most index : ℕ)
+    (rows new_rows : List (Row T)) (tickets new_tickets : List (Ticket T)) (ends : EndsRow setting.options.flags judged reply most index rows tickets new_rows new_tickets) (table : TableStands plan setting past rows tickets)
+    (accepts : accepted_by what ≡ None) (begins : begun_by what ≡ None) (takes : taken_by what ≡ None)
+    (spared_before : AllByRecursion (IsSpared plan setting what past) (take index rows)) (spared_behind : AllByRecursion (IsSpared plan setting what past) (drop (index + 1) rows)) where
+  split : TableStands plan setting past (take index rows ++ ends.row ∷ drop (index + 1) rows) tickets
+  split = subst (λ rs. TableStands plan setting past rs tickets) ends.parts table
+
+  by_after : (o : After T) → Follows number_of ticket_number flown setting what past (outcome_after ends.row o) × Stands plan setting what past (outcome_after ends.row o)
+      → Becomes (take index rows) (drop (index + 1) rows) tickets new_rows new_tickets o → TableStands plan setting (what ∷ past) new_rows new_tickets
+  by_after (Stays new) follows becomes =
+      rw (becomes.0, becomes.1) (one_stays plan setting what past (take index rows) (drop (index + 1) rows) ends.row tickets split spared_before spared_behind accepts begins takes new follows.0 follows.1)
+  by_after (Ends ticket) follows becomes =
+      rw (becomes.0, becomes.1) (one_ends plan setting what past (take index rows) (drop (index + 1) rows) ends.row tickets split spared_before spared_behind accepts begins takes ticket follows.0 follows.1)
+
+  -- the table follows the entry that closes the attempt of the row, and concerns no other
+  pub table_row_ended : (flying : Flying) → flying_of ends.row ≡ Some flying → closes setting (attempt_of (leg_of_row ends.row) flying) what past ≡ true
+      → completed_by setting ends.row.number what past ≡ search_answer setting ends.row.number (what ∷ past)
+      → outcome_of setting (attempt_of (leg_of_row ends.row) flying) what past (closings setting (leg_of_row ends.row) past) ≡ Some judged → bytes_of what ≡ reply → attempts setting past ≡ most → most ≤ 80
+      → TableStands plan setting (what ∷ past) new_rows new_tickets
+  table_row_ended flying flies closed by_search means brings may few =
+      let stands = (each-split (RowStands plan setting past) (take index rows) ends.row (drop (index + 1) rows) split.each_row).1 in
+      by_after (after setting.options.flags judged reply most ends.row) (row_after plan setting what past ends.row flying judged reply most stands flies closed begins by_search means brings may few) ends.becomes

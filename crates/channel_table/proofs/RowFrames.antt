@@ -1,0 +1,164 @@
+-- Rows that an entry doesn't concern, and a table of which one row changes.
+use Rattle.std.proofs.Common.{◌≡◌, ◌∙◌, ℕ, Bool, true, false, List, [], ◌∷◌, ◌++◌, Option, Some, None, refl, ap, ap₂, sym, subst, map, cond, eq-eqb}
+use Rattle.std.proofs.lemmas.List.{append-nil, map-append}
+use Rattle.std.proofs.lemmas.List.Elements.{filter_map-append}
+use Rattle.std.specs.List.{AllByRecursion}
+use Rattle.std.specs.Prelude.{IfSome, IsFalse, filter, not, option_map, option_to_list}
+use Rattle.chan_types.specs.declared.journal.What.{What}
+use Rattle.chan_types.specs.declared.journal.What.TheVariants.{Take}
+use Rattle.chan_types.specs.declared.script.Script.{Script}
+use Rattle.chan_types.specs.declared.ticket.Ticket.{Ticket}
+use Rattle.channel_model.proofs.Theorems.{Spares, request_of-later, spared-end, spared-facts, spec_of-later, take_spares, unless_closed-spared}
+use Rattle.channel_model.specs.Completion.{completed_by, left_by}
+use Rattle.channel_model.specs.Flight.{Attempt, begun_by, closes, flight, has_leg, is_of_leg, started, unless_closed, with_leg}
+use Rattle.channel_model.specs.Journal.{Accepted, Past, spec_of}
+use Rattle.channel_model.specs.LegFacts.{LegFacts}
+use Rattle.channel_model.specs.Legs.{Leg}
+use Rattle.channel_model.specs.Legs.{leg_of}
+use Rattle.channel_model.specs.Search.{search_answer}
+use Rattle.channel_model.specs.Setting.{Setting}
+use Rattle.query_machine.specs.declared.leg.Leg as machine
+use Rattle.channel_table.proofs.Outcomes.{Becomes, Follows, Outcome, row_behind, row_of, stands_behind, stays, ticket_behind}
+use Rattle.channel_table.proofs.SearchSteps.{no_answer, passed_stay}
+use Rattle.channel_table.proofs.TableSteps.{Stands, tickets_later}
+use Rattle.channel_table.specs.Legs.{LegStands, flown_by}
+use Rattle.channel_table.specs.Rows.{RowStands, StandFor, TableStands, flown, flying_of, leg_of_row, number_of, ticket_number}
+use Rattle.channel_table.specs.declared.row.Row.{Row}
+
+-- a leg that an entry doesn't concern stands as before
+pub leg_spared : (setting : Setting) (what : What) (past : Past) (leg : Leg) (state : machine.Leg) → Spares setting what past leg → LegStands setting past leg state → LegStands setting (what ∷ past) leg state
+leg_spared setting what past leg state spared stands = record {
+  facts = spared-facts setting what past leg spared ∙ stands.facts;
+  open' = spared-end setting what past leg spared ∙ stands.open';
+  unended = stands.unended;
+  few = stands.few;
+}
+
+-- an entry that doesn't begin an attempt of the leg leaves it with a Start or without
+pub begun_other : (leg : Leg) (o : Option Attempt) (legs : List Leg) → IfSome o (λ a. IsFalse (is_of_leg leg a)) → has_leg leg (with_leg o legs) ≡ has_leg leg legs
+begun_other leg None legs spared = refl
+begun_other leg (Some a) legs spared = by_test (has_leg a.leg legs)
+  where
+    by_test : (b : Bool) → has_leg leg (cond b legs (a.leg ∷ legs)) ≡ has_leg leg legs
+    by_test true = refl
+    by_test false = rw spared refl
+
+module _ {T : Type 0} (plan : T → Script) (setting : Setting) (what : What) (past : Past) where
+  -- what a row's request asks
+  pub spec_of_row : (row : Row T) (stands : RowStands plan setting past row) → spec_of row.number past ≡ Some stands.spec
+  spec_of_row row stands = ap (option_map (λ (r : Accepted). r.spec)) stands.accepts
+
+  -- the entry begins no attempt of the request
+  abbrev pub BeginsOther : ℕ → Type 0
+  BeginsOther request = (k : ℕ) → IfSome (begun_by what) (λ a. IsFalse (is_of_leg (leg_of request k) a))
+
+  -- a row that an entry doesn't concern and doesn't complete stands as before
+  pub row_spared : (row : Row T) → Spares setting what past (leg_of_row row) → BeginsOther row.number → completed_by setting row.number what past ≡ None → RowStands plan setting past row → RowStands plan setting (what ∷ past) row
+  row_spared row spared others completes stands =
+      let stay = passed_stay setting row.number stands.spec stands.one_leg what past 0 stands.passed stands.came in
+      record {
+        spec = stands.spec;
+        one_leg = stands.one_leg;
+        passed = stands.passed;
+        candidates = stands.candidates;
+        few = stands.few;
+        legged = stands.legged;
+        came = stay.0;
+        emptied = stay.1 ∙ stands.emptied;
+        asks = stands.asks;
+        accepts = request_of-later row.number what past _ stands.accepts;
+        undecided = rw (stands.undecided, completes) refl;
+        leg = leg_spared setting what past (leg_of_row row) row.leg spared stands.leg;
+        begun = begun_other (leg_of_row row) (begun_by what) (started past) spared.begins_other ∙ stands.begun;
+        later = λ k above. begun_other (leg_of row.number k) (begun_by what) (started past) (others k) ∙ stands.later k above;
+      }
+
+  -- where an entry completes a request as its search has ended, it doesn't complete one of whose leg it is not
+  pub spared_uncompleted : (row : Row T) → completed_by setting row.number what past ≡ search_answer setting row.number (what ∷ past) → Spares setting what past (leg_of_row row) → RowStands plan setting past row
+      → completed_by setting row.number what past ≡ None
+  spared_uncompleted row by_search spared stands =
+      let stay = passed_stay setting row.number stands.spec stands.one_leg what past 0 stands.passed stands.came in
+      by_search ∙ no_answer setting row.number stands.spec (what ∷ past) stands.passed row.question.name row.names (spec_of-later row.number what past stands.spec (spec_of_row row stands)) stands.one_leg stands.candidates
+      stay.0 row.leg_number stands.legged (spared-end setting what past (leg_of_row row) spared ∙ stands.leg.open')
+
+  -- what an entry leaves of an attempt, if there is one
+  pub left_one : (o : Option Attempt) → filter (λ a. not (closes setting a what past)) (option_to_list o) ≡ option_to_list (unless_closed setting what past o)
+  left_one None = refl
+  left_one (Some a) = by_test (closes setting a what past)
+    where
+      by_test : (b : Bool) → cond (not b) (a ∷ []) [] ≡ option_to_list (cond b None (Some a))
+      by_test true = refl
+      by_test false = refl
+
+  -- the attempt of a row in flight
+  pub flight_of_row : (row : Row T) → RowStands plan setting past row → flight setting (leg_of_row row) past ≡ flown_by (leg_of_row row) (flying_of row)
+  flight_of_row row stands = ap (λ (f : LegFacts). f.flies) stands.leg.facts
+
+  -- the row stays, which the entry doesn't concern and doesn't complete
+  pub record IsSpared (row : Row T) : Type 0 where
+    pub spared : Spares setting what past (leg_of_row row)
+    pub others : BeginsOther row.number
+    pub uncompleted : completed_by setting row.number what past ≡ None
+
+  abbrev pub it_stays : Row T → Outcome (Row T) (Ticket T)
+  it_stays row = stays row row
+
+  pub spared_follows : (row : Row T) → IsSpared row → RowStands plan setting past row → Follows number_of ticket_number flown setting what past (it_stays row)
+  spared_follows row is stands = (
+    refl,
+    is.uncompleted,
+    sym (left_one (flown_by (leg_of_row row) (flying_of row)) ∙ ap option_to_list (subst (λ o. unless_closed setting what past o ≡ o) (flight_of_row row stands) (unless_closed-spared setting what past (flight setting (leg_of_row row) past) is.spared.closes_none))),
+  )
+
+  -- all of these rows stay
+  pub keep_all : List (Row T) → List (Outcome (Row T) (Ticket T))
+  keep_all [] = []
+  keep_all (row ∷ rows) = stays row row ∷ keep_all rows
+
+  pub keep_all-becomes : (rows : List (Row T)) → Becomes (keep_all rows) rows rows []
+  unfolding keep_all
+  keep_all-becomes [] = record { rows_before = refl; rows_behind = refl; tickets_behind = refl }
+  keep_all-becomes (row ∷ rows) =
+      let rest = keep_all-becomes rows in
+      record { rows_before = ap (λ rs. row ∷ rs) rest.rows_before; rows_behind = ap (λ rs. row ∷ rs) rest.rows_behind; tickets_behind = rest.tickets_behind }
+
+  pub keep_all-follow : (rows : List (Row T)) → AllByRecursion IsSpared rows → AllByRecursion (RowStands plan setting past) rows → AllByRecursion (Follows number_of ticket_number flown setting what past) (keep_all rows)
+  unfolding keep_all
+  keep_all-follow [] spared each = tt
+  keep_all-follow (row ∷ rows) spared each = (spared_follows row spared.0 each.0, keep_all-follow rows spared.1 each.1)
+
+  pub keep_all-stand : (rows : List (Row T)) → AllByRecursion IsSpared rows → AllByRecursion (RowStands plan setting past) rows → AllByRecursion (Stands plan setting what past) (keep_all rows)
+  unfolding keep_all
+  keep_all-stand [] spared each = tt
+  keep_all-stand (row ∷ rows) spared each = (row_spared row spared.0.spared spared.0.others spared.0.uncompleted each.0, keep_all-stand rows spared.1 each.1)
+
+  pub rows_spared : (rows : List (Row T)) → AllByRecursion IsSpared rows → AllByRecursion (RowStands plan setting past) rows → AllByRecursion (RowStands plan setting (what ∷ past)) rows
+  rows_spared [] spared each = tt
+  rows_spared (row ∷ rows) spared each = (row_spared row spared.0.spared spared.0.others spared.0.uncompleted each.0, rows_spared rows spared.1 each.1)
+
+-- outcomes behind outcomes
+pub becomes-append : {R K : Type 0} (os ps : List (Outcome R K)) (old new old' new' : List R) (tickets tickets' : List K) → Becomes os old new tickets → Becomes ps old' new' tickets' → Becomes (os ++ ps) (old ++ old') (new ++ new') (tickets ++ tickets')
+becomes-append os ps old new old' new' tickets tickets' b c = record {
+  rows_before = ap₂ (λ xs ys. xs ++ ys) b.rows_before c.rows_before ∙ sym (map-append row_of os ps);
+  rows_behind = ap₂ (λ xs ys. xs ++ ys) b.rows_behind c.rows_behind ∙ sym (filter_map-append row_behind os ps);
+  tickets_behind = ap₂ (λ xs ys. xs ++ ys) b.tickets_behind c.tickets_behind ∙ sym (filter_map-append ticket_behind os ps);
+}
+
+module _ {T : Type 0} (plan : T → Script) (setting : Setting) (past : Past) where
+  take_spared : (number : ℕ) (rows : List (Row T)) → AllByRecursion (IsSpared plan setting (Take number) past) rows
+  take_spared number [] = tt
+  take_spared number (row ∷ rows) = (record { spared = take_spares setting past (leg_of_row row) number; others = λ k. tt; uncompleted = refl }, take_spared number rows)
+
+  -- a Take takes its ticket away, and leaves the rows
+  pub table_taken : (rows : List (Row T)) (ticket : Ticket T) (rest : List (Ticket T)) → TableStands plan setting past rows (ticket ∷ rest) → TableStands plan setting (Take ticket.call.number ∷ past) rows rest
+  table_taken rows ticket rest table =
+      let take : What = Take ticket.call.number in
+      let spared = take_spared ticket.call.number rows in
+      let left : left_by (Some ticket.call.number) (ticket.call.number ∷ map ticket_number rest) ≡ map ticket_number rest = rw (eq-eqb ticket.call.number ticket.call.number refl) refl in
+      record {
+        stand = subst (λ ts. StandFor number_of ticket_number flown setting (take ∷ past) rows ts) (append-nil rest)
+            (stands_behind number_of ticket_number flown setting take past (keep_all plan setting take past rows) rows rows (ticket ∷ rest) rest [] refl refl left (keep_all-becomes plan setting take past rows)
+            (keep_all-follow plan setting take past rows spared table.each_row) table.stand);
+        each_row = rows_spared plan setting take past rows spared table.each_row;
+        each_ticket = tickets_later plan setting take past rest table.each_ticket.1;
+      }

@@ -1,0 +1,137 @@
+use Rattle.std.proofs.Common.{refl, sym, arith, ◌≡◌, ◌∙◌, ◌+◌, ◌<◌, ◌^◌, ◌==◌, Some, List, [], ◌∷◌, ◌++◌, Ok, length, subst, get_or, true, false, ℕ}
+use Rattle.std.specs.List.{list_any}
+use Rattle.chan_types.specs.declared.journal.Entry.{Entry}
+use Rattle.chan_types.specs.declared.journal.What.{What}
+use Rattle.chan_types.specs.declared.journal.What.TheVariants.{Arrive}
+use Rattle.channel_model.proofs.Theorems.{in_flight-none}
+use Rattle.channel_model.specs.Choice.{Failing}
+use Rattle.channel_model.specs.Flight.{closes}
+use Rattle.channel_model.specs.Journal.{Past, past_of}
+use Rattle.channel_model.specs.Legs.{leg_of}
+use Rattle.channel_model.specs.Meanings.{Arrives}
+use Rattle.channel_model.specs.Setting.{Setting}
+use Rattle.channel_model.specs.declared.answers.Landed.TheVariants.{Matched, Stray}
+use Rattle.channel_table.proofs.Attempts.{attempts_are, list_few, list_some}
+use Rattle.channel_table.proofs.Counting.{counted_kept}
+use Rattle.channel_table.proofs.FailureSteps.{past_of-length, recount_is}
+use Rattle.channel_table.proofs.Keeping.{few_closed, happens_one, happens_same, kept_more, no_more}
+use Rattle.channel_table.proofs.Landing.{arrives_failed, counted_landed, landed_says, matched_closes, stray_closes_none, table_landed, table_stray}
+use Rattle.channel_table.proofs.RowAt.{counted_at_row, in_flight_of, item_at, stands_at}
+use Rattle.channel_table.specs.Arriving.{IsLanding, lands_on, recount_by}
+use Rattle.channel_table.specs.Counted.{AreCounted}
+use Rattle.channel_table.specs.Kept.{setting_of}
+use Rattle.channel_table.specs.declared.row.Row.{Row}
+use Rattle.channel_table.proofs.table.Table.arrive.Goals as goal
+
+pub most_attempts-most-requires-clause-some : goal.most_attempts-most-requires-clause-some
+most_attempts-most-requires-clause-some g c =
+    list_some (setting_of c.self.inside) (past_of c.self.inside.entries.items) c.self.inside.list c.self.inside.servers c.self.inside.greatest_key c.self.inside.greatest_link c.self.inside.started c.self.invariant.counted c.self.invariant.limits c.self.invariant.lawful.allowed
+
+pub most_attempts-most-requires-clause-few : goal.most_attempts-most-requires-clause-few
+most_attempts-most-requires-clause-few g c =
+    list_few (setting_of c.self.inside) (past_of c.self.inside.entries.items) c.self.inside.list c.self.inside.servers c.self.inside.greatest_key c.self.inside.greatest_link c.self.inside.started c.self.invariant.counted c.self.invariant.limits c.self.invariant.lawful.allowed
+
+pub returns-in_err-make_room : goal.returns-in_err-make_room
+returns-in_err-make_room g c =
+    rw (← c.self.view_is) (happens_same g.T.Token.plan (Arrives c.args.server c.args.link c.args.bytes.now c.from_residual-in_err-make_room.result) c.self.inside c.make_room.new.entries.items c.args.seat 0 c.make_room.ensures.items c.self.invariant
+    (arrives_failed c.args.server c.args.link c.args.bytes.now c.from_residual-in_err-make_room.result (setting_of c.self.inside) (past_of c.self.inside.entries.items) c.from_residual-in_err-make_room.ensures.0))
+
+pub invariant_of-self-in-None-1 : goal.invariant_of-self-in-None-1
+invariant_of-self-in-None-1 g c =
+    let past : Past = past_of c.self.inside.entries.items in
+    let setting : Setting = setting_of c.self.inside in
+    let none : list_any (lands_on setting.options.flags c.args.server c.args.link c.args.bytes.now) c.self.inside.rows.items ≡ false = rw (c.as_slice.ensures.value, c.flags.ensures.value, c.in-None.is) at c.in_ok-found.ensures in
+    let closes_none = stray_closes_none g.T.Token.plan setting past c.args.server c.args.link c.args.bytes.now c.self.inside.rows.items c.self.inside.ready.items none c.self.invariant.stands in
+    let what : What = Arrive c.args.server c.args.link c.args.bytes.now in
+    let entry : Entry = record { seat = c.args.seat; by = 0; what = what } in
+    let added : c.push_reserved.new.self.items ≡ c.self.inside.entries.items ++ entry ∷ [] = rw (c.push_reserved.ensures.items, c.make_room.ensures.items, c.in_ok-kept.ensures) refl in
+    let room = c.in_ok-make_room.ensures in
+    kept_more g.T.Token.plan c.self.inside _ entry refl added c.self.invariant tt
+    (table_stray g.T.Token.plan setting past c.args.server c.args.link c.args.bytes.now c.self.inside.rows.items c.self.inside.ready.items none c.self.invariant.stands)
+    (counted_kept setting what past c.self.inside.list c.self.inside.servers c.self.inside.greatest_key c.self.inside.greatest_link c.self.inside.started c.self.invariant.counted refl refl (λ a flies. in_flight-none setting (λ b. closes setting b (Arrive c.args.server c.args.link c.args.bytes.now) past) a.leg past a flies closes_none))
+    (no_more (Arrive c.args.server c.args.link c.args.bytes.now) past refl ∙ c.self.invariant.accepts) c.self.invariant.destroyed
+    (omega (arith, c.self.invariant.few, c.push_reserved.ensures.len, c.make_room.ensures.len)) (omega (arith, c.self.invariant.few_links, c.push_reserved.ensures.len, c.make_room.ensures.len)) (omega (arith, c.self.invariant.few_starts, c.push_reserved.ensures.len, c.make_room.ensures.len))
+    (omega (arith, room.room, c.len.ensures, c.len-2.ensures, c.make_room.ensures.len, c.push_reserved.ensures.len, c.push_reserved.ensures.capacity, few_closed c.self.inside.closed))
+    c.self.invariant.room_ready
+
+pub returns-in-None : goal.returns-in-None
+returns-in-None g c =
+    let past : Past = past_of c.self.inside.entries.items in
+    let setting : Setting = setting_of c.self.inside in
+    let none : list_any (lands_on setting.options.flags c.args.server c.args.link c.args.bytes.now) c.self.inside.rows.items ≡ false = rw (c.as_slice.ensures.value, c.flags.ensures.value, c.in-None.is) at c.in_ok-found.ensures in
+    let closes_none = stray_closes_none g.T.Token.plan setting past c.args.server c.args.link c.args.bytes.now c.self.inside.rows.items c.self.inside.ready.items none c.self.invariant.stands in
+    let what : What = Arrive c.args.server c.args.link c.args.bytes.now in
+    let entry : Entry = record { seat = c.args.seat; by = 0; what = what } in
+    let added : c.push_reserved.new.self.items ≡ c.self.inside.entries.items ++ entry ∷ [] = rw (c.push_reserved.ensures.items, c.make_room.ensures.items, c.in_ok-kept.ensures) refl in
+    let means : Arrives c.args.server c.args.link c.args.bytes.now (Ok Stray) setting past (Some what) = (refl, closes_none) in
+    rw (← c.self.view_is) (happens_one g.T.Token.plan (Arrives c.args.server c.args.link c.args.bytes.now (Ok Stray)) c.self.inside _ c.args.seat 0 what refl added (invariant_of-self-in-None-1 g c) means)
+
+pub count_end-requires : goal.count_end-requires
+count_end-requires g c =
+    let past : Past = past_of c.self.inside.entries.items in
+    let setting : Setting = setting_of c.self.inside in
+    let found = rw (c.as_slice.ensures.value, c.flags.ensures.value, c.in-Some.is) at c.in_ok-found.ensures in
+    let at = item_at c.self.inside.rows.items c.in-Some.landing.index found.inside in
+    let row : Row g.row.T.Denot = at.0 in
+    let landing = subst (λ (r : Row g.row.T.Denot). IsLanding setting.options.flags c.args.server c.args.link c.args.bytes.now r c.in-Some.landing) (at.1 row) (found.is row) in
+    let landed = landed_says setting c.args.server c.args.link c.args.bytes.now row c.in-Some.landing.judged landing.judged in
+    let there = counted_at_row g.T.Token.plan setting past c.self.inside.rows.items c.self.inside.ready.items c.self.invariant.stands c.in-Some.landing.index row found.inside (sym (at.1 row)) landed.flying landed.flies
+    c.self.inside.list c.self.inside.servers c.self.inside.greatest_key c.self.inside.greatest_link c.self.inside.started c.self.invariant.counted c.self.invariant.limits c.self.invariant.lawful.allowed in
+    record { there = subst (λ (s : ℕ). list_any (λ (item : Failing). item.server == s) c.self.inside.servers ≡ true) landed.same_server there }
+
+pub end_row-requires-clause-flies : goal.end_row-requires-clause-flies
+end_row-requires-clause-flies g c = λ d.
+    let past : Past = past_of c.self.inside.entries.items in
+    let setting : Setting = setting_of c.self.inside in
+    let found = rw (c.as_slice.ensures.value, c.flags.ensures.value, c.in-Some.is) at c.in_ok-found.ensures in
+    let row = get_or c.self.inside.rows.items c.in-Some.landing.index d in
+    let landed = landed_says setting c.args.server c.args.link c.args.bytes.now row c.in-Some.landing.judged (found.is d).judged in
+    in_flight_of row.leg.phase landed.flying landed.flies
+
+pub invariant_of-self-in-Some : goal.invariant_of-self-in-Some
+invariant_of-self-in-Some g c =
+    let past : Past = past_of c.self.inside.entries.items in
+    let setting : Setting = setting_of c.self.inside in
+    let found = rw (c.as_slice.ensures.value, c.flags.ensures.value, c.in-Some.is) at c.in_ok-found.ensures in
+    let at = item_at c.self.inside.rows.items c.in-Some.landing.index found.inside in
+    let row : Row g.row.T.Denot = at.0 in
+    let landing = subst (λ (r : Row g.row.T.Denot). IsLanding setting.options.flags c.args.server c.args.link c.args.bytes.now r c.in-Some.landing) (at.1 row) (found.is row) in
+    let landed = landed_says setting c.args.server c.args.link c.args.bytes.now row c.in-Some.landing.judged landing.judged in
+    let what : What = Arrive c.args.server c.args.link c.args.bytes.now in
+    let entry : Entry = record { seat = c.args.seat; by = 0; what = what } in
+    let added : c.push_reserved.new.self.items ≡ c.self.inside.entries.items ++ entry ∷ [] = rw (c.push_reserved.ensures.items, c.make_room.ensures.items, c.in_ok-kept.ensures) refl in
+    let room = c.in_ok-make_room.ensures in
+    let ends = rw c.in_ok-reply.ensures at c.end_row.ensures.ends in
+    let there = subst (λ (r : Row g.row.T.Denot). IsLanding setting.options.flags c.args.server c.args.link c.args.bytes.now r c.in-Some.landing) (ends.is ends.row) (found.is ends.row) in
+    let small : length past + 1 < 2 ^ 64 = omega (arith, past_of-length c.self.inside.entries.items, c.push_reserved.ensures.len, c.make_room.ensures.len) in
+    let stands = stands_at g.T.Token.plan setting past c.self.inside.rows.items c.self.inside.ready.items c.self.invariant.stands c.in-Some.landing.index row found.inside (sym (at.1 row)) in
+    let counted = counted_landed g.T.Token.plan setting past c.args.server c.args.link c.args.bytes.now c.self.invariant.lawful.allowed row c.in-Some.landing.judged stands landed
+    c.self.inside.list c.self.inside.servers c.self.inside.greatest_key c.self.inside.greatest_link c.self.inside.started (recount_by c.in-Some.landing.judged) (λ n few. recount_is c.in-Some.landing.judged n (length past) few small) c.self.invariant.counted in
+    let may_spend = attempts_are setting past c.self.inside.list c.self.inside.servers c.self.inside.greatest_key c.self.inside.greatest_link c.self.inside.started c.self.invariant.counted c.self.invariant.limits c.self.invariant.lawful.allowed ∙ sym c.most_attempts-most.ensures.value in
+    kept_more g.T.Token.plan c.self.inside _ entry refl added c.self.invariant tt
+    (table_landed g.T.Token.plan setting past c.args.server c.args.link c.args.bytes.now c.in-Some.landing.judged c.most_attempts-most.result c.in-Some.landing.index c.self.inside.rows.items c.end_row.new.rows.items c.self.inside.ready.items c.end_row.new.ready.items
+    c.self.invariant.lawful.allowed ends there.judged may_spend c.most_attempts-most.ensures.few c.self.invariant.stands)
+    (subst (λ (s : List Failing). AreCounted setting (Arrive c.args.server c.args.link c.args.bytes.now ∷ past) c.self.inside.list s c.self.inside.greatest_key c.self.inside.greatest_link c.self.inside.started) (sym c.count_end.ensures) counted)
+    (no_more (Arrive c.args.server c.args.link c.args.bytes.now) past refl ∙ c.self.invariant.accepts) c.self.invariant.destroyed
+    (omega (arith, c.self.invariant.few, c.push_reserved.ensures.len, c.make_room.ensures.len)) (omega (arith, c.self.invariant.few_links, c.push_reserved.ensures.len, c.make_room.ensures.len)) (omega (arith, c.self.invariant.few_starts, c.push_reserved.ensures.len, c.make_room.ensures.len))
+    (omega (arith, room.room, c.len.ensures, c.len-2.ensures, c.make_room.ensures.len, c.push_reserved.ensures.len, c.push_reserved.ensures.capacity, c.end_row.ensures.fewer, c.end_row.ensures.len, few_closed c.self.inside.closed))
+    (omega (arith, c.self.invariant.room_ready, c.end_row.ensures.len, c.end_row.ensures.capacity))
+
+pub returns-in-Some : goal.returns-in-Some
+returns-in-Some g c =
+    let past : Past = past_of c.self.inside.entries.items in
+    let setting : Setting = setting_of c.self.inside in
+    let found = rw (c.as_slice.ensures.value, c.flags.ensures.value, c.in-Some.is) at c.in_ok-found.ensures in
+    let at = item_at c.self.inside.rows.items c.in-Some.landing.index found.inside in
+    let row : Row g.row.T.Denot = at.0 in
+    let landing = subst (λ (r : Row g.row.T.Denot). IsLanding setting.options.flags c.args.server c.args.link c.args.bytes.now r c.in-Some.landing) (at.1 row) (found.is row) in
+    let landed = landed_says setting c.args.server c.args.link c.args.bytes.now row c.in-Some.landing.judged landing.judged in
+    let what : What = Arrive c.args.server c.args.link c.args.bytes.now in
+    let entry : Entry = record { seat = c.args.seat; by = 0; what = what } in
+    let added : c.push_reserved.new.self.items ≡ c.self.inside.entries.items ++ entry ∷ [] = rw (c.push_reserved.ensures.items, c.make_room.ensures.items, c.in_ok-kept.ensures) refl in
+    let stands = stands_at g.T.Token.plan setting past c.self.inside.rows.items c.self.inside.ready.items c.self.invariant.stands c.in-Some.landing.index row found.inside (sym (at.1 row)) in
+    let means : Arrives c.args.server c.args.link c.args.bytes.now (Ok (Matched c.in-Some.landing.number c.in-Some.landing.leg_number)) setting past (Some what) = (
+      refl,
+      matched_closes g.T.Token.plan setting past c.args.server c.args.link c.args.bytes.now row c.in-Some.landing.judged (leg_of c.in-Some.landing.number c.in-Some.landing.leg_number) c.self.invariant.lawful.allowed stands landing.own landing.judged,
+    ) in
+    rw (← c.self.view_is) (happens_one g.T.Token.plan (Arrives c.args.server c.args.link c.args.bytes.now (Ok (Matched c.in-Some.landing.number c.in-Some.landing.leg_number))) c.self.inside _ c.args.seat 0 what refl added (invariant_of-self-in-Some g c) means)

@@ -1,0 +1,119 @@
+use Rattle.std.proofs.Common.{refl, sym, ap, arith, ◌≡◌, ◌∙◌, ◌+◌, ◌<◌, ◌^◌, ◌==◌, None, List, [], ◌∷◌, ◌++◌, Ok, length, subst, get_or, true, ℕ}
+use Rattle.std.proofs.lemmas.List.{get_or_read}
+use Rattle.std.specs.List.{list_any}
+use Rattle.chan_types.specs.declared.journal.Entry.{Entry}
+use Rattle.chan_types.specs.declared.journal.What.TheVariants.{Expire}
+use Rattle.channel_model.specs.Choice.{Failing}
+use Rattle.channel_model.specs.Flight.{flight}
+use Rattle.channel_model.specs.Journal.{Past, past_of}
+use Rattle.channel_model.specs.Lawful.{MayExpire, least}
+use Rattle.channel_model.specs.Legs.{Leg, leg_of}
+use Rattle.channel_model.specs.Meanings.{Expires}
+use Rattle.channel_model.specs.Setting.{Setting}
+use Rattle.channel_model.specs.declared.answers.Lapse.TheVariants.{Expired, NotDue}
+use Rattle.query_machine.specs.Servers.{one_more, recounted}
+use Rattle.channel_table.proofs.Attempts.{attempts_are, list_few, list_some}
+use Rattle.channel_table.proofs.FailureSteps.{counted_expired, past_of-length}
+use Rattle.channel_table.proofs.Keeping.{few_closed, happens_nothing, happens_one, happens_same, kept_more, no_more}
+use Rattle.channel_table.proofs.Lapsing.{expires_failed, found_says, table_expired}
+use Rattle.channel_table.proofs.RowAt.{counted_at_row, flight_at, in_flight_of}
+use Rattle.channel_table.proofs.Telling.{first_due_rows}
+use Rattle.channel_table.specs.Counted.{AreCounted}
+use Rattle.channel_table.specs.Ends.{server_in}
+use Rattle.channel_table.specs.Kept.{setting_of}
+use Rattle.channel_table.specs.Legs.{attempt_of}
+use Rattle.channel_table.specs.Rows.{flying_of, leg_of_row}
+use Rattle.channel_table.specs.Soonest.{due_of_row}
+use Rattle.channel_table.specs.declared.row.Row.{Row}
+use Rattle.channel_table.proofs.table.Table.expire.Goals as goal
+
+pub most_attempts-most-requires-clause-some : goal.most_attempts-most-requires-clause-some
+most_attempts-most-requires-clause-some g c =
+    list_some (setting_of c.self.inside) (past_of c.self.inside.entries.items) c.self.inside.list c.self.inside.servers c.self.inside.greatest_key c.self.inside.greatest_link c.self.inside.started c.self.invariant.counted c.self.invariant.limits c.self.invariant.lawful.allowed
+
+pub most_attempts-most-requires-clause-few : goal.most_attempts-most-requires-clause-few
+most_attempts-most-requires-clause-few g c =
+    list_few (setting_of c.self.inside) (past_of c.self.inside.entries.items) c.self.inside.list c.self.inside.servers c.self.inside.greatest_key c.self.inside.greatest_link c.self.inside.started c.self.invariant.counted c.self.invariant.limits c.self.invariant.lawful.allowed
+
+pub returns-in_err-make_room-in-Some : goal.returns-in_err-make_room-in-Some
+returns-in_err-make_room-in-Some g c =
+    let told = first_due_rows g.T.Token.plan (setting_of c.self.inside) (past_of c.self.inside.entries.items) c.self.inside.rows.items c.self.inside.ready.items c.self.invariant.stands in
+    let is = told ∙ (rw c.as_slice.ensures.value at c.in-Some.ensures).1 in
+    rw (← c.self.view_is) (happens_same g.T.Token.plan (Expires c.args.at c.from_residual.result) c.self.inside c.make_room.new.entries.items c.args.seat 0 c.make_room.ensures.items c.self.invariant
+    (expires_failed c.args.at c.from_residual.result (setting_of c.self.inside) (past_of c.self.inside.entries.items) c.from_residual.ensures.0 (rw is c.if-first-at.true)))
+
+pub failed-requires : goal.failed-requires
+failed-requires g c =
+    let past : Past = past_of c.self.inside.entries.items in
+    let setting : Setting = setting_of c.self.inside in
+    let found = rw c.as_slice.ensures.value at c.in-Some.ensures in
+    let row : Row g.row.T.Denot = c.index.result.now in
+    let same = get_or_read c.self.inside.rows.items c.in-Some.first.index row found.0.inside c.index.ensures row in
+    let is = found_says row c.in-Some.first (flying_of row) refl (ap due_of_row same ∙ found.0.is_due row) in
+    let server = c.server_of-server.ensures ∙ ap server_in is.flies in
+    let there = counted_at_row g.T.Token.plan setting past c.self.inside.rows.items c.self.inside.ready.items c.self.invariant.stands c.in-Some.first.index row found.0.inside same is.flying is.flies
+    c.self.inside.list c.self.inside.servers c.self.inside.greatest_key c.self.inside.greatest_link c.self.inside.started c.self.invariant.counted c.self.invariant.limits c.self.invariant.lawful.allowed in
+    record { there = subst (λ (s : ℕ). list_any (λ (item : Failing). item.server == s) c.self.inside.servers ≡ true) (sym server) there }
+
+pub end_row-requires-clause-flies : goal.end_row-requires-clause-flies
+end_row-requires-clause-flies g c = λ d.
+    let found = rw c.as_slice.ensures.value at c.in-Some.ensures in
+    let row = get_or c.self.inside.rows.items c.in-Some.first.index d in
+    let is = found_says row c.in-Some.first (flying_of row) refl (found.0.is_due d) in
+    in_flight_of row.leg.phase is.flying is.flies
+
+pub invariant_of-self-then-first-at : goal.invariant_of-self-then-first-at
+invariant_of-self-then-first-at g c =
+    let past : Past = past_of c.self.inside.entries.items in
+    let setting : Setting = setting_of c.self.inside in
+    let found = rw c.as_slice.ensures.value at c.in-Some.ensures in
+    let row : Row g.row.T.Denot = c.index.result.now in
+    let same = get_or_read c.self.inside.rows.items c.in-Some.first.index row found.0.inside c.index.ensures row in
+    let is = found_says row c.in-Some.first (flying_of row) refl (ap due_of_row same ∙ found.0.is_due row) in
+    let server = c.server_of-server.ensures ∙ ap server_in is.flies in
+    let told = first_due_rows g.T.Token.plan setting past c.self.inside.rows.items c.self.inside.ready.items c.self.invariant.stands in
+    let may : MayExpire setting past (leg_of c.in-Some.first.number c.in-Some.first.leg_number) c.args.at = record { due_at = c.in-Some.first.at; first = told ∙ found.1; due = c.if-first-at.true } in
+    let ends = rw c.new.ensures at c.end_row.ensures.ends in
+    let due = ap due_of_row (sym (ends.is ends.row)) ∙ found.0.is_due ends.row in
+    let room = c.in_ok-make_room-in-Some.ensures in
+    let entry : Entry = record { seat = c.args.seat; by = 0; what = Expire c.in-Some.first.number c.in-Some.first.leg_number c.args.at } in
+    let flies = flight_at g.T.Token.plan setting past c.self.inside.rows.items c.self.inside.ready.items c.self.invariant.stands c.in-Some.first.index row found.0.inside same is.flying is.flies in
+    let small : length past + 1 < 2 ^ 64 = omega (arith, past_of-length c.self.inside.entries.items, c.push_reserved.ensures.len, c.make_room.ensures.len) in
+    let counted = counted_expired setting past c.in-Some.first.number c.in-Some.first.leg_number c.args.at c.self.inside.list c.self.inside.servers c.self.inside.greatest_key c.self.inside.greatest_link c.self.inside.started (attempt_of (leg_of_row row) is.flying) small
+    (ap (λ (l : Leg). flight setting l past) is.own ∙ flies) (sym is.own) c.self.invariant.counted in
+    let may_spend = attempts_are setting past c.self.inside.list c.self.inside.servers c.self.inside.greatest_key c.self.inside.greatest_link c.self.inside.started c.self.invariant.counted c.self.invariant.limits c.self.invariant.lawful.allowed ∙ sym c.most_attempts-most.ensures.value in
+    kept_more g.T.Token.plan c.self.inside _ entry refl (c.push_reserved.ensures.items ∙ ap (λ es. es ++ entry ∷ []) c.make_room.ensures.items) c.self.invariant may
+    (table_expired g.T.Token.plan setting past c.in-Some.first c.args.at c.most_attempts-most.result c.self.inside.rows.items c.end_row.new.rows.items c.self.inside.ready.items c.end_row.new.ready.items
+    c.self.invariant.lawful.allowed ends due may_spend c.most_attempts-most.ensures.few c.self.invariant.stands)
+    (subst (λ (s : List Failing). AreCounted setting (Expire c.in-Some.first.number c.in-Some.first.leg_number c.args.at ∷ past) c.self.inside.list s c.self.inside.greatest_key c.self.inside.greatest_link c.self.inside.started)
+    (sym (c.failed.ensures ∙ ap (λ (k : ℕ). recounted k one_more c.self.inside.servers) server)) counted)
+    (no_more (Expire c.in-Some.first.number c.in-Some.first.leg_number c.args.at) past refl ∙ c.self.invariant.accepts) c.self.invariant.destroyed
+    (omega (arith, c.self.invariant.few, c.push_reserved.ensures.len, c.make_room.ensures.len)) (omega (arith, c.self.invariant.few_links, c.push_reserved.ensures.len, c.make_room.ensures.len)) (omega (arith, c.self.invariant.few_starts, c.push_reserved.ensures.len, c.make_room.ensures.len))
+    (omega (arith, room.room, c.len.ensures, c.len-in-Some.ensures, c.make_room.ensures.len, c.push_reserved.ensures.len, c.push_reserved.ensures.capacity, c.end_row.ensures.fewer, c.end_row.ensures.len, few_closed c.self.inside.closed))
+    (omega (arith, c.self.invariant.room_ready, c.end_row.ensures.len, c.end_row.ensures.capacity))
+
+pub returns-in_ok-make_room-in-Some : goal.returns-in_ok-make_room-in-Some
+returns-in_ok-make_room-in-Some g c =
+    let past : Past = past_of c.self.inside.entries.items in
+    let setting : Setting = setting_of c.self.inside in
+    let found = rw c.as_slice.ensures.value at c.in-Some.ensures in
+    let told = first_due_rows g.T.Token.plan setting past c.self.inside.rows.items c.self.inside.ready.items c.self.invariant.stands in
+    let may : MayExpire setting past (leg_of c.in-Some.first.number c.in-Some.first.leg_number) c.args.at = record { due_at = c.in-Some.first.at; first = told ∙ found.1; due = c.if-first-at.true } in
+    rw (← c.self.view_is) (happens_one g.T.Token.plan (Expires c.args.at (Ok (Expired c.in-Some.first.number c.in-Some.first.leg_number))) c.self.inside _ c.args.seat 0 (Expire c.in-Some.first.number c.in-Some.first.leg_number c.args.at) refl
+    (c.push_reserved.ensures.items ∙ ap (λ es. es ++ record { seat = c.args.seat; by = 0; what = Expire c.in-Some.first.number c.in-Some.first.leg_number c.args.at } ∷ []) c.make_room.ensures.items) (invariant_of-self-then-first-at g c) (refl, may))
+
+pub returns-in-Some-2 : goal.returns-in-Some-2
+returns-in-Some-2 g c =
+    let past : Past = past_of c.self.inside.entries.items in
+    let told = first_due_rows g.T.Token.plan (setting_of c.self.inside) past c.self.inside.rows.items c.self.inside.ready.items c.self.invariant.stands in
+    let is = told ∙ (rw c.as_slice.ensures.value at c.in-Some.ensures).1 in
+    let means : Expires c.args.at (Ok NotDue) (setting_of c.self.inside) past None = (refl, rw is c.if-first-at.false) in
+    rw (← c.self.view_is) (happens_nothing g.T.Token.plan (Expires c.args.at (Ok NotDue)) c.self.inside c.args.seat 0 c.self.invariant means)
+
+pub returns-in-None : goal.returns-in-None
+returns-in-None g c =
+    let past : Past = past_of c.self.inside.entries.items in
+    let told = first_due_rows g.T.Token.plan (setting_of c.self.inside) past c.self.inside.rows.items c.self.inside.ready.items c.self.invariant.stands in
+    let none = told ∙ ap least (rw c.as_slice.ensures.value at c.in-None.ensures) in
+    let means : Expires c.args.at (Ok NotDue) (setting_of c.self.inside) past None = (refl, rw none tt) in
+    rw (← c.self.view_is) (happens_nothing g.T.Token.plan (Expires c.args.at (Ok NotDue)) c.self.inside c.args.seat 0 c.self.invariant means)

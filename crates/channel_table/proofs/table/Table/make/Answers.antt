@@ -1,0 +1,25 @@
+use Rattle.std.proofs.Common.{◌≡◌, ◌-◌, arith, refl, sym, ap, length, ◌∙◌, []}
+use Rattle.channel_model.specs.Servers.{keyed_from}
+use Rattle.resolv_options.specs.Values.{OptionValues}
+use Rattle.channel_table.proofs.Counting.{counted_first}
+use Rattle.channel_table.proofs.table.Table.make.Goals as goal
+
+pub invariant_of-result-2 : goal.invariant_of-result-2
+invariant_of-result-2 g c =
+    let none : c.in_ok-with_capacity.field-0.items ≡ [] = c.in_ok-with_capacity.ensures.items in
+    let same = ap (λ (o : OptionValues). o.servers) (sym c.options.view_is) in
+    let count = c.len-count.ensures ∙ ap length (c.servers.ensures.value ∙ same) in
+    record {
+      limits = c.options.invariant;
+      lawful = rw none (record { allowed = tt });
+      stands = rw (none, c.new.ensures.items, c.new-2.ensures.items) (record { stand = record { pending_are = refl; ready_are = refl; flying_are = record { as_many = λ test. refl } }; each_row = tt; each_ticket = tt });
+      counted = rw none (counted_first _ c.in_ok-list.list c.in_ok-servers.servers (c.len-count.result - 1) c.len-count.result c.options.invariant
+          (c.in_ok-list.ensures ∙ ap (keyed_from 0) (c.as_slice.ensures ∙ c.servers-2.ensures.value ∙ same)) c.in_ok-servers.ensures count (omega (arith, count, c.options.invariant.some_server)));
+      accepts = rw none refl;
+      destroyed = rw none refl;
+      few = omega arith;
+      few_links = omega arith;
+      few_starts = omega arith;
+      room = omega (arith, c.in_ok-with_capacity.ensures.len, c.in_ok-with_capacity.ensures.capacity, c.new.ensures.len, c.new-2.ensures.len);
+      room_ready = omega (arith, c.new.ensures.len, c.new-2.ensures.len);
+    }

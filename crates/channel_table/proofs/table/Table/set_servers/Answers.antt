@@ -1,0 +1,115 @@
+use Rattle.std.proofs.Common.{refl, sym, ap, ap₂, arith, subst, ◌≡◌, ◌∙◌, ◌-◌, ◌^◌, ◌≤◌, Some, Ok, List, [], ◌∷◌, ◌++◌, length, map, false, count_by}
+use Rattle.std.specs.Prelude.{filter, not}
+use Rattle.chan_types.specs.declared.journal.Entry.{Entry}
+use Rattle.chan_types.specs.declared.journal.What.{What}
+use Rattle.chan_types.specs.declared.journal.What.TheVariants.{Servers}
+use Rattle.chan_types.specs.declared.server_key.ServerKey.{ServerKey}
+use Rattle.channel_model.specs.Flight.{Attempt, in_flight}
+use Rattle.channel_model.specs.Journal.{Past, is_destroyed, past_of}
+use Rattle.channel_model.specs.Lawful.{MaySet}
+use Rattle.channel_model.specs.Meanings.{SetsServers}
+use Rattle.channel_model.specs.Servers.{greatest_key, greatest_of, has_key, keys_for, rekeyed}
+use Rattle.channel_model.specs.Setting.{Setting}
+use Rattle.channel_table.proofs.Keeping.{few_closed, happens_by, happens_same, kept_more, no_more}
+use Rattle.channel_table.proofs.Listing.{counted_set, keys_apart, may_become, set_count, sets_failed, set_length, table_set}
+use Rattle.channel_table.specs.Kept.{setting_of}
+use Rattle.channel_table.specs.Listing.{has_left, row_set}
+use Rattle.channel_table.specs.declared.row.Row.{Row}
+use Rattle.channel_table.proofs.table.Table.set_servers.Goals as goal
+
+pub renew-requires-clause-some : goal.renew-requires-clause-some
+renew-requires-clause-some g c =
+    let past : Past = past_of c.self.inside.entries.items in
+    let setting : Setting = setting_of c.self.inside in
+    let addresses = c.args.servers.now in
+    let list : List ServerKey = c.in_ok-list.list in
+    let is : list ≡ keys_for setting addresses past = c.in_ok-list.ensures ∙ ap₂ (rekeyed addresses) (c.as_slice.ensures ∙ sym c.self.invariant.counted.listed) (sym c.self.invariant.counted.keyed) in
+    omega (arith, set_length setting past addresses list is, c.requires.some)
+
+pub renew-requires-clause-few : goal.renew-requires-clause-few
+renew-requires-clause-few g c =
+    let past : Past = past_of c.self.inside.entries.items in
+    let setting : Setting = setting_of c.self.inside in
+    let addresses = c.args.servers.now in
+    let list : List ServerKey = c.in_ok-list.list in
+    let is : list ≡ keys_for setting addresses past = c.in_ok-list.ensures ∙ ap₂ (rekeyed addresses) (c.as_slice.ensures ∙ sym c.self.invariant.counted.listed) (sym c.self.invariant.counted.keyed) in
+    omega (arith, set_length setting past addresses list is, c.requires.few)
+
+pub renew-requires-clause-apart : goal.renew-requires-clause-apart
+renew-requires-clause-apart g c =
+    let past : Past = past_of c.self.inside.entries.items in
+    let setting : Setting = setting_of c.self.inside in
+    let addresses = c.args.servers.now in
+    let list : List ServerKey = c.in_ok-list.list in
+    let is : list ≡ keys_for setting addresses past = c.in_ok-list.ensures ∙ ap₂ (rekeyed addresses) (c.as_slice.ensures ∙ sym c.self.invariant.counted.listed) (sym c.self.invariant.counted.keyed) in
+    keys_apart setting past addresses list is
+
+pub invariant_of-self-in_err-renew : goal.invariant_of-self-in_err-renew
+invariant_of-self-in_err-renew g c =
+    let items = c.make_room.ensures.items in
+    record {
+      limits = c.self.invariant.limits;
+      lawful = rw items c.self.invariant.lawful;
+      stands = rw items c.self.invariant.stands;
+      counted = rw (items, c.in_err-renew.ensures.err) c.self.invariant.counted;
+      accepts = rw items c.self.invariant.accepts;
+      destroyed = rw items c.self.invariant.destroyed;
+      few = omega (arith, c.self.invariant.few, c.make_room.ensures.len);
+      few_links = omega (arith, c.self.invariant.few_links, c.make_room.ensures.len);
+      few_starts = omega (arith, c.self.invariant.few_starts, c.make_room.ensures.len);
+      room = omega (arith, c.self.invariant.room, c.make_room.ensures.len, c.make_room.ensures.capacity);
+      room_ready = c.self.invariant.room_ready;
+    }
+
+pub returns-in_err-renew : goal.returns-in_err-renew
+returns-in_err-renew g c =
+    let past : Past = past_of c.self.inside.entries.items in
+    let setting : Setting = setting_of c.self.inside in
+    let open_ : is_destroyed past ≡ false = c.self.invariant.destroyed ∙ c.if-self.false in
+    let few : greatest_key setting past ≤ 2 ^ 32 - 9 = omega (arith, c.self.invariant.counted.keyed, c.if-self-gt-KEY_MOST.false) in
+    rw (← c.self.view_is) (happens_same g.T.Token.plan (SetsServers c.args.servers.now c.from_residual-in_err-renew.result) c.self.inside c.make_room.new.entries.items c.args.seat 0 c.make_room.ensures.items c.self.invariant
+    (sets_failed c.args.servers.now c.from_residual-in_err-renew.result setting past c.from_residual-in_err-renew.ensures.1 open_ few))
+
+pub invariant_of-self-2 : goal.invariant_of-self-2
+invariant_of-self-2 g c =
+    let past : Past = past_of c.self.inside.entries.items in
+    let setting : Setting = setting_of c.self.inside in
+    let addresses = c.args.servers.now in
+    let list : List ServerKey = c.in_ok-list.list in
+    let is : list ≡ keys_for setting addresses past = c.in_ok-list.ensures ∙ ap₂ (rekeyed addresses) (c.as_slice.ensures ∙ sym c.self.invariant.counted.listed) (sym c.self.invariant.counted.keyed) in
+    let open_ : is_destroyed past ≡ false = c.self.invariant.destroyed ∙ c.if-self.false in
+    let may = may_become setting past addresses list is open_ c.requires.some c.requires.few in
+    let what : What = Servers list in
+    let entry : Entry = record { seat = c.args.seat; by = 0; what = what } in
+    let added : c.push_reserved.new.self.items ≡ c.self.inside.entries.items ++ entry ∷ [] = rw (c.push_reserved.ensures.items, c.make_room.ensures.items, c.in_ok-kept.ensures, c.as_slice-2.ensures) refl in
+    let room = c.in_ok-make_room.ensures in
+    let rows : c.set_rows.new.rows.items ≡ map (row_set list) c.self.inside.rows.items = c.set_rows.ensures.items ∙ ap (λ (l : List ServerKey). map (row_set l) c.self.inside.rows.items) c.as_slice-5.ensures in
+    let greatest : c.greatest_of-self-inside.result ≡ greatest_of c.self.inside.greatest_key list = c.greatest_of-self-inside.ensures ∙ ap (greatest_of c.self.inside.greatest_key) c.as_slice-6.ensures in
+    let counted = counted_set setting past list c.self.inside.list c.self.inside.servers c.self.inside.greatest_key c.self.inside.greatest_link c.self.inside.started c.self.invariant.counted in
+    kept_more g.T.Token.plan c.self.inside _ entry refl added c.self.invariant may
+    (rw rows (table_set g.T.Token.plan setting past list c.self.inside.rows.items c.self.inside.ready.items c.self.invariant.stands))
+    (rw (c.in_ok-renew.ensures.ok, greatest) counted)
+    (no_more what past refl ∙ c.self.invariant.accepts) c.self.invariant.destroyed
+    (omega (arith, c.self.invariant.few, c.push_reserved.ensures.len, c.make_room.ensures.len))
+    (omega (arith, c.self.invariant.few_links, c.push_reserved.ensures.len, c.make_room.ensures.len))
+    (omega (arith, c.self.invariant.few_starts, c.push_reserved.ensures.len, c.make_room.ensures.len))
+    (omega (arith, room.room, c.len.ensures, c.len-2.ensures, c.make_room.ensures.len, c.push_reserved.ensures.len, c.push_reserved.ensures.capacity, c.set_rows.ensures.len, few_closed c.self.inside.closed))
+    (omega (arith, c.self.invariant.room_ready, c.set_rows.ensures.len))
+
+pub returns : goal.returns
+returns g c =
+    let past : Past = past_of c.self.inside.entries.items in
+    let setting : Setting = setting_of c.self.inside in
+    let addresses = c.args.servers.now in
+    let list : List ServerKey = c.in_ok-list.list in
+    let is : list ≡ keys_for setting addresses past = c.in_ok-list.ensures ∙ ap₂ (rekeyed addresses) (c.as_slice.ensures ∙ sym c.self.invariant.counted.listed) (sym c.self.invariant.counted.keyed) in
+    let open_ : is_destroyed past ≡ false = c.self.invariant.destroyed ∙ c.if-self.false in
+    let may = may_become setting past addresses list is open_ c.requires.some c.requires.few in
+    let what : What = Servers list in
+    let entry : Entry = record { seat = c.args.seat; by = 0; what = what } in
+    let added : c.push_reserved.new.self.items ≡ c.self.inside.entries.items ++ entry ∷ [] = rw (c.push_reserved.ensures.items, c.make_room.ensures.items, c.in_ok-kept.ensures, c.as_slice-2.ensures) refl in
+    let count : c.count_left-count.result ≡ count_by (has_left list) c.self.inside.rows.items = c.count_left-count.ensures ∙ ap₂ (λ (l : List ServerKey) (rs : List (Row g.row.T.Denot)). count_by (has_left l) rs) c.as_slice-4.ensures c.as_slice-3.ensures.value in
+    let told = count ∙ sym (set_count g.T.Token.plan setting past list c.self.inside.rows.items c.self.inside.ready.items c.self.invariant.stands) in
+    let means : SetsServers addresses (Ok c.count_left-count.result) setting past (Some what) = subst (λ (l : List ServerKey). SetsServers addresses (Ok c.count_left-count.result) setting past (Some (Servers l))) (sym is)
+    (refl, subst (MaySet setting past) is may, subst (λ (l : List ServerKey). c.count_left-count.result ≡ length (filter (λ (a : Attempt). not (has_key a.server l)) (in_flight setting past))) is told) in
+    rw (← c.self.view_is) (happens_by g.T.Token.plan (SetsServers addresses (Ok c.count_left-count.result)) c.self.inside c.push_reserved.new.self.items c.args.seat 0 what added c.self.invariant may means)

@@ -1,0 +1,7 @@
+use Rattle.std.proofs.Common.{◌≡◌, take}
+use Rattle.channel_model.specs.Servers.{keyed_from}
+use Rattle.channel_table.proofs.table.opening_list.Given as goal
+
+-- the servers before this index have their keys
+abbrev pub invariant-loop-index : goal.invariant-loop-index
+invariant-loop-index l = l.list.items ≡ keyed_from 0 (take l.index l.servers)

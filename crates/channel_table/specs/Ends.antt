@@ -1,0 +1,43 @@
+-- How rows and tickets follow the end of one row's attempt.
+use Rattle.std.specs.Prelude.{List, None, Option, Some, [], drop, get_or, if◌then◌else◌, length, take, ℕ, ◌*◌, ◌++◌, ◌+◌, ◌∷◌, ◌≡◌}
+use Rattle.chan_types.specs.declared.server_key.ServerKey.{ServerKey}
+use Rattle.chan_types.specs.declared.ticket.Ticket.{Ticket}
+use Rattle.channel_model.specs.declared.judged.Judged.{Judged}
+use Rattle.query_machine.specs.Legs.{IsInFlight, flying_in}
+use Rattle.query_machine.specs.declared.leg.Flying.{Flying}
+use Rattle.query_machine.specs.declared.leg.Leg as machine
+use Rattle.resolv_options.specs.declared.flags.Flags.{Flags}
+use Rattle.resolv_options.specs.declared.options.Options.{Options}
+use Rattle.channel_table.specs.After.{after}
+use Rattle.channel_table.specs.declared.row.After.{After}
+use Rattle.channel_table.specs.declared.row.After.TheVariants.{Ends, Stays}
+use Rattle.channel_table.specs.declared.row.Row.{Row}
+
+-- the row at this index has an attempt in flight
+abbrev pub FliesAt : {T : Type 0} → ℕ → List (Row T) → Type 0
+FliesAt index rows = (d : Row _) → IsInFlight (get_or rows index d).leg.phase
+
+-- the server of an attempt, or 0 where there is none
+abbrev pub server_in : Option Flying → ℕ
+server_in None = 0
+server_in (Some flying) = flying.server
+
+-- the server of a leg's attempt
+abbrev pub server_of : machine.Leg → ℕ
+server_of leg = server_in (flying_in leg.phase)
+
+-- how many attempts a leg may spend, where this is the list of servers
+abbrev pub attempts_with : Options → List ServerKey → ℕ
+attempts_with options list = length (if options.flags.primary then take 1 list else list) * options.tries
+
+-- between these rows one has become this
+abbrev pub Becomes : {T : Type 0} → List (Row T) → List (Row T) → List (Ticket T) → List (Row T) → List (Ticket T) → After T → Type 0
+Becomes before behind tickets new_rows new_tickets (Stays row) = (new_rows ≡ before ++ row ∷ behind) × (new_tickets ≡ tickets)
+Becomes before behind tickets new_rows new_tickets (Ends ticket) = (new_rows ≡ before ++ behind) × (new_tickets ≡ tickets ++ ticket ∷ [])
+
+-- the attempt of the row at this index has come to its end, which meant this and came with this reply
+pub record EndsRow {T : Type 0} (flags : Flags) (judged : Judged) (reply : List ℕ) (most index : ℕ) (rows : List (Row T)) (tickets : List (Ticket T)) (new_rows : List (Row T)) (new_tickets : List (Ticket T)) : Type 0 where
+  pub row : Row T
+  pub is : (d : Row T) → get_or rows index d ≡ row
+  pub parts : rows ≡ take index rows ++ row ∷ drop (index + 1) rows
+  pub becomes : Becomes (take index rows) (drop (index + 1) rows) tickets new_rows new_tickets (after flags judged reply most row)

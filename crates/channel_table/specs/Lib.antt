@@ -1,0 +1,15 @@
+pub mod Legs
+pub mod Searching
+pub mod Rows
+pub mod Counted
+pub mod Kept
+pub mod Soonest
+pub mod Opening
+pub mod Places
+pub mod After
+pub mod Ends
+pub mod Arriving
+pub mod Failing
+pub mod Starting
+pub mod Listing
+pub mod Calling

@@ -1,0 +1,56 @@
+-- What a request comes to at its Accept.
+use Rattle.std.specs.Prelude.{Bool, List, None, Option, Some, [], codes, false, true, ℕ, ◌∷◌, ◌≡◌}
+use Rattle.chan_types.specs.declared.spec.Spec.{Spec}
+use Rattle.chan_types.specs.declared.spec.Spec.TheVariants.{Address, Query, Reverse, Search}
+use Rattle.chan_types.specs.declared.status.Status.TheVariants.{BadName, NotFound}
+use Rattle.dns_message.specs.Name.{last_is}
+use Rattle.dns_message.specs.NameText.{name_text}
+use Rattle.dns_message.specs.Numbers.{class_in, kind_ptr}
+use Rattle.dns_message.specs.declared.message.Question.{Question}
+use Rattle.dns_message.specs.declared.name.Name.{Name}
+use Rattle.dns_message.specs.declared.name.NameText.{NameText}
+use Rattle.net_addr.specs.Reverse.{reverse_labels}
+use Rattle.resolv_options.specs.Search.{candidates}
+use Rattle.resolv_options.specs.declared.options.Options.{Options}
+use Rattle.channel_table.specs.declared.table.accepting.Opening.{Opening}
+use Rattle.channel_table.specs.declared.table.accepting.Opening.TheVariants.{Asks, Ends}
+
+-- the question is for the first of these names, and those are the others
+pub record AsksFirst (names : List Name) (kind class : ℕ) (question : Question) (rest : List Name) : Type 0 where
+  pub are : names ≡ question.name ∷ rest
+  pub of_kind : question.kind ≡ kind
+  pub of_class : question.class ≡ class
+
+-- the names are asked for, one after the other
+abbrev pub AreAsked : List Name → ℕ → ℕ → Opening → Type 0
+AreAsked names kind class (Asks question rest) = AsksFirst names kind class question rest
+AreAsked names kind class (Ends status) = ⊥
+
+-- a name comes to this: to its end where it is under `onion` (RFC 7686, section 2), else these names are asked for
+abbrev pub OpensName : List Name → Name → ℕ → ℕ → Opening → Type 0
+OpensName names name kind class (Asks question rest) = (last_is (codes "onion") name ≡ false) × AsksFirst names kind class question rest
+OpensName names name kind class (Ends status) = (last_is (codes "onion") name ≡ true) × (status ≡ NotFound)
+
+-- a text that was read as a name comes to what the name comes to, for which these names are asked for, and one that is no name ends at once
+abbrev pub OpensRead : (NameText → List Name) → Option (Name × Bool) → ℕ → ℕ → Opening → Type 0
+OpensRead names None kind class opening = opening ≡ Ends BadName
+OpensRead names (Some read) kind class opening = OpensName (names (record { name = read.0; absolute = read.1 })) read.0 kind class opening
+
+-- a text comes to this, with this kind and class
+abbrev pub OpensText : (NameText → List Name) → List ℕ → ℕ → ℕ → Opening → Type 0
+OpensText names text kind class opening = OpensRead names (name_text text) kind class opening
+
+-- for a name it alone is asked for
+abbrev pub itself : NameText → List Name
+itself text = text.name ∷ []
+
+-- for a name the candidates by the search list are asked for
+abbrev pub searched : Options → NameText → List Name
+searched options text = candidates text options
+
+-- a request whose candidates have one leg comes to this: that of an address asks for the name of its reverse mapping, by PTR records of the Internet class (RFC 1035, sections 3.2 and 3.5)
+abbrev pub Opens : Options → Spec → Opening → Type 0
+Opens options (Query name kind class) opening = OpensText itself name kind class opening
+Opens options (Search name kind class) opening = OpensText (searched options) name kind class opening
+Opens options (Address host family nosort) opening = ⊥
+Opens options (Reverse address) opening = opening ≡ Asks (record { name = reverse_labels address; kind = kind_ptr; class = class_in }) []

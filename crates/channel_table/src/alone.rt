@@ -1,0 +1,130 @@
+//! A channel with one owner.
+
+ghost use Rattle.std.specs.Prelude.{◌≡◌, [], IfOk, IsTrue};
+ghost use Rattle.channel_table.specs.Calling.{known_alone};
+ghost use Rattle.channel_table.specs.Rows.{HasOneLeg};
+
+use crate::table::Table;
+use chan_types::{Journal, NoMemory, Spec, Ticket, Token};
+use channel_model::{Begun, Counts, Desk, Landed, Lapse, Refused, SetFault};
+use hosts_file::Hosts;
+use net_addr::ServerAddr;
+use resolv_options::Options;
+use std::alloc::Global;
+use std::marker::Model;
+
+/// A channel with one owner, who has seat 0. Contracts see what he knows: the whole journal, which he made alone.
+#[derive(Drop)]
+pub struct Alone<T: Token> {
+    table: Table<T>,
+    voice: u64,
+}
+
+impl<T: Token> Model for Alone<T> {
+    ghost use Rattle.std.specs.Coded.{codes};
+    ghost use Rattle.chan_types.specs.PlanCode.{moves_code};
+    ghost use Rattle.channel_model.specs.Known.{Known};
+    ghost use Rattle.channel_table.specs.Calling.{known_alone};
+
+    ghost Value = { Known };
+
+    ghost coded = { Prim.hlevel (codes, moves_code) };
+
+    ghost view = { λ alone. known_alone alone.voice alone.table };
+}
+
+impl<T: Token> Alone<T> {
+    /// A channel without a request.
+    pub fn make(alloc: Global, options: Options, hosts: Hosts) -> Result<Alone<T>, NoMemory>
+        ensures { IfOk result (λ alone. alone
+            ≡ known_alone 0 (record { setting = record { options = options; hosts = hosts }; journal = [] })) }
+    {
+        Ok(Alone {
+            table: Table::make(alloc, options, hosts)?,
+            voice: 0,
+        })
+    }
+
+    /// The entries of accept, cancel and destroy are made on this request's command from now on, or on nobody's.
+    pub fn voice(&mut self, by: u64)
+        ensures { self.new ≡ record self.old { voice = by } }
+    {
+        self.voice = by;
+    }
+
+    /// The journal.
+    pub fn close(self) -> Journal
+        ensures { result ≡ self.seen }
+    {
+        self.table.close()
+    }
+}
+
+impl<T: Token> Desk for Alone<T> {
+    type Token = T;
+
+    ghost known = { λ alone. alone };
+
+    /// Accepts a request. One for addresses is refused as for want of memory, until the table has its two legs.
+    fn accept(&mut self, spec: Spec, token: T) -> Result<u64, Refused<T>> {
+        if has_one_leg(&spec) {
+            self.table.accept(0, self.voice, spec, token)
+        } else {
+            self.table.refuse(0, self.voice, spec, token)
+        }
+    }
+
+    fn cancel(&mut self) -> u64 {
+        self.table.cancel(0, self.voice)
+    }
+
+    fn destroy(&mut self) -> bool {
+        self.table.destroy(0, self.voice)
+    }
+
+    fn take(&mut self) -> Option<Ticket<T>> {
+        self.table.take(0)
+    }
+
+    fn start(&mut self, word: u16, mix: u16, at: u64) -> Result<Begun, NoMemory> {
+        self.table.start(0, word, mix, at)
+    }
+
+    fn arrive(&mut self, server: u32, link: u64, bytes: &[u8]) -> Result<Landed, NoMemory> {
+        self.table.arrive(0, server, link, bytes)
+    }
+
+    fn expire(&mut self, at: u64) -> Result<Lapse, NoMemory> {
+        self.table.expire(0, at)
+    }
+
+    fn fault(&mut self, server: u32, link: u64, at: u64) -> Result<u64, NoMemory> {
+        self.table.fault(0, server, link, at)
+    }
+
+    fn next_due(&mut self) -> Option<u64> {
+        self.table.next_due()
+    }
+
+    fn counts(&mut self) -> Counts {
+        self.table.counts()
+    }
+
+    fn link_busy(&mut self, server: u32, link: u64) -> bool {
+        self.table.link_busy(server, link)
+    }
+
+    fn set_servers(&mut self, servers: &[ServerAddr]) -> Result<u64, SetFault> {
+        self.table.set_servers(0, servers)
+    }
+}
+
+/// Each candidate of the request has one leg.
+fn has_one_leg(spec: &Spec) -> bool
+    ensures { IsTrue result → HasOneLeg spec.now }
+{
+    match spec {
+        Spec::Query { .. } | Spec::Search { .. } | Spec::Reverse { .. } => true,
+        Spec::Address { .. } => false,
+    }
+}

@@ -1,0 +1,13 @@
+//! The table of a channel: its requests, and the journal of what happened.
+#![tactic(auto)]
+
+mod alone;
+mod row;
+mod table;
+
+pub use alone::Alone;
+pub use row::Row;
+pub use table::Table;
+
+#[cfg(test)]
+mod tests;

@@ -1,0 +1,118 @@
+//! The table of a channel.
+
+ghost use Rattle.std.specs.Prelude.{◌≡◌, ◌≤◌, [], IfOk, length};
+ghost use Rattle.channel_model.specs.Servers.{keyed_from};
+
+mod accepting;
+mod counting;
+mod ending;
+mod failing;
+mod landing;
+mod listing;
+mod moving;
+mod seeking;
+mod starting;
+mod taking;
+
+use crate::row::Row;
+use chan_types::{Entry, Journal, KeyList, NoMemory, ServerKey, Ticket, Token};
+use hosts_file::Hosts;
+use net_addr::ServerAddr;
+use query_machine::Servers;
+use resolv_options::Options;
+use std::alloc::Global;
+use std::marker::Model;
+
+/// What the requests of a channel have come to, and its journal. Contracts see its setting and its journal: what its
+/// calls answer is what the journal means.
+#[derive(Drop)]
+pub struct Table<T: Token> {
+    alloc: Global,
+    options: Options,
+    hosts: Hosts,
+    entries: Vec<Entry>,
+    /// The pending requests, by number.
+    rows: Vec<Row<T>>,
+    /// The completed requests that weren't taken, in the order of their completion.
+    ready: Vec<Ticket<T>>,
+    /// The servers with their keys, in the order of the list.
+    list: KeyList,
+    /// The counts of their failures.
+    servers: Servers,
+    /// The greatest key that was given.
+    greatest_key: u32,
+    /// The greatest link that was given.
+    greatest_link: u64,
+    /// How many legs have had an attempt.
+    started: u64,
+    /// How many requests were accepted.
+    accepted: u64,
+    /// The channel was destroyed.
+    closed: bool,
+}
+
+impl<T: Token> Model for Table<T> {
+    ghost use Rattle.std.specs.Coded.{codes};
+    ghost use Rattle.chan_types.specs.PlanCode.{moves_code};
+    ghost use Rattle.channel_model.specs.Seen.{Seen};
+
+    ghost Value = { Seen };
+
+    ghost coded = { Prim.hlevel (codes, moves_code) };
+
+    ghost use Rattle.channel_table.specs.Kept.{seen_of, IsKept};
+
+    ghost view = { seen_of };
+
+    ghost invariant = { IsKept T.plan };
+}
+
+impl<T: Token> Table<T> {
+    /// A table without a request. It has the room for its Destroy.
+    pub fn make(alloc: Global, options: Options, hosts: Hosts) -> Result<Table<T>, NoMemory>
+        ensures { IfOk result (λ table. table
+            ≡ record { setting = record { options = options; hosts = hosts }; journal = [] }) }
+    {
+        let count = options.servers().len() as u32;
+        let list = opening_list(alloc, options.servers().as_slice())?;
+        let servers = Servers::make(alloc, count)?;
+        Ok(Table {
+            alloc,
+            options,
+            hosts,
+            entries: Vec::with_capacity(alloc, 1)?,
+            rows: Vec::new(alloc),
+            ready: Vec::new(alloc),
+            list,
+            servers,
+            greatest_key: count - 1,
+            greatest_link: 0,
+            started: 0,
+            accepted: 0,
+            closed: false,
+        })
+    }
+
+    /// The journal.
+    pub fn close(self) -> Journal
+        ensures { result ≡ self.journal }
+    {
+        let Table { entries, .. } = self;
+        Journal::from_vec(entries)
+    }
+}
+
+/// The servers with which a channel is made, with the keys from 0 on.
+fn opening_list(alloc: Global, servers: &[ServerAddr]) -> Result<KeyList, NoMemory>
+    requires few { length servers.now ≤ 8 }
+    ensures { IfOk result (λ list. list ≡ keyed_from 0 servers.now) }
+{
+    let mut list = Vec::with_capacity(alloc, servers.len())?;
+    for index in 0..servers.len() {
+        list.push(ServerKey {
+            key: index as u32,
+            address: servers[index],
+        })?;
+    }
+    Ok(KeyList::from_vec(list))
+}

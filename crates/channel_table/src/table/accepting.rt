@@ -1,0 +1,281 @@
+//! Accepting a request: what it comes to, and the room that its later entries need.
+
+ghost use Rattle.std.specs.Prelude.{◌≡◌, ◌≢◌, ◌+◌, ◌*◌, ◌≤◌, [], ◌∷◌, IfOk, OnOk, vec_len, vec_capacity};
+ghost use Rattle.channel_model.specs.Meanings.{Accepts};
+ghost use Rattle.channel_table.specs.Opening.{AreAsked, Opens, OpensName, OpensText, itself, searched};
+ghost use Rattle.channel_table.specs.Places.{Places};
+ghost use Rattle.channel_table.specs.Rows.{HasOneLeg};
+ghost use Rattle.channel_model.specs.Seen.{Happens};
+
+use super::Table;
+use crate::row::{Row, ticket_of};
+use chan_types::{
+    Bytes, Call, Entry, NoMemory, Refusal, Script, Spec, Status, Ticket, Token, What,
+};
+use channel_model::Refused;
+use dns_message::numbers::{CLASS_IN, KIND_PTR};
+use dns_message::{Name, NameFault, NameList, NameText, Question};
+use net_addr::reverse_name;
+use query_machine::Leg;
+use resolv_options::{Options, candidates};
+use std::alloc::Global;
+
+/// The last label of the names that aren't asked (RFC 7686, section 2).
+const ONION: &[u8] = b"onion";
+
+/// What a request comes to at its Accept: the question of its first candidate and the names of the others, or its status
+/// at once.
+#[derive(Drop)]
+pub enum Opening {
+    Asks(Question, NameList),
+    Ends(Status),
+}
+
+/// What an accept needs, made before anything changes.
+#[derive(Drop)]
+struct Prepared {
+    opening: Opening,
+    script: Script,
+    call: Call,
+}
+
+impl<T: Token> Table<T> {
+    /// Accepts a request, and answers its number. A text that can't be asked is accepted too, and completes at once.
+    pub fn accept(&mut self, seat: u64, by: u64, spec: Spec, token: T) -> Result<u64, Refused<T>>
+        requires { HasOneLeg spec }
+        ensures { Happens (Accepts T.plan spec token result) seat by self.old self.new }
+    {
+        if self.closed {
+            return Err(Refused {
+                why: Refusal::Closed,
+                spec,
+                token,
+            });
+        }
+        match prepare(
+            self.alloc,
+            &self.options,
+            &mut self.entries,
+            &mut self.rows,
+            &mut self.ready,
+            &spec,
+            &token,
+        ) {
+            Ok(prepared) => {
+                let Prepared {
+                    opening,
+                    script,
+                    call,
+                } = prepared;
+                let number = self.accepted + 1;
+                self.entries.push_reserved(Entry {
+                    seat,
+                    by,
+                    what: What::Accept {
+                        number,
+                        spec,
+                        script,
+                    },
+                });
+                self.accepted = number;
+                place(
+                    self.alloc,
+                    &self.options,
+                    &mut self.rows,
+                    &mut self.ready,
+                    opening,
+                    number,
+                    token,
+                    call,
+                );
+                Ok(number)
+            }
+            Err(NoMemory) => Err(Refused {
+                why: Refusal::NoMemory,
+                spec,
+                token,
+            }),
+        }
+    }
+
+    /// Refuses a request: as closed where the channel was destroyed, and else as for want of memory.
+    pub(crate) fn refuse(
+        &mut self,
+        seat: u64,
+        by: u64,
+        spec: Spec,
+        token: T,
+    ) -> Result<u64, Refused<T>>
+        ensures { Happens (Accepts T.plan spec token result) seat by self.old self.new }
+    {
+        let closed = self.closed;
+        let why = if closed {
+            Refusal::Closed
+        } else {
+            Refusal::NoMemory
+        };
+        Err(Refused { why, spec, token })
+    }
+}
+
+/// What an accept needs, and room for its entry, for those that its request may need, and for its row or its ticket.
+fn prepare<T: Token>(
+    alloc: Global,
+    options: &Options,
+    entries: &mut Vec<Entry>,
+    rows: &mut Vec<Row<T>>,
+    ready: &mut Vec<Ticket<T>>,
+    spec: &Spec,
+    token: &T,
+) -> Result<Prepared, NoMemory>
+    requires one_leg { HasOneLeg spec.now }
+    requires room { 2 * vec_len rows.old + vec_len ready.old ≤ vec_capacity entries.old }
+    ensures opening { IfOk result (λ prepared. Opens options.now spec.now prepared.opening) }
+    ensures script { IfOk result (λ prepared. prepared.script ≡ T.plan token.now) }
+    ensures room { OnOk result (vec_len entries.new + 2 * vec_len rows.new + vec_len ready.new + 4 ≤ vec_capacity entries.new) }
+    ensures room_rows { OnOk result (vec_len rows.new + 1 ≤ vec_capacity rows.new) }
+    ensures room_ready { OnOk result (vec_len rows.new + vec_len ready.new + 1 ≤ vec_capacity ready.new) }
+    ensures same { (entries.new.items ≡ entries.old.items) × (rows.new.items ≡ rows.old.items)
+        × (ready.new.items ≡ ready.old.items) }
+    ensures lens { (vec_len entries.new ≡ vec_len entries.old)
+        × (vec_len rows.new ≡ vec_len rows.old) × (vec_len ready.new ≡ vec_len ready.old) }
+    ensures capacities { (vec_capacity entries.old ≤ vec_capacity entries.new)
+        × (vec_capacity ready.old ≤ vec_capacity ready.new) }
+{
+    let opening = opening_of(alloc, options, spec)?;
+    let script = token.script().copy(alloc)?;
+    let call = Call::make(alloc)?;
+    rows.reserve(1)?;
+    ready.reserve(rows.len() + 1)?;
+    entries.reserve(2 * rows.len() + ready.len() + 4)?;
+    Ok(Prepared {
+        opening,
+        script,
+        call,
+    })
+}
+
+/// Puts the request of this number among the pending ones, or among the ready ones. It takes no memory.
+fn place<T: Token>(
+    alloc: Global,
+    options: &Options,
+    rows: &mut Vec<Row<T>>,
+    ready: &mut Vec<Ticket<T>>,
+    opening: Opening,
+    number: u64,
+    token: T,
+    call: Call,
+)
+    requires room_rows { vec_len rows.old + 1 ≤ vec_capacity rows.old }
+    requires room_ready { vec_len rows.old + vec_len ready.old + 1 ≤ vec_capacity ready.old }
+    ensures places { Places options.now.flags number token rows.old.items rows.new.items ready.old.items ready.new.items opening }
+    ensures most { vec_len rows.new ≤ vec_len rows.old + 1 }
+    ensures len { vec_len rows.new + vec_len ready.new ≡ vec_len rows.old + vec_len ready.old + 1 }
+    ensures capacity { vec_capacity ready.new ≡ vec_capacity ready.old }
+{
+    let leg = Leg::new(options);
+    match opening {
+        Opening::Asks(question, names) => rows.push_reserved(Row {
+            number,
+            leg_number: 0,
+            question,
+            names,
+            empty: false,
+            leg,
+            begun: false,
+            token,
+            call,
+        }),
+        Opening::Ends(status) => {
+            ready.push_reserved(ticket_of(alloc, number, status, Bytes::new(alloc), token, call));
+        }
+    }
+}
+
+/// What a request whose candidates have one leg asks, or how it ends at once.
+fn opening_of(alloc: Global, options: &Options, spec: &Spec) -> Result<Opening, NoMemory>
+    requires { HasOneLeg spec.now }
+    ensures { IfOk result (Opens options.now spec.now) }
+{
+    match spec {
+        Spec::Query { name, kind, class } => question_of(alloc, name.as_slice(), *kind, *class),
+        Spec::Search { name, kind, class } => {
+            search_of(alloc, options, name.as_slice(), *kind, *class)
+        }
+        Spec::Reverse { address } => Ok(Opening::Asks(
+            Question {
+                name: reverse_name(alloc, *address)?,
+                kind: KIND_PTR,
+                class: CLASS_IN,
+            },
+            NameList::new(alloc),
+        )),
+        Spec::Address { .. } => Err(NoMemory),
+    }
+}
+
+/// What a text comes to that is asked for as it stands.
+fn question_of(alloc: Global, text: &[u8], kind: u16, class: u16) -> Result<Opening, NoMemory>
+    ensures { IfOk result (OpensText itself text.now kind class) }
+{
+    match Name::from_text(alloc, text) {
+        Ok(text) => Ok(opening_for(alloc, text.name, kind, class)),
+        Err(NameFault::NoMemory) => Err(NoMemory),
+        Err(_) => Ok(Opening::Ends(Status::BadName)),
+    }
+}
+
+/// What a name comes to that is asked for alone.
+fn opening_for(alloc: Global, name: Name, kind: u16, class: u16) -> Opening
+    ensures { OpensName (name ∷ []) name kind class result }
+{
+    if name.last_is(ONION) {
+        Opening::Ends(Status::NotFound)
+    } else {
+        Opening::Asks(Question { name, kind, class }, NameList::new(alloc))
+    }
+}
+
+/// What a text comes to for which the candidates by the search list are asked for.
+fn search_of(
+    alloc: Global,
+    options: &Options,
+    text: &[u8],
+    kind: u16,
+    class: u16,
+) -> Result<Opening, NoMemory>
+    ensures { IfOk result (OpensText (searched options.now) text.now kind class) }
+{
+    match Name::from_text(alloc, text) {
+        Ok(text) => opening_by(alloc, options, &text, kind, class),
+        Err(NameFault::NoMemory) => Err(NoMemory),
+        Err(_) => Ok(Opening::Ends(Status::BadName)),
+    }
+}
+
+/// What a name comes to for which its candidates are asked for.
+fn opening_by(
+    alloc: Global,
+    options: &Options,
+    text: &NameText,
+    kind: u16,
+    class: u16,
+) -> Result<Opening, NoMemory>
+    ensures { IfOk result (OpensName (searched options.now text.now) text.now.name kind class) }
+{
+    if text.name.last_is(ONION) {
+        return Ok(Opening::Ends(Status::NotFound));
+    }
+    let names = candidates(alloc, text, options)?;
+    Ok(first_asked(names, kind, class))
+}
+
+/// The names are asked for, one after the other. It takes no memory.
+fn first_asked(names: NameList, kind: u16, class: u16) -> Opening
+    requires { names ≢ [] }
+    ensures { AreAsked names kind class result }
+{
+    let mut rest = names.into_vec();
+    let name = rest.remove(0);
+    Opening::Asks(Question { name, kind, class }, NameList::from_vec(rest))
+}

@@ -1,0 +1,137 @@
+//! Cancelling and destroying, and how a request ends.
+
+ghost use Rattle.std.specs.Prelude.{◌≡◌, ◌≤◌, ◌<◌, ◌+◌, ◌++◌, [], map, vec_len, vec_capacity};
+ghost use Rattle.channel_model.specs.Meanings.{Cancels, Destroys};
+ghost use Rattle.channel_table.specs.Ends.{EndsRow, FliesAt};
+ghost use Rattle.channel_table.specs.Rows.{ended_with};
+ghost use Rattle.channel_model.specs.Seen.{Happens};
+
+use super::Table;
+use crate::row::{Row, last_status, ticket_of};
+use chan_types::{Bytes, Entry, Status, Ticket, Token, What};
+use channel_model::Judged;
+use query_machine::Leg;
+use resolv_options::Options;
+use std::alloc::Global;
+use std::mem;
+
+impl<T: Token> Table<T> {
+    /// Completes every pending request as cancelled, and answers how many there were. It takes no memory.
+    pub fn cancel(&mut self, seat: u64, by: u64) -> u64
+        ensures { Happens (Cancels result) seat by self.old self.new }
+    {
+        let count = self.rows.len() as u64;
+        if count == 0 {
+            return 0;
+        }
+        self.entries.push_reserved(Entry {
+            seat,
+            by,
+            what: What::Cancel,
+        });
+        complete_all(
+            self.alloc,
+            &mut self.rows,
+            &mut self.ready,
+            Status::Cancelled,
+        );
+        count
+    }
+
+    /// Destroys the channel and completes every pending request so. Answers whether it was the first to do so. It takes no
+    /// memory.
+    pub fn destroy(&mut self, seat: u64, by: u64) -> bool
+        ensures { Happens (Destroys result) seat by self.old self.new }
+    {
+        if self.closed {
+            return false;
+        }
+        self.closed = true;
+        self.entries.push_reserved(Entry {
+            seat,
+            by,
+            what: What::Destroy,
+        });
+        complete_all(
+            self.alloc,
+            &mut self.rows,
+            &mut self.ready,
+            Status::Destruction,
+        );
+        true
+    }
+}
+
+/// Completes each row with this status and without a reply. It takes no memory.
+fn complete_all<T: Token>(
+    alloc: Global,
+    rows: &mut Vec<Row<T>>,
+    ready: &mut Vec<Ticket<T>>,
+    status: Status,
+)
+    requires room { vec_len rows.old + vec_len ready.old ≤ vec_capacity ready.old }
+    ensures none { rows.new.items ≡ [] }
+    ensures tickets { ready.new.items ≡ ready.old.items ++ map (ended_with status) rows.old.items }
+    ensures len { vec_len rows.new ≡ 0 }
+    ensures ready_len { vec_len ready.new ≡ vec_len ready.old + vec_len rows.old }
+    ensures capacity { vec_capacity ready.new ≡ vec_capacity ready.old }
+{
+    for row in mem::replace(rows, Vec::new(alloc)) {
+        ready.push_reserved(ended(alloc, row, status));
+    }
+}
+
+/// The ticket of a request that ended with this status and without a reply. It takes no memory.
+fn ended<T: Token>(alloc: Global, row: Row<T>, status: Status) -> Ticket<T>
+    ensures { result ≡ ended_with status row }
+{
+    let Row {
+        number,
+        token,
+        call,
+        ..
+    } = row;
+    ticket_of(alloc, number, status, Bytes::new(alloc), token, call)
+}
+
+/// Ends the attempt of the row at this index, which meant this and came with this reply or none, where a leg may spend
+/// so many attempts. It takes no memory.
+pub fn end_row<T: Token>(
+    alloc: Global,
+    options: &Options,
+    rows: &mut Vec<Row<T>>,
+    ready: &mut Vec<Ticket<T>>,
+    index: usize,
+    judged: Judged,
+    reply: Bytes,
+    most: u32,
+)
+    requires inside { index < vec_len rows.old }
+    requires flies { FliesAt index rows.old.items }
+    requires room { vec_len rows.old + vec_len ready.old ≤ vec_capacity ready.old }
+    ensures ends { EndsRow options.now.flags judged reply most index rows.old.items ready.old.items rows.new.items ready.new.items }
+    ensures fewer { vec_len rows.new ≤ vec_len rows.old }
+    ensures len { vec_len rows.new + vec_len ready.new ≡ vec_len rows.old + vec_len ready.old }
+    ensures capacity { vec_capacity ready.new ≡ vec_capacity ready.old }
+{
+    let mut leg = rows[index].leg;
+    leg.reply(judged, most);
+    match leg.ended() {
+        None => rows[index].leg = leg,
+        Some(status) => {
+            if rows[index].has_next(status) {
+                rows[index].ask_next(alloc, status, Leg::new(options));
+            } else {
+                let Row {
+                    number,
+                    empty,
+                    token,
+                    call,
+                    ..
+                } = rows.remove(index);
+                let status = last_status(empty, status);
+                ready.push_reserved(ticket_of(alloc, number, status, reply, token, call));
+            }
+        }
+    }
+}

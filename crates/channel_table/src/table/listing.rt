@@ -1,0 +1,232 @@
+//! A new list of servers.
+
+ghost use Rattle.std.specs.Prelude.{◌≡◌, ◌+◌, ◌<◌, ◌≤◌, ◌^◌, ◌++◌, IfOk, OnOk, count_by, find, length, map, vec_len};
+ghost use Rattle.channel_model.specs.Meanings.{SetsServers};
+ghost use Rattle.channel_model.specs.Seen.{Happens};
+ghost use Rattle.channel_model.specs.Servers.{greatest_of, has_key, rekeyed, same_address, same_server, without_key};
+ghost use Rattle.channel_table.specs.Listing.{has_left, kept_in, leg_set, row_set};
+
+use super::Table;
+use super::moving::make_room;
+use crate::row::Row;
+use chan_types::{Entry, KeyList, NoMemory, ServerKey, Token, What};
+use channel_model::SetFault;
+use net_addr::{Addr, ServerAddr};
+use query_machine::{Leg, Phase};
+use std::alloc::Global;
+
+/// The greatest key behind which a list of 8 servers has its keys: keys have 32 bits.
+const KEY_MOST: u32 = 0xffff_fff7;
+
+impl<T: Token> Table<T> {
+    /// Makes these servers the channel's list, and answers how many attempts that closed: those on servers that left it. A
+    /// server that stays keeps its key and the count of its failures.
+    pub fn set_servers(&mut self, seat: u64, servers: &[ServerAddr]) -> Result<u64, SetFault>
+        requires some { 1 ≤ length servers.now }
+        requires few { length servers.now ≤ 8 }
+        ensures { Happens (SetsServers servers.now result) seat 0 self.old self.new }
+    {
+        if self.closed {
+            return Err(SetFault::Closed);
+        }
+        if self.greatest_key > KEY_MOST {
+            return Err(SetFault::Full);
+        }
+        let list = rekey(self.alloc, servers, self.list.as_slice(), self.greatest_key)?;
+        let kept = KeyList::of(self.alloc, list.as_slice())?;
+        let count = count_left(self.rows.as_slice(), list.as_slice());
+        make_room(&mut self.entries, self.rows.len(), self.ready.len())?;
+        self.servers.renew(&list)?;
+        self.entries.push_reserved(Entry {
+            seat,
+            by: 0,
+            what: What::Servers { list: kept },
+        });
+        set_rows(&mut self.rows, list.as_slice());
+        self.greatest_key = greatest_of(self.greatest_key, list.as_slice());
+        self.list = list;
+        Ok(count)
+    }
+}
+
+/// The servers with their keys, where these are left of the old list and this is the greatest key that was given.
+fn rekey(
+    alloc: Global,
+    servers: &[ServerAddr],
+    old: &[ServerKey],
+    greatest: u32,
+) -> Result<KeyList, NoMemory>
+    requires { greatest + length servers.now < 2 ^ 32 }
+    ensures { IfOk result (λ list. list ≡ rekeyed servers.now old.now greatest) }
+{
+    let mut list = Vec::with_capacity(alloc, servers.len())?;
+    rekey_onto(alloc, &mut list, servers, old, greatest)?;
+    Ok(KeyList::from_vec(list))
+}
+
+/// Adds the servers with their keys to a list.
+fn rekey_onto(
+    alloc: Global,
+    list: &mut Vec<ServerKey>,
+    servers: &[ServerAddr],
+    left: &[ServerKey],
+    greatest: u32,
+) -> Result<(), NoMemory>
+    requires { greatest + length servers.now < 2 ^ 32 }
+    ensures { OnOk result (list.new.items ≡ list.old.items ++ rekeyed servers.now left.now greatest) }
+{
+    match servers {
+        [] => Ok(()),
+        [address, rest @ ..] => match find_server(left, *address) {
+            Some(server) => {
+                list.push(server)?;
+                let left = without_key(alloc, left, server.key)?;
+                rekey_onto(alloc, list, rest, left.as_slice(), greatest)
+            }
+            None => {
+                let key = greatest + 1;
+                list.push(ServerKey {
+                    key,
+                    address: *address,
+                })?;
+                rekey_onto(alloc, list, rest, left, key)
+            }
+        },
+    }
+}
+
+/// The first server of a list with this address and port.
+fn find_server(servers: &[ServerKey], address: ServerAddr) -> Option<ServerKey>
+    ensures { result ≡ find (λ server. same_server server.address address) servers.now }
+{
+    match servers {
+        [] => None,
+        [server, rest @ ..] => {
+            if same_server(server.address, address) {
+                Some(*server)
+            } else {
+                find_server(rest, address)
+            }
+        }
+    }
+}
+
+/// The two servers have the same address and port.
+fn same_server(a: ServerAddr, b: ServerAddr) -> bool
+    ensures { result ≡ same_server a b }
+{
+    same_address(a.address, b.address) && a.port == b.port
+}
+
+/// The two addresses are one.
+fn same_address(a: Addr, b: Addr) -> bool
+    ensures { result ≡ same_address a b }
+{
+    match (a, b) {
+        (Addr::V4(a), Addr::V4(b)) => a == b,
+        (Addr::V6(a), Addr::V6(b)) => a == b,
+        (Addr::V4(_), Addr::V6(_)) | (Addr::V6(_), Addr::V4(_)) => false,
+    }
+}
+
+/// The servers without those of this key.
+fn without_key(alloc: Global, servers: &[ServerKey], key: u32) -> Result<Vec<ServerKey>, NoMemory>
+    ensures { IfOk result (λ left. left.items ≡ without_key key servers.now) }
+{
+    let mut left = Vec::with_capacity(alloc, servers.len())?;
+    for server in servers {
+        if server.key != key {
+            left.push(*server)?;
+        }
+    }
+    Ok(left)
+}
+
+/// A server of the list has this key.
+fn has_key(servers: &[ServerKey], key: u32) -> bool
+    ensures { result ≡ has_key key servers.now }
+{
+    match servers {
+        [] => false,
+        [server, rest @ ..] => server.key == key || has_key(rest, key),
+    }
+}
+
+/// The greatest of these keys and this one.
+fn greatest_of(greatest: u32, servers: &[ServerKey]) -> u32
+    ensures { result ≡ greatest_of greatest servers.now }
+{
+    match servers {
+        [] => greatest,
+        [server, rest @ ..] => greatest_of(greatest.max(server.key), rest),
+    }
+}
+
+/// How many of the rows have an attempt on a server that isn't in the list.
+fn count_left<T: Token>(rows: &[Row<T>], list: &[ServerKey]) -> u64
+    ensures { result ≡ count_by (has_left list.now) rows.now }
+{
+    let mut count: u64 = 0;
+    for row in rows {
+        if has_left(row, list) {
+            count += 1;
+        }
+    }
+    count
+}
+
+/// The row has an attempt on a server that isn't in the list.
+fn has_left<T: Token>(row: &Row<T>, list: &[ServerKey]) -> bool
+    ensures { result ≡ has_left list.now row.now }
+{
+    match row.leg.phase {
+        Phase::InFlight(flying) => !has_key(list, flying.server),
+        Phase::Waiting | Phase::Ended(_) => false,
+    }
+}
+
+/// Makes the list that of the rows: attempts on servers that aren't in it end, and no such server is forced. It takes no
+/// memory.
+fn set_rows<T: Token>(rows: &mut Vec<Row<T>>, list: &[ServerKey])
+    ensures items { rows.new.items ≡ map (row_set list.now) rows.old.items }
+    ensures len { vec_len rows.new ≡ vec_len rows.old }
+{
+    set_each(rows.as_mut_slice(), list);
+}
+
+/// The same for each of these rows.
+fn set_each<T: Token>(rows: &mut [Row<T>], list: &[ServerKey])
+    ensures { rows.new ≡ map (row_set list.now) rows.old }
+{
+    for index in 0..rows.len() {
+        let leg = set_leg(rows[index].leg, list);
+        rows[index].leg = leg;
+    }
+}
+
+/// The leg behind a new list of servers.
+fn set_leg(leg: Leg, list: &[ServerKey]) -> Leg
+    ensures { result ≡ leg_set list.now leg }
+{
+    let mut leg = leg;
+    match leg.phase {
+        Phase::InFlight(flying) if !has_key(list, flying.server) => {
+            leg.phase = Phase::Waiting;
+            leg.forced = None;
+        }
+        Phase::Waiting | Phase::InFlight(_) | Phase::Ended(_) => {
+            leg.forced = kept_in(list, leg.forced);
+        }
+    }
+    leg
+}
+
+/// The server, if it is in the list.
+fn kept_in(list: &[ServerKey], server: Option<u32>) -> Option<u32>
+    ensures { result ≡ kept_in list.now server }
+{
+    match server {
+        Some(key) if has_key(list, key) => Some(key),
+        Some(_) | None => None,
+    }
+}

@@ -1,0 +1,192 @@
+//! What arrives, expires or fails: the calls that end attempts.
+
+ghost use Rattle.std.specs.List.{list_any};
+ghost use Rattle.std.specs.Prelude.{◌≡◌, ◌≤◌, ◌+◌, ◌*◌, ◌==◌, IsTrue, OnOk, length, vec_len, vec_capacity};
+ghost use Rattle.channel_model.specs.Meanings.{Arrives, Expires, Fails};
+ghost use Rattle.channel_model.specs.Seen.{Happens};
+ghost use Rattle.query_machine.specs.Servers.{recounted};
+ghost use Rattle.channel_table.specs.Arriving.{recount_by};
+ghost use Rattle.channel_table.specs.Ends.{attempts_with, server_of};
+
+use super::Table;
+use super::ending::end_row;
+use super::failing::{count_fault, count_over, fail_all};
+use super::landing::find_landing;
+use super::seeking::find_soonest;
+use chan_types::{Bytes, Entry, KeyList, NoMemory, Status, Token, What};
+use channel_model::{Judged, Landed, Lapse};
+use query_machine::{Leg, Phase, Servers, attempts};
+use resolv_options::Options;
+
+impl<T: Token> Table<T> {
+    /// Takes in a message that came from this server over this link.
+    pub fn arrive(
+        &mut self,
+        seat: u64,
+        server: u32,
+        link: u64,
+        bytes: &[u8],
+    ) -> Result<Landed, NoMemory>
+        ensures { Happens (Arrives server link bytes.now result) seat 0 self.old self.new }
+    {
+        let found = find_landing(
+            self.alloc,
+            self.rows.as_slice(),
+            self.options.flags(),
+            server,
+            link,
+            bytes,
+        )?;
+        let reply = Bytes::of(self.alloc, bytes)?;
+        let kept = Bytes::of(self.alloc, bytes)?;
+        let most = most_attempts(&self.options, &self.list);
+        make_room(&mut self.entries, self.rows.len(), self.ready.len())?;
+        self.entries.push_reserved(Entry {
+            seat,
+            by: 0,
+            what: What::Arrive {
+                server,
+                link,
+                bytes: kept,
+            },
+        });
+        match found {
+            None => Ok(Landed::Stray),
+            Some(landing) => {
+                count_end(&mut self.servers, server, landing.judged);
+                end_row(
+                    self.alloc,
+                    &self.options,
+                    &mut self.rows,
+                    &mut self.ready,
+                    landing.index,
+                    landing.judged,
+                    reply,
+                    most,
+                );
+                Ok(Landed::Matched {
+                    number: landing.number,
+                    leg: landing.leg_number,
+                })
+            }
+        }
+    }
+
+    /// Lets the attempt that is due first expire, if it is due at this moment. It takes no memory where none is due.
+    pub fn expire(&mut self, seat: u64, at: u64) -> Result<Lapse, NoMemory>
+        ensures { Happens (Expires at result) seat 0 self.old self.new }
+    {
+        match find_soonest(self.rows.as_slice()) {
+            Some(first) if first.at <= at => {
+                let most = most_attempts(&self.options, &self.list);
+                let server = server_of(&self.rows[first.index].leg);
+                make_room(&mut self.entries, self.rows.len(), self.ready.len())?;
+                self.entries.push_reserved(Entry {
+                    seat,
+                    by: 0,
+                    what: What::Expire {
+                        number: first.number,
+                        leg: first.leg_number,
+                        moment: at,
+                    },
+                });
+                self.servers.failed(server);
+                end_row(
+                    self.alloc,
+                    &self.options,
+                    &mut self.rows,
+                    &mut self.ready,
+                    first.index,
+                    Judged::Failed(Status::TimedOut),
+                    Bytes::new(self.alloc),
+                    most,
+                );
+                Ok(Lapse::Expired {
+                    number: first.number,
+                    leg: first.leg_number,
+                })
+            }
+            Some(_) => Ok(Lapse::NotDue),
+            None => Ok(Lapse::NotDue),
+        }
+    }
+
+    /// Fails the attempts that are in flight on this server over this link, and answers how many there were.
+    pub fn fault(&mut self, seat: u64, server: u32, link: u64, at: u64) -> Result<u64, NoMemory>
+        ensures { Happens (Fails server link at result) seat 0 self.old self.new }
+    {
+        let count = count_over(self.rows.as_slice(), server, link);
+        let most = most_attempts(&self.options, &self.list);
+        let kept = Vec::with_capacity(self.alloc, self.rows.len())?;
+        make_room(&mut self.entries, self.rows.len(), self.ready.len())?;
+        self.entries.push_reserved(Entry {
+            seat,
+            by: 0,
+            what: What::Fault {
+                server,
+                link,
+                moment: at,
+            },
+        });
+        count_fault(&mut self.servers, server, count);
+        fail_all(
+            self.alloc,
+            &self.options,
+            &mut self.rows,
+            kept,
+            &mut self.ready,
+            server,
+            link,
+            most,
+        );
+        Ok(count)
+    }
+}
+
+/// The server of a leg's attempt, or 0 where it has none.
+fn server_of(leg: &Leg) -> u32
+    ensures { result ≡ server_of leg.now }
+{
+    match leg.phase {
+        Phase::InFlight(flying) => flying.server,
+        Phase::Waiting | Phase::Ended(_) => 0,
+    }
+}
+
+/// Counts the end of an attempt on this server, which meant this.
+fn count_end(servers: &mut Servers, server: u32, judged: Judged)
+    requires there { IsTrue (list_any (λ item. item.server == server) servers.old) }
+    ensures { servers.new ≡ recounted server (recount_by judged) servers.old }
+{
+    match judged {
+        Judged::Failed(_) => servers.failed(server),
+        Judged::NextTcp | Judged::NextPlain | Judged::Final(_) => servers.good(server),
+    }
+}
+
+/// How many attempts a leg may spend.
+fn most_attempts(options: &Options, list: &KeyList) -> u32
+    requires some { 1 ≤ length list.now }
+    requires few { length list.now ≤ 8 }
+    ensures value { result ≡ attempts_with options.now list.now }
+    ensures few { result ≤ 80 }
+{
+    let used = if options.flags().primary {
+        1
+    } else {
+        list.len() as u32
+    };
+    attempts(options, used)
+}
+
+/// Room for one entry more, beside those that these rows and tickets may need.
+pub fn make_room(entries: &mut Vec<Entry>, rows: usize, ready: usize) -> Result<(), NoMemory>
+    requires { 2 * rows + ready ≤ vec_capacity entries.old }
+    ensures room { OnOk result (vec_len entries.new + 2 * rows + ready + 2 ≤ vec_capacity entries.new) }
+    ensures items { entries.new.items ≡ entries.old.items }
+    ensures len { vec_len entries.new ≡ vec_len entries.old }
+    ensures capacity { vec_capacity entries.old ≤ vec_capacity entries.new }
+{
+    entries.reserve(2 * rows + ready + 2)?;
+    Ok(())
+}

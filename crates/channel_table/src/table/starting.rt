@@ -1,0 +1,318 @@
+//! Starting the attempt of the first leg that waits: its server, its link and its identifier.
+
+ghost use Rattle.std.specs.Bool.{then_some};
+ghost use Rattle.std.specs.List.{list_any};
+ghost use Rattle.std.specs.Prelude.{◌≡◌, ◌≢◌, ◌+◌, ◌<◌, ◌≤◌, ◌==◌, ◌&&◌, ◌^◌, if◌then◌else◌, IfOk, IsTrue, Some, None, cond, flat_map, length, vec_len};
+ghost use Rattle.channel_model.specs.Flight.{asked_with};
+ghost use Rattle.channel_model.specs.Lawful.{first};
+ghost use Rattle.channel_model.specs.Meanings.{Starts};
+ghost use Rattle.channel_model.specs.Past.{query_for};
+ghost use Rattle.channel_model.specs.Seen.{Happens};
+ghost use Rattle.channel_model.specs.Servers.{address_of, has_key};
+ghost use Rattle.dns_message.specs.Spelling.{message_bytes};
+ghost use Rattle.query_machine.specs.Legs.{attempt_from, flying_in};
+ghost use Rattle.channel_table.specs.Starting.{BeginsRow, FindsIdle, IsFree, WaitsAt, first_place, has_id, link_on, link_with, links_on, server_with, used_of};
+
+use super::Table;
+use super::counting::is_flying;
+use super::moving::make_room;
+use crate::row::Row;
+use chan_types::{Bytes, Entry, KeyList, NoMemory, ServerKey, Token, What};
+use channel_model::Begun;
+use dns_message::Question;
+use net_addr::ServerAddr;
+use query_machine::{Leg, Phase, Servers, query_bytes, wait_of};
+use resolv_options::Options;
+use std::alloc::Global;
+
+/// A row without an attempt in flight: where it stands, and what it has.
+#[derive(Clone, Copy, Debug, PartialEq, Eq)]
+pub struct Idle {
+    pub index: usize,
+    pub number: u64,
+    pub leg_number: u8,
+    pub leg: Leg,
+    pub begun: bool,
+}
+
+impl<T: Token> Table<T> {
+    /// Begins an attempt of the first waiting leg at this moment, with an identifier from this word upwards, and its
+    /// letters in the case of the bits of `mix`, where the channel is set so and the query goes over UDP.
+    pub fn start(&mut self, seat: u64, word: u16, mix: u16, at: u64) -> Result<Begun, NoMemory>
+        ensures { Happens (Starts word mix at result) seat 0 self.old self.new }
+    {
+        let Some(idle) = find_idle(self.rows.as_slice()) else {
+            return Ok(Begun::Idle);
+        };
+        let Some(id) = free_id(self.rows.as_slice(), word) else {
+            return Ok(Begun::NoId);
+        };
+        let used = in_use(&self.options, &self.list);
+        let place = first_place(&self.options, self.started, used);
+        let server = choose_server(&self.servers, idle.leg.forced, used, place);
+        let link = choose_link(
+            self.rows.as_slice(),
+            idle.leg.over_tcp,
+            server,
+            self.greatest_link,
+        );
+        let bits = bits_for(&self.options, link, mix);
+        let wait = wait_of(&self.options, idle.leg.spent, used);
+        let address = address_of(self.list.as_slice(), server);
+        let message = message_for(
+            self.alloc,
+            &self.options,
+            &self.rows[idle.index].question,
+            id,
+            bits,
+            idle.leg.has_opt,
+        )?;
+        make_room(&mut self.entries, self.rows.len(), self.ready.len())?;
+        self.entries.push_reserved(Entry {
+            seat,
+            by: 0,
+            what: What::Start {
+                number: idle.number,
+                leg: idle.leg_number,
+                server,
+                link,
+                id,
+                mix: bits,
+                moment: at,
+            },
+        });
+        begin(&mut self.rows, idle.index, server, link, id, bits, at, wait);
+        self.greatest_link = self.greatest_link.max(link);
+        self.started = starts_with(self.started, idle.begun);
+        Ok(Begun::Started {
+            number: idle.number,
+            leg: idle.leg_number,
+            server,
+            address,
+            link,
+            id,
+            message,
+        })
+    }
+}
+
+/// How many legs have had an attempt, with that of a leg which has had one before or not.
+fn starts_with(starts: u64, begun: bool) -> u64
+    requires { starts + 1 < 2 ^ 64 }
+    ensures { result ≡ starts + cond begun 0 1 }
+{
+    if begun { starts } else { starts + 1 }
+}
+
+/// The first row without an attempt in flight.
+fn find_idle<T: Token>(rows: &[Row<T>]) -> Option<Idle>
+    ensures { FindsIdle rows.now result }
+{
+    for index in 0..rows.len() {
+        let row = &rows[index];
+        if !is_flying(row) {
+            return Some(Idle {
+                index,
+                number: row.number,
+                leg_number: row.leg_number,
+                leg: row.leg,
+                begun: row.begun,
+            });
+        }
+    }
+    None
+}
+
+/// The first identifier from the word upwards that no attempt has.
+fn free_id<T: Token>(rows: &[Row<T>], word: u16) -> Option<u16>
+    ensures { IsFree rows.now word result }
+{
+    for step in 0..65536u32 {
+        let id = word.wrapping_add(step as u16);
+        if !is_used(rows, id) {
+            return Some(id);
+        }
+    }
+    None
+}
+
+/// An attempt of the rows has this identifier.
+fn is_used<T: Token>(rows: &[Row<T>], id: u16) -> bool
+    ensures { result ≡ list_any (has_id id) rows.now }
+{
+    for row in rows {
+        if has_id(row, id) {
+            return true;
+        }
+    }
+    false
+}
+
+/// The row's attempt has this identifier.
+fn has_id<T: Token>(row: &Row<T>, id: u16) -> bool
+    ensures { result ≡ has_id id row.now }
+{
+    match row.leg.phase {
+        Phase::InFlight(flying) => flying.id == id,
+        Phase::Waiting | Phase::Ended(_) => false,
+    }
+}
+
+/// How many servers are in use.
+fn in_use(options: &Options, list: &KeyList) -> u32
+    requires some { 1 ≤ length list.now }
+    requires few { length list.now ≤ 8 }
+    ensures value { result ≡ length (used_of options.now list.now) }
+    ensures some { 1 ≤ result }
+    ensures few { result ≤ length list.now }
+{
+    if options.flags().primary {
+        1
+    } else {
+        list.len() as u32
+    }
+}
+
+/// The place in the list of servers at which the order of ties begins.
+fn first_place(options: &Options, starts: u64, used: u32) -> u32
+    requires { 1 ≤ used }
+    ensures value { result ≡ first_place options.now starts used }
+    ensures inside { result < used }
+{
+    if options.rotate() {
+        (starts % used as u64) as u32
+    } else {
+        0
+    }
+}
+
+/// The server of an attempt.
+fn choose_server(servers: &Servers, forced: Option<u32>, used: u32, place: u32) -> u32
+    requires some { used ≢ 0 }
+    requires there { used ≤ length servers.now }
+    requires inside { place < used }
+    ensures { result ≡ server_with forced used place servers.now }
+{
+    match forced {
+        Some(server) => server,
+        None => servers.pick(used, place),
+    }
+}
+
+/// The link of an attempt to this server: 0 over UDP.
+fn choose_link<T: Token>(rows: &[Row<T>], over_tcp: bool, server: u32, greatest: u64) -> u64
+    requires { greatest + 1 < 2 ^ 64 }
+    ensures { result ≡ link_with rows.now over_tcp server greatest }
+{
+    if !over_tcp {
+        return 0;
+    }
+    match tcp_link(rows, server) {
+        Some(link) => link,
+        None => greatest + 1,
+    }
+}
+
+/// A link over TCP to the server on which an attempt is in flight.
+fn tcp_link<T: Token>(rows: &[Row<T>], server: u32) -> Option<u64>
+    ensures { result ≡ first (flat_map (links_on server) rows.now) }
+{
+    for index in 0..rows.len() {
+        if let Some(link) = link_on(&rows[index], server) {
+            return Some(link);
+        }
+    }
+    None
+}
+
+/// The link of the row's attempt, where it went to the server over TCP.
+fn link_on<T: Token>(row: &Row<T>, server: u32) -> Option<u64>
+    ensures { result ≡ link_on server (flying_in row.now.leg.phase) }
+{
+    match row.leg.phase {
+        Phase::InFlight(flying) if flying.server == server && flying.link != 0 => Some(flying.link),
+        Phase::Waiting | Phase::InFlight(_) | Phase::Ended(_) => None,
+    }
+}
+
+/// The bits for the case of a query's letters, where it is drawn: over UDP, where the channel is set so.
+fn bits_for(options: &Options, link: u64, mix: u16) -> Option<u16>
+    ensures { result ≡ then_some (options.now.flags.mix && (link == 0)) mix }
+{
+    if options.flags().mix && link == 0 {
+        Some(mix)
+    } else {
+        None
+    }
+}
+
+/// Where the server of this key listens.
+fn address_of(list: &[ServerKey], key: u32) -> ServerAddr
+    requires { IsTrue (has_key key list.now) }
+    ensures { address_of key list.now ≡ Some result }
+{
+    match list {
+        [] => unreachable!(),
+        [server, rest @ ..] => {
+            if server.key == key {
+                server.address
+            } else {
+                address_of(rest, key)
+            }
+        }
+    }
+}
+
+/// The bytes of a query for a question, its letters in the case of these bits if there are some.
+fn message_for(
+    alloc: Global,
+    options: &Options,
+    question: &Question,
+    id: u16,
+    mix: Option<u16>,
+    has_opt: bool,
+) -> Result<Bytes, NoMemory>
+    ensures { IfOk result (λ bytes. bytes
+        ≡ message_bytes (query_for id (asked_with mix question.now) options.now.flags.norecurse (if has_opt then Some options.now.edns_size else None))) }
+{
+    let norecurse = options.flags().norecurse;
+    let edns = if has_opt {
+        Some(options.edns_size())
+    } else {
+        None
+    };
+    match mix {
+        None => query_bytes(alloc, question, id, norecurse, edns),
+        Some(bits) => {
+            let asked = Question {
+                name: question.name.mixed(alloc, bits)?,
+                kind: question.kind,
+                class: question.class,
+            };
+            query_bytes(alloc, &asked, id, norecurse, edns)
+        }
+    }
+}
+
+/// Begins an attempt of the row at this index, which is given so long.
+fn begin<T: Token>(
+    rows: &mut Vec<Row<T>>,
+    index: usize,
+    server: u32,
+    link: u64,
+    id: u16,
+    mix: Option<u16>,
+    at: u64,
+    wait: u64,
+)
+    requires inside { index < vec_len rows.old }
+    requires waits { WaitsAt index rows.old.items }
+    ensures begins { BeginsRow (attempt_from server link id mix at wait) index rows.old.items rows.new.items }
+    ensures len { vec_len rows.new ≡ vec_len rows.old }
+{
+    let mut leg = rows[index].leg;
+    leg.start(server, link, id, mix, at, wait);
+    let row = &mut rows[index];
+    row.leg = leg;
+    row.begun = true;
+}
