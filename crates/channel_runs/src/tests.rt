@@ -1,0 +1,197 @@
+//! A channel with one owner, its runner and a network in memory, and what a run of them comes to, as lines of text.
+
+ghost use Rattle.std.specs.Prelude.{All, IfOk};
+ghost use Rattle.net_world.specs.Script.{MayCome};
+
+mod datagrams;
+mod failing;
+mod links;
+mod strays;
+mod telling;
+
+use chan_types::{Bytes, Quiet, Spec};
+use channel_model::Desk;
+use channel_table::Alone;
+use dns_message::numbers::{CLASS_IN, KIND_A};
+use event_runner::Runner;
+use hosts_file::Hosts;
+use item_list::NoMemory;
+use net_world::{Got, ScriptWorld, Timed};
+use resolv_options::read_resolv;
+use std::alloc::Global;
+use std::test::Fail;
+use telling::{calls_told, journal_told};
+
+/// A reply with the address 192.0.2.1 to the query with identifier 0x1234 for example.com (RFC 1035, section 4.1).
+const REPLY: &[u8] =
+    b"\x12\x34\x81\x80\0\x01\0\x01\0\0\0\0\x07example\x03com\0\0\x01\0\x01\xc0\x0c\0\x01\0\x01\0\0\0\x3c\0\x04\xc0\0\x02\x01";
+
+/// One server, which is asked once, for 2 seconds (resolv.conf(5)).
+const ONE: &[u8] = b"nameserver 192.0.2.53\noptions timeout:2 attempts:1\n";
+
+/// One server, which is asked over TCP alone.
+const OVER_TCP: &[u8] = b"nameserver 192.0.2.53\noptions timeout:2 use-vc\n";
+
+/// The random word that the network gives each time: the identifier of an attempt that flies alone.
+const WORD: u16 = 0x1234;
+
+/// A channel with one owner, its runner and its network, and the codes of the statuses that were taken.
+#[derive(Drop)]
+struct Run {
+    desk: Alone<Quiet>,
+    runner: Runner,
+    world: ScriptWorld,
+    statuses: Vec<u8>,
+}
+
+/// A run over a network on which this comes, where the calls of these numbers fail, for a channel as resolv.conf says.
+fn begun(alloc: Global, resolv: &[u8], comings: &[Coming<'_>], fails: &[u64]) -> Result<Run, Fail> {
+    let options = read_resolv(alloc, resolv)?;
+    let words = Vec::from_elem(alloc, WORD, 64)?;
+    let items = items_of(alloc, comings)?;
+    let mut world = ScriptWorld::make(words, items, fails.to_vec(alloc)?);
+    let runner = Runner::make(alloc, &mut world, &options)?;
+    Ok(Run {
+        desk: Alone::make(alloc, options, Hosts::empty(alloc))?,
+        runner,
+        world,
+        statuses: Vec::new(alloc),
+    })
+}
+
+/// Asks for the addresses of IPv4 that example.com has. The number is that of the request, or 0 where it is refused.
+fn asked(run: &mut Run, alloc: Global) -> Result<u64, Fail> {
+    let spec = Spec::Query {
+        name: Bytes::of(alloc, b"example.com")?,
+        kind: KIND_A,
+        class: CLASS_IN,
+    };
+    match run.desk.accept(spec, Quiet::new(alloc)) {
+        Ok(number) => Ok(number),
+        Err(_) => Ok(0),
+    }
+}
+
+/// Takes each request that is ready.
+fn take_all(run: &mut Run) -> Result<(), Fail> {
+    for _ in 0..4 {
+        if let Some(ticket) = run.desk.take() {
+            run.statuses.push(ticket.answer().status.code())?;
+        }
+    }
+    Ok(())
+}
+
+/// One turn, what is ready behind it, and a pause.
+fn go_on(run: &mut Run) -> Result<(), Fail> {
+    run.runner.turn(&mut run.desk, &mut run.world)?;
+    take_all(run)?;
+    run.runner.pause(&mut run.desk, &mut run.world, u64::MAX)?;
+    Ok(())
+}
+
+/// So many turns, each with its pause.
+fn played(run: &mut Run, turns: u64) -> Result<(), Fail> {
+    for _ in 0..turns {
+        go_on(run)?;
+    }
+    Ok(())
+}
+
+/// A run of one request: so many turns over what this network gives.
+fn played_alone(
+    alloc: Global,
+    resolv: &[u8],
+    comings: &[Coming<'_>],
+    fails: &[u64],
+    turns: u64,
+) -> Result<Run, Fail> {
+    let mut run = begun(alloc, resolv, comings, fails)?;
+    let _number = asked(&mut run, alloc)?;
+    played(&mut run, turns)?;
+    Ok(run)
+}
+
+/// The first status that was taken, or 100.
+fn status_of(run: &Run) -> u8 {
+    match run.statuses.first() {
+        Some(code) => *code,
+        None => 100,
+    }
+}
+
+/// Whether the journal, and the calls of the network that connect, close and wait, are told by these lines.
+fn is_told(alloc: Global, run: Run, journal: &str, calls: &str) -> Result<bool, Fail> {
+    let Run { desk, world, .. } = run;
+    let told = journal_told(alloc, desk.close().entries())?;
+    let heard = calls_told(alloc, world.log().calls())?;
+    Ok(told.as_str() == journal && heard.as_str() == calls)
+}
+
+/// What comes on the network from a moment on: a datagram of a server, a piece of a link, or the end of a link.
+#[derive(Clone, Copy)]
+enum Coming<'a> {
+    Datagram {
+        from: u64,
+        server: u32,
+        bytes: &'a [u8],
+    },
+    Piece {
+        from: u64,
+        link: u64,
+        bytes: &'a [u8],
+    },
+    End {
+        from: u64,
+        link: u64,
+    },
+}
+
+/// A datagram of a server.
+fn from_server(from: u64, server: u32, bytes: &[u8]) -> Coming<'_> {
+    Coming::Datagram {
+        from,
+        server,
+        bytes,
+    }
+}
+
+/// A piece of a link.
+fn from_link(from: u64, link: u64, bytes: &[u8]) -> Coming<'_> {
+    Coming::Piece { from, link, bytes }
+}
+
+/// The item of a network in memory; a piece without a byte is an end.
+fn item_of(alloc: Global, coming: &Coming<'_>) -> Result<Timed, NoMemory>
+    ensures { IfOk result (λ item. MayCome item.got) }
+{
+    match *coming {
+        Coming::Datagram {
+            from,
+            server,
+            bytes,
+        } => Ok(Timed {
+            from,
+            got: Got::Datagram(server, Bytes::of(alloc, bytes)?),
+        }),
+        Coming::Piece { from, link, bytes } if !bytes.is_empty() => Ok(Timed {
+            from,
+            got: Got::Piece(link, Bytes::of(alloc, bytes)?),
+        }),
+        Coming::Piece { from, link, .. } | Coming::End { from, link } => Ok(Timed {
+            from,
+            got: Got::Ended(link),
+        }),
+    }
+}
+
+/// The items of a network in memory.
+fn items_of(alloc: Global, comings: &[Coming<'_>]) -> Result<Vec<Timed>, NoMemory>
+    ensures { IfOk result (λ items. All (λ item. MayCome item.got) items.items) }
+{
+    let mut items = Vec::new(alloc);
+    for coming in comings {
+        items.push(item_of(alloc, coming)?)?;
+    }
+    Ok(items)
+}

@@ -1,0 +1,123 @@
+//! Runs over datagrams.
+
+use super::{ONE, REPLY, from_server, is_told, played_alone, status_of};
+use std::test::Fail;
+
+/// One server, which is asked three times (resolv.conf(5)).
+const THRICE: &[u8] = b"nameserver 192.0.2.53\noptions timeout:2 attempts:3\n";
+
+/// Two servers, of which each is asked twice.
+const TWO: &[u8] = b"nameserver 192.0.2.53\nnameserver 192.0.2.54\noptions timeout:2 attempts:2\n";
+
+/// The reply of a server that failed, and of one that can't read the query: response codes 2 and 1 (RFC 1035,
+/// section 4.1.1).
+const SERVFAIL: &[u8] = b"\x12\x34\x81\x82\0\x01\0\0\0\0\0\0\x07example\x03com\0\0\x01\0\x01";
+
+const FORMERR: &[u8] = b"\x12\x34\x81\x81\0\x01\0\0\0\0\0\0\x07example\x03com\0\0\x01\0\x01";
+
+/// Two servers are silent: each of four attempts waits for 2 seconds, and those of the second round for twice that.
+#[test]
+fn silence_goes_round_the_servers(rt: HostRuntime) -> Result<(), Fail> {
+    let alloc = rt.alloc();
+    let run = played_alone(alloc, TWO, &[], &[], 6)?;
+    assert_eq!(rt; status_of(&run), 12);
+    let journal = "accept 1
+start 1 on 0 over 0 at 0
+expire 1 at 2000
+start 1 on 1 over 0 at 2000
+expire 1 at 4000
+start 1 on 0 over 0 at 4000
+expire 1 at 8000
+start 1 on 1 over 0 at 8000
+expire 1 at 12000
+take 1
+";
+    let calls = "wait to 2000\nwait to 4000\nwait to 8000\nwait to 12000\n";
+    assert!(rt; is_told(alloc, run, journal, calls)?);
+    Ok(())
+}
+
+/// The reply can be received at the moment of the deadline: a turn receives before it lets expire.
+#[test]
+fn a_reply_at_the_deadline_counts(rt: HostRuntime) -> Result<(), Fail> {
+    let alloc = rt.alloc();
+    let items = [from_server(2000, 0, REPLY)];
+    let run = played_alone(alloc, ONE, &items, &[], 3)?;
+    assert_eq!(rt; status_of(&run), 0);
+    let journal = "accept 1\nstart 1 on 0 over 0 at 0\narrive from 0 over 0\ntake 1\n";
+    assert!(rt; is_told(alloc, run, journal, "wait to 2000\n")?);
+    Ok(())
+}
+
+/// A right reply from the server that wasn't asked is a stray.
+#[test]
+fn another_server_answers_nothing(rt: HostRuntime) -> Result<(), Fail> {
+    let alloc = rt.alloc();
+    let items = [from_server(5, 1, REPLY)];
+    let run = played_alone(alloc, TWO, &items, &[], 3)?;
+    let journal = "accept 1
+start 1 on 0 over 0 at 0
+arrive from 1 over 0
+expire 1 at 2000
+start 1 on 1 over 0 at 2000
+";
+    let calls = "wait to 2000\nwait to 2000\nwait to 4000\n";
+    assert!(rt; is_told(alloc, run, journal, calls)?);
+    Ok(())
+}
+
+/// A server that refuses the OPT record is asked again without one, and no attempt is spent.
+#[test]
+fn a_server_is_asked_again_without_opt(rt: HostRuntime) -> Result<(), Fail> {
+    let alloc = rt.alloc();
+    let items = [from_server(3, 0, FORMERR), from_server(4, 0, REPLY)];
+    let run = played_alone(alloc, ONE, &items, &[], 4)?;
+    assert_eq!(rt; status_of(&run), 0);
+    let journal = "accept 1
+start 1 on 0 over 0 at 0
+arrive from 0 over 0
+start 1 on 0 over 0 at 3
+arrive from 0 over 0
+take 1
+";
+    assert!(rt; is_told(alloc, run, journal, "wait to 2000\nwait to 2003\n")?);
+    Ok(())
+}
+
+/// A server that failed is left for the other one in the same turn.
+#[test]
+fn the_next_server_is_asked_at_once(rt: HostRuntime) -> Result<(), Fail> {
+    let alloc = rt.alloc();
+    let items = [from_server(1, 0, SERVFAIL), from_server(9, 1, REPLY)];
+    let run = played_alone(alloc, TWO, &items, &[], 4)?;
+    assert_eq!(rt; status_of(&run), 0);
+    let journal = "accept 1
+start 1 on 0 over 0 at 0
+arrive from 0 over 0
+start 1 on 1 over 0 at 1
+arrive from 1 over 0
+take 1
+";
+    assert!(rt; is_told(alloc, run, journal, "wait to 2000\nwait to 2001\n")?);
+    Ok(())
+}
+
+/// Each send to the only server fails: its three attempts are spent in one turn, without a wait. The calls of the
+/// network are, by number: 0 tells the server, 1 reads the clock, 2 receives, and then a word is drawn before each send.
+#[test]
+fn sends_fail_in_one_turn(rt: HostRuntime) -> Result<(), Fail> {
+    let alloc = rt.alloc();
+    let run = played_alone(alloc, THRICE, &[], &[4, 6, 8], 1)?;
+    assert_eq!(rt; status_of(&run), 11);
+    let journal = "accept 1
+start 1 on 0 over 0 at 0
+fault of 0 over 0 at 0
+start 1 on 0 over 0 at 0
+fault of 0 over 0 at 0
+start 1 on 0 over 0 at 0
+fault of 0 over 0 at 0
+take 1
+";
+    assert!(rt; is_told(alloc, run, journal, "")?);
+    Ok(())
+}

@@ -1,0 +1,73 @@
+-- A pause: what it saw of the channel, and its wait.
+use Rattle.std.proofs.Common.{◌≡◌, ◌∙◌, ℕ, ◌==◌, ◌&&◌, ◌||◌, Bool, true, false, List, ◌++◌, Result, Ok, Err, Option, Some, None, refl, ap, sym, subst}
+use Rattle.std.specs.Prelude.{is_err, min, nat_lt, not, option_map}
+use Rattle.std.specs.Option.{option_map_or}
+use Rattle.std.proofs.lemmas.List.{append-nil}
+use Rattle.item_list.specs.declared.no_memory.NoMemory.{NoMemory}
+use Rattle.net_world.specs.declared.answers.Waited.{Waited}
+use Rattle.net_world.specs.declared.log.WorldCall.{WorldCall}
+use Rattle.net_world.specs.declared.log.WorldCall.TheVariants.{Wait}
+use Rattle.channel_model.specs.declared.answers.Counts.{Counts}
+use Rattle.channel_model.proofs.Theorems.{call_goes_on, goes_on_trans}
+use Rattle.channel_model.specs.Course.{skips}
+use Rattle.channel_model.specs.Journal.{past_of}
+use Rattle.channel_model.specs.Known.{Calls, Known}
+use Rattle.channel_model.specs.Lawful.{Due, first_due}
+use Rattle.channel_model.specs.Meanings.{Meaning, TellsCounts, TellsDue}
+use Rattle.channel_model.specs.Seen.{entries_of}
+use Rattle.channel_model.specs.Turn.{most_entries}
+use Rattle.event_runner.specs.declared.answers.Paused.{Paused}
+use Rattle.event_runner.specs.Running.{HasLooked, HasSkipped, HasWaited, Pauses, wakes_by}
+use Rattle.event_runner.specs.State.{Gets}
+
+-- what a call saw, where it adds nothing
+seen_is : (meaning : Meaning) (old new : Known) (call : Calls meaning 0 old new) → call.added ≡ None → new.seen ≡ call.here
+seen_is meaning old new call none = call.seen ∙ ap (λ o. call.here ++ entries_of old.seat 0 o) none ∙ append-nil call.here
+
+-- a call that adds nothing is a look
+pub look_of : (meaning : Meaning) (old new : Known) (call : Calls meaning 0 old new) → call.added ≡ None → HasLooked old new
+look_of meaning old new call none = record {
+  goes_on = call_goes_on meaning 0 old new call;
+  own = call.own ∙ ap (λ o. old.own ++ entries_of old.seat 0 o) none ∙ append-nil old.own;
+}
+
+-- what the counts say of a pause
+abbrev pub by_counts : Counts → Bool
+by_counts counts = (counts.pending == 0) || not (counts.ready == 0) || (not (counts.waiting == 0) && nat_lt counts.flying most_entries)
+
+module _ (old new : Known) (counts : Counts) (call : Calls (TellsCounts counts) 0 old new) where
+  looked : skips old.setting (past_of new.seen) ≡ by_counts counts
+  looked = ap (λ s. skips old.setting (past_of s)) (seen_is (TellsCounts counts) old new call call.meant.nothing)
+      ∙ rw (call.meant.requests_pending, call.meant.requests_ready, call.meant.legs_waiting, call.meant.legs_flying) refl
+
+  pub skipped : (log : Option (List WorldCall)) → by_counts counts ≡ true → HasSkipped old new log log
+  skipped log says = record { looked = look_of (TellsCounts counts) old new call call.meant.nothing; skipped = looked ∙ says; no_call = refl }
+
+module _ (old middle new : Known) (counts : Counts) (first : Calls (TellsCounts counts) 0 old middle) (due : Option ℕ) (then_ : Calls (TellsDue due) 0 middle new) where
+  moments : (latest : ℕ) (o : Option Due) → option_map_or (λ moment. min moment latest) (option_map (λ d. d.at) o) latest ≡ option_map_or (λ d. min d.at latest) o latest
+  moments latest None = refl
+  moments latest (Some d) = refl
+
+  pub waited : (latest until : ℕ) (answer : Waited) (l m : Option (List WorldCall)) → by_counts counts ≡ false → until ≡ option_map_or (λ moment. min moment latest) due latest → Gets (Wait until answer) l m → HasWaited latest answer old new l m
+  waited latest until answer l m says is got =
+      let wakes : until ≡ wakes_by old.setting latest (past_of new.seen) =
+      is ∙ ap (λ d. option_map_or (λ moment. min moment latest) d latest) then_.meant.answer ∙ moments latest (first_due middle.setting (past_of then_.here))
+      ∙ ap (λ s. wakes_by middle.setting latest (past_of s)) (sym (seen_is (TellsDue due) middle new then_ then_.meant.nothing))
+      ∙ ap (λ s. wakes_by s latest (past_of new.seen)) first.desk.setting in
+      record {
+        middle = middle;
+        looked = look_of (TellsCounts counts) old middle first first.meant.nothing;
+        not_skipped = looked old middle counts first ∙ says;
+        looked_again = look_of (TellsDue due) middle new then_ then_.meant.nothing;
+        waits = subst (λ u. Gets (Wait u answer) l m) wakes got;
+      }
+
+  pub both_look : HasLooked old new
+  both_look =
+      let one = look_of (TellsCounts counts) old middle first first.meant.nothing in
+      let two = look_of (TellsDue due) middle new then_ then_.meant.nothing in
+      record { goes_on = goes_on_trans old middle new one.goes_on two.goes_on; own = two.own ∙ one.own }
+
+pub pause_err : (latest : ℕ) (result : Result Paused NoMemory) (old new : Known) (l m : Option (List WorldCall)) → is_err result ≡ true → HasLooked old new → m ≡ l → Pauses latest result old new l m
+pause_err latest (Ok answer) old new l m err goes log = absurd (cc err)
+pause_err latest (Err fault) old new l m err goes log = (goes, log)

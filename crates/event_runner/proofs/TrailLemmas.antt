@@ -1,0 +1,75 @@
+-- Calls of a desk, one behind the other, with the entries that came between.
+use Rattle.std.proofs.Common.{◌≡◌, ◌≢◌, ◌∙◌, ℕ, ◌==◌, List, [], ◌∷◌, ◌++◌, Option, None, Some, refl, ap, ap₂, sym, ne_eqb, eq-eqb}
+use Rattle.std.proofs.lemmas.List.{append-nil, append_assoc}
+use Rattle.std.proofs.lemmas.List.Elements.{filter-append}
+use Rattle.std.specs.List.{AllByRecursion}
+use Rattle.chan_types.specs.declared.journal.Entry.{Entry}
+use Rattle.chan_types.specs.declared.journal.What.{What}
+use Rattle.channel_model.proofs.Theorems.{calls_stretch}
+use Rattle.channel_model.specs.Journal.{own_entries}
+use Rattle.channel_model.specs.Known.{Calls, GoesOn, IsSameDesk, Known}
+use Rattle.channel_model.specs.Lawful.{IsLawful}
+use Rattle.channel_model.specs.Meanings.{Meaning}
+use Rattle.channel_model.specs.Seen.{entries_of}
+
+-- a desk went on by these entries
+pub record Trail (old new : Known) (entries : List Entry) : Type 0 where
+  pub desk : IsSameDesk old new
+  pub seen : new.seen ≡ old.seen ++ entries
+  pub lawful : IsLawful old.setting old.seen → IsLawful new.setting new.seen
+  pub own : new.own ≡ old.own ++ own_entries old.seat entries
+
+-- so it goes on
+abbrev pub goes_of : (old new : Known) (entries : List Entry) → Trail old new entries → GoesOn old new
+goes_of old new entries t = record { desk = t.desk; since = entries; seen = t.seen; lawful = t.lawful; own = t.own }
+
+-- and what goes on went on by some entries
+pub trail_of : (old new : Known) (goes : GoesOn old new) → Trail old new goes.since
+trail_of old new goes = record { desk = goes.desk; seen = goes.seen; lawful = goes.lawful; own = goes.own }
+
+pub own-append : (seat : ℕ) (es fs : List Entry) → own_entries seat (es ++ fs) ≡ own_entries seat es ++ own_entries seat fs
+own-append seat es fs = filter-append (λ (entry : Entry). entry.seat == seat) es fs
+
+-- nothing was done
+pub trail_none : (known : Known) → Trail known known []
+trail_none known = record {
+  desk = record { setting = refl; home = refl; seat = refl; voice = refl };
+  seen = sym (append-nil known.seen);
+  lawful = λ was. was;
+  own = sym (append-nil known.own);
+}
+
+-- one call
+pub trail_call : (meaning : Meaning) (by : ℕ) (old new : Known) (call : Calls meaning by old new) → Trail old new (call.stands.others ++ entries_of old.seat by call.added)
+trail_call meaning by old new call = record {
+  desk = call.desk;
+  seen = (calls_stretch meaning by old new call).0;
+  lawful = λ _. call.lawful;
+  own = (calls_stretch meaning by old new call).1;
+}
+
+-- one behind the other
+pub trail_trans : (a b c : Known) (es fs : List Entry) → Trail a b es → Trail b c fs → Trail a c (es ++ fs)
+trail_trans a b c es fs x y = record {
+  desk = record {
+    setting = y.desk.setting ∙ x.desk.setting;
+    home = y.desk.home ∙ x.desk.home;
+    seat = y.desk.seat ∙ x.desk.seat;
+    voice = y.desk.voice ∙ x.desk.voice;
+  };
+  seen = y.seen ∙ ap (λ l. l ++ fs) x.seen ∙ append_assoc a.seen es fs;
+  lawful = λ was. y.lawful (x.lawful was);
+  own = y.own ∙ ap₂ (λ l seat. l ++ own_entries seat fs) x.own x.desk.seat
+      ∙ append_assoc a.own (own_entries a.seat es) (own_entries a.seat fs)
+      ∙ ap (λ l. a.own ++ l) (sym (own-append a.seat es fs));
+}
+
+-- entries of other seats are none of the seat's own
+pub own-others : (seat : ℕ) (os : List Entry) → AllByRecursion (λ entry. entry.seat ≢ seat) os → own_entries seat os ≡ []
+own-others seat [] others = refl
+own-others seat (o ∷ os) others = rw (ne_eqb o.seat seat others.0) (own-others seat os others.1)
+
+-- what a call of a desk adds is its own
+pub own_added : (seat by : ℕ) (added : Option What) → own_entries seat (entries_of seat by added) ≡ entries_of seat by added
+own_added seat by None = refl
+own_added seat by (Some what) = rw (eq-eqb seat seat refl) refl

@@ -1,0 +1,15 @@
+use Rattle.std.proofs.Common.{◌≡◌, ◌-◌, ◌≤◌, vec_len, ℕ}
+use Rattle.event_runner.specs.Goes.{Goes}
+use Rattle.event_runner.specs.Parts.{ClosesUpTo}
+use Rattle.event_runner.specs.State.{state_of}
+use Rattle.event_runner.proofs.closing.close_idle.Given as goal
+
+abbrev pub invariant-loop-index : goal.invariant-loop-index
+invariant-loop-index g l = record {
+  goes : (reading : ℕ) → Goes (ClosesUpTo reading l.index) (state_of (g.D.Desk.known l.initial.desk) l.initial.kept (g.W.World.log l.initial.world)) (state_of (g.D.Desk.known l.desk) l.kept (g.W.World.log l.world));
+  within : l.index ≤ vec_len l.kept.links;
+  waits : g.W.World.wait_faults l.world ≡ g.W.World.wait_faults l.initial.world;
+}
+
+abbrev pub decreases-loop-index : goal.decreases-loop-index
+decreases-loop-index g l = vec_len l.kept.links - l.index

@@ -1,0 +1,7 @@
+use Rattle.std.proofs.Common.{◌≡◌, drop, map}
+use Rattle.channel_model.specs.Adding.{link_of_row}
+use Rattle.channel_model.specs.Links.{held_link}
+use Rattle.event_runner.proofs.kept.find_link.Given as goal
+
+abbrev pub invariant-loop-index : goal.invariant-loop-index
+invariant-loop-index l = held_link l.number (map link_of_row l.links) ≡ held_link l.number (map link_of_row (drop l.index l.links))

@@ -1,0 +1,12 @@
+use Rattle.std.proofs.Common.{◌≡◌, ◌++◌, map, take}
+use Rattle.std.specs.Prelude.{option_map}
+use Rattle.channel_model.specs.Course.{serves_from}
+use Rattle.channel_model.specs.Servers.{keyed_from}
+use Rattle.event_runner.proofs.opening.tell_all.Given as goal
+
+abbrev pub invariant-loop-key : goal.invariant-loop-key
+invariant-loop-key g l = record {
+  told : l.told.items ≡ map (λ s. s.key) (keyed_from 0 (take l.key l.servers));
+  log : g.W.World.log l.world ≡ option_map (λ calls. calls ++ serves_from 0 (take l.key l.servers)) (g.W.World.log l.initial.world);
+  waits : g.W.World.wait_faults l.world ≡ g.W.World.wait_faults l.initial.world;
+}

@@ -1,0 +1,6 @@
+use Rattle.std.specs.Prelude.{All}
+use Rattle.net_world.specs.Script.{MayCome}
+use Rattle.event_runner.proofs.tests.turns.many.Given as goal
+
+abbrev pub invariant-loop-byte : goal.invariant-loop-byte
+invariant-loop-byte l = All (λ item. MayCome item.got) l.items.items

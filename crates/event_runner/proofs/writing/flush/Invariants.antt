@@ -1,0 +1,18 @@
+use Rattle.std.proofs.Common.{◌≡◌, length, ℕ, Bool, List}
+use Rattle.channel_model.specs.Adding.{Row}
+use Rattle.channel_model.specs.Known.{Known}
+use Rattle.event_runner.specs.Goes.{Goes}
+use Rattle.event_runner.specs.Parts.{WritesTo, with_row}
+use Rattle.event_runner.proofs.writing.flush.Given as goal
+
+abbrev pub invariant-loop-world : goal.invariant-loop-world
+invariant-loop-world g l = record {
+  goes : (reading : ℕ) (known : Known) (before after : List Row) (keys : List ℕ) (mix : Bool) →
+      Goes (WritesTo reading l.initial.link.number) (with_row reading known before after keys mix l.initial.link (g.W.World.log l.initial.world)) (with_row reading known before after keys mix l.link (g.W.World.log l.world));
+  number : l.link.number ≡ l.initial.link.number;
+  server : l.link.server ≡ l.initial.link.server;
+  waits : g.W.World.wait_faults l.world ≡ g.W.World.wait_faults l.initial.world;
+}
+
+abbrev pub decreases-loop-world : goal.decreases-loop-world
+decreases-loop-world g l = length l.link.unwritten

@@ -1,0 +1,9 @@
+pub mod ClosedDesk
+pub mod Delivering
+pub mod Frames
+pub mod Goes
+pub mod Parts
+pub mod Rows
+pub mod Running
+pub mod State
+pub mod Turning
