@@ -23,7 +23,7 @@ use Rattle.event_runner.specs.Goes.{Break, Goes, Leads, Stops, Stretch}
 use Rattle.event_runner.specs.State.{IsTurnOwner, State}
 use Rattle.event_runner.proofs.GoesLemmas.{goes_by, stops_by}
 use Rattle.event_runner.proofs.SoundLemmas.{AreIdle, Sound, holds_of, sound_of}
-use Rattle.event_runner.proofs.TrailLemmas.{Trail, own-append, trail_call, trail_none}
+use Rattle.event_runner.proofs.TrailLemmas.{Trail, made_one, made_others, own-append, trail_call, trail_none}
 
 -- an entry of a seat, which no request's callback commanded
 abbrev pub own : ℕ → What → Entry
@@ -108,7 +108,7 @@ module _ (meaning : Meaning) (a b : State) (call : Calls meaning 0 a.known b.kno
   goes_look relation mix step =
       let os : List Entry = call.stands.others in
       let trail = trail_none_added meaning a.known b.known call none in
-      goes_by relation a b os cs trail log
+      goes_by relation a b os cs trail (made_others a.known.seat os call.stands.by_others) log
       (λ owner. leads_by relation a b os cs trail mix (λ from sound past.
       step os (call_others meaning a.known b.known call) (call_idle meaning a.known b.known call owner) from sound
       (subst (λ o. meaning a.known.setting (followed_by from.past os) o) none (call_meant meaning a.known b.known call from.past past))))
@@ -119,11 +119,11 @@ module _ (meaning : Meaning) (a b : State) (call : Calls meaning 0 a.known b.kno
   stops_look relation step =
       let os : List Entry = call.stands.others in
       let trail = trail_none_added meaning a.known b.known call none in
-      stops_by relation a b os cs trail log
+      stops_by relation a b os cs trail (made_others a.known.seat os call.stands.by_others) log
       (λ owner from holds. step os (call_others meaning a.known b.known call) (call_idle meaning a.known b.known call owner) from (sound_of a from holds))
 
--- a call that adds an entry
-module _ (meaning : Meaning) (a b : State) (call : Calls meaning 0 a.known b.known) (what : What) (adds : call.added ≡ Some what) (cs : List WorldCall) (log : b.log ≡ option_map (λ calls. calls ++ cs) a.log) where
+-- a call that adds an entry, which only a turn makes
+module _ (meaning : Meaning) (a b : State) (call : Calls meaning 0 a.known b.known) (what : What) (adds : call.added ≡ Some what) (of_turn : not (length (parts_of_entry what) == 0) ≡ true) (cs : List WorldCall) (log : b.log ≡ option_map (λ calls. calls ++ cs) a.log) where
   pub goes_add : (relation : Stretch) → b.mix ≡ a.mix →
       ((os : List Entry) → AreOthers a.known.seat os → AreIdle os → (from : Standing) → Sound a.known.setting a.rows a.told from → meaning a.known.setting (followed_by from.past os) (Some what)
       → LeadsTo relation a b from (os ++ own a.known.seat what ∷ []) cs) →
@@ -131,7 +131,7 @@ module _ (meaning : Meaning) (a b : State) (call : Calls meaning 0 a.known b.kno
   goes_add relation mix step =
       let os : List Entry = call.stands.others in
       let trail = trail_added meaning a.known b.known call what adds in
-      goes_by relation a b (os ++ own a.known.seat what ∷ []) cs trail log
+      goes_by relation a b (os ++ own a.known.seat what ∷ []) cs trail (made_one a.known.seat os what call.stands.by_others of_turn) log
       (λ owner. leads_by relation a b (os ++ own a.known.seat what ∷ []) cs trail mix (λ from sound past.
       step os (call_others meaning a.known b.known call) (call_idle meaning a.known b.known call owner) from sound
       (subst (λ o. meaning a.known.setting (followed_by from.past os) o) adds (call_meant meaning a.known b.known call from.past past))))
@@ -143,7 +143,7 @@ module _ (meaning : Meaning) (a b : State) (call : Calls meaning 0 a.known b.kno
   stops_add relation step =
       let os : List Entry = call.stands.others in
       let trail = trail_added meaning a.known b.known call what adds in
-      stops_by relation a b (os ++ own a.known.seat what ∷ []) cs trail log
+      stops_by relation a b (os ++ own a.known.seat what ∷ []) cs trail (made_one a.known.seat os what call.stands.by_others of_turn) log
       (λ owner from holds. step os (call_others meaning a.known b.known call) (call_idle meaning a.known b.known call owner) from (sound_of a from holds)
       (subst (λ o. meaning a.known.setting (followed_by from.past os) o) adds (call_meant meaning a.known b.known call from.past holds.fits.past_is)))
 
@@ -154,10 +154,10 @@ module _ (a b : State) (same : b.known ≡ a.known) (cs : List WorldCall) (log :
 
   pub goes_alone : (relation : Stretch) → b.mix ≡ a.mix → ((from : Standing) → Sound a.known.setting a.rows a.told from → LeadsTo relation a b from [] cs) → Goes relation a b
   goes_alone relation mix step =
-      goes_by relation a b [] cs trail_same log (λ owner. leads_by relation a b [] cs trail_same mix (λ from sound past. step from sound))
+      goes_by relation a b [] cs trail_same refl log (λ owner. leads_by relation a b [] cs trail_same mix (λ from sound past. step from sound))
 
   pub stops_alone : (relation : Break) → ((from : Standing) → Sound a.known.setting a.rows a.told from → relation a.known.setting a.known.seat from [] cs) → Stops relation a b
-  stops_alone relation step = stops_by relation a b [] cs trail_same log (λ owner from holds. step from (sound_of a from holds))
+  stops_alone relation step = stops_by relation a b [] cs trail_same refl log (λ owner from holds. step from (sound_of a from holds))
 
 -- entries of others are none of the seat's own, and one behind them is
 pub own_none : (seat : ℕ) (os : List Entry) → AreOthers seat os → own_entries seat os ≡ []

@@ -16,8 +16,9 @@ use Rattle.channel_model.specs.Meanings.{Arrives, Meaning}
 use Rattle.channel_model.specs.Seen.{entries_of}
 use Rattle.channel_model.specs.Setting.{Setting}
 use Rattle.event_runner.specs.Delivering.{Delivers, HasDelivered, HasDeliveredSome}
+use Rattle.event_runner.specs.Goes.{AreMadeInTurns}
 use Rattle.event_runner.specs.Frames.{EndsAt, IsUncut}
-use Rattle.event_runner.proofs.TrailLemmas.{goes_of, own-append, own-others, own_added, trail_call, trail_none, trail_of, trail_trans}
+use Rattle.event_runner.proofs.TrailLemmas.{goes_of, made_one, made_others, made_trans, own-append, own-others, own_added, trail_call, trail_none, trail_of, trail_trans}
 
 -- what an arrive adds
 pub arrive_adds : (server link : ℕ) (bytes : List ℕ) (landed : Landed) (setting : Setting) (past : Past) (added : Option What) →
@@ -41,7 +42,7 @@ pub record HasHanded (server link : ℕ) (initial current : List ℕ) (old new :
   pub delivered : HasDelivered server link front old new
 
 pub handed_none : (server link : ℕ) (bytes : List ℕ) (known : Known) → HasHanded server link bytes bytes known known
-handed_none server link bytes known = record { front = []; messages = refl; left = refl; delivered = record { goes_on = goes_of known known [] (trail_none known); notes = refl } }
+handed_none server link bytes known = record { front = []; messages = refl; left = refl; delivered = record { goes_on = goes_of known known [] (trail_none known); made = refl; notes = refl } }
 
 -- one message more
 delivered_more : (server link : ℕ) (front : List (List ℕ)) (message : List ℕ) (a b c : Known) (landed : Landed) →
@@ -54,6 +55,9 @@ delivered_more server link front message a b c landed x call =
     ap (map (λ (e : Entry). e.what)) own ∙ ap (λ o. map (λ (e : Entry). e.what) (entries_of b.seat 0 o)) adds in
     record {
       goes_on = goes_of a c (x.goes_on.since ++ es) (trail_trans a b c x.goes_on.since es (trail_of a b x.goes_on) (trail_call _ 0 b c call));
+      made =
+          made_trans a b x.goes_on.since es x.goes_on.desk.seat x.made
+          (subst (λ o. AreMadeInTurns b.seat (call.stands.others ++ entries_of b.seat 0 o)) (sym adds) (made_one b.seat call.stands.others (Arrive server link message) call.stands.by_others refl));
       notes =
           ap (map (λ (e : Entry). e.what)) (own-append a.seat x.goes_on.since es)
           ∙ map-append (λ (e : Entry). e.what) (own_entries a.seat x.goes_on.since) (own_entries a.seat es)
@@ -82,6 +86,10 @@ handed_cut server link initial current message a b c fault x call =
     subst (λ seat. own_entries seat es ≡ entries_of b.seat 0 call.added) d.goes_on.desk.seat (call_own _ b c call) ∙ ap (λ o. entries_of b.seat 0 o) call.meant in
     record {
       goes_on = goes_of a c (d.goes_on.since ++ es) (trail_trans a b c d.goes_on.since es (trail_of a b d.goes_on) (trail_call _ 0 b c call));
+      made =
+          made_trans a b d.goes_on.since es d.goes_on.desk.seat d.made
+          (subst (λ o. AreMadeInTurns b.seat (call.stands.others ++ entries_of b.seat 0 o)) (sym call.meant)
+          (subst (AreMadeInTurns b.seat) (sym (append-nil call.stands.others)) (made_others b.seat call.stands.others call.stands.by_others)));
       handed = x.front;
       not_more = (messages_in [] current, sym x.messages);
       notes =
@@ -114,7 +122,7 @@ delivers_err server link messages (Err fault) a b err x = x
 
 -- none of the messages was handed
 pub delivered_none : (server link : ℕ) (messages : List (List ℕ)) (known : Known) → HasDeliveredSome server link messages known known
-delivered_none server link messages known = record { goes_on = goes_of known known [] (trail_none known); handed = []; not_more = (messages, refl); notes = refl }
+delivered_none server link messages known = record { goes_on = goes_of known known [] (trail_none known); made = refl; handed = []; not_more = (messages, refl); notes = refl }
 
 -- a piece behind bytes without a whole frame: the messages, and what is left
 module _ (bytes old piece all : List ℕ) (uncut : IsUncut bytes) (view : bytes ≡ old) (added : all ≡ bytes ++ piece) where

@@ -44,7 +44,7 @@ module _ (reading : ℕ) where
   -- one attempt expires
   pub expires_one : (a b : State) (number leg : ℕ) → b.rows ≡ a.rows → b.told ≡ a.told → b.mix ≡ a.mix → b.log ≡ a.log → Calls (Expires reading (Ok (Expired number leg))) 0 a.known b.known → Goes (Within reading expiring 0 1 0) a b
   expires_one a b number leg rows told mix log call =
-      goes_add (Expires reading (Ok (Expired number leg))) a b call (Expire number leg reading) call.meant.0 [] (log ∙ log_stays a.log) (Within reading expiring 0 1 0) mix
+      goes_add (Expires reading (Ok (Expired number leg))) a b call (Expire number leg reading) call.meant.0 refl [] (log ∙ log_stays a.log) (Within reading expiring 0 1 0) mix
       (λ os others idle from sound meant.
       let entry = own a.known.seat (Expire number leg reading) in
       let mid : Standing = record { past = followed_by from.past os; held = from.held; unwritten = from.unwritten } in

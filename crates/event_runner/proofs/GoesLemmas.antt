@@ -12,9 +12,9 @@ use Rattle.channel_model.specs.Course.{is_of_turn}
 use Rattle.channel_model.specs.Known.{Known}
 use Rattle.channel_model.specs.Setting.{Setting}
 use Rattle.channel_model.specs.Stretch.{Standing}
-use Rattle.event_runner.specs.Goes.{Break, Ends, Goes, Leads, Leaves, Stops, Stretch}
+use Rattle.event_runner.specs.Goes.{AreMadeInTurns, Break, Ends, Goes, Leads, Leaves, Stops, Stretch}
 use Rattle.event_runner.specs.State.{IsTurnOwner, State}
-use Rattle.event_runner.proofs.TrailLemmas.{Trail, goes_of, trail_none, trail_of, trail_trans}
+use Rattle.event_runner.proofs.TrailLemmas.{Trail, goes_of, made_trans, trail_none, trail_of, trail_trans}
 
 -- the one relation and then the other is the third
 abbrev pub AreJoined : Stretch → Stretch → Stretch → Type 0
@@ -41,7 +41,7 @@ Told kind old new = MatchOption old (new ≡ None) (λ earlier. (calls : List Wo
 some_same : (x y : List WorldCall) → ◌≡◌ {A = Option (List WorldCall)} (Some x) (Some y) → x ≡ y
 some_same x y e = cc
 
-told_trans : (P Q R : List WorldCall → Type 0) → ((cs ds : List WorldCall) → P cs → Q ds → R (cs ++ ds)) → (l m n : Option (List WorldCall)) → Told P l m → Told Q m n → Told R l n
+pub told_trans : (P Q R : List WorldCall → Type 0) → ((cs ds : List WorldCall) → P cs → Q ds → R (cs ++ ds)) → (l m n : Option (List WorldCall)) → Told P l m → Told Q m n → Told R l n
 told_trans P Q R join None None n a b = b
 told_trans P Q R join None (Some y) n a b = absurd (cc a)
 told_trans P Q R join (Some x) None n a b = absurd (cc (a.1))
@@ -66,6 +66,7 @@ goes_joined one two both join a b c x y =
     let fs : List Entry = y.goes_on.since in
     record {
       goes_on = goes_of a.known c.known (es ++ fs) (trail_trans a.known b.known c.known es fs x_trail y_trail);
+      made = made_trans a.known b.known es fs x_trail.desk.seat x.made y.made;
       told = told_trans
           (λ cs. IsTurnOwner b.known → Leads one a b es cs)
           (λ cs. IsTurnOwner c.known → Leads two b c fs cs)
@@ -88,6 +89,7 @@ stops_joined one two both join a b c x y =
     let fs : List Entry = y.goes_on.since in
     record {
       goes_on = goes_of a.known c.known (es ++ fs) (trail_trans a.known b.known c.known es fs x_trail y_trail);
+      made = made_trans a.known b.known es fs x_trail.desk.seat x.made y.made;
       told = told_trans
           (λ cs. IsTurnOwner b.known → Leads one a b es cs)
           (λ cs. IsTurnOwner c.known → Leaves two b fs cs)
@@ -105,6 +107,7 @@ pub goes_as : (one other : Stretch) → ((setting : Setting) (seat : ℕ) (a b :
     (a b : State) → Goes one a b → Goes other a b
 goes_as one other as_other a b x = record {
   goes_on = x.goes_on;
+  made = x.made;
   told = told_as
       (λ cs. IsTurnOwner b.known → Leads one a b x.goes_on.since cs) (λ cs. IsTurnOwner b.known → Leads other a b x.goes_on.since cs)
       (λ cs p owner from holds. let to = p owner from holds in (to.0, as_other a.known.setting a.known.seat from to.0 x.goes_on.since cs to.1, to.2))
@@ -115,6 +118,7 @@ goes_as one other as_other a b x = record {
 pub goes_none : (relation : Stretch) → ((setting : Setting) (seat : ℕ) (a : Standing) → relation setting seat a [] [] a) → (a : State) → Goes relation a a
 goes_none relation none a = record {
   goes_on = goes_of a.known a.known [] (trail_none a.known);
+  made = refl;
   told = told_by (λ cs. IsTurnOwner a.known → Leads relation a a [] cs) [] (λ owner from holds. (from, none a.known.setting a.known.seat from, holds)) a.log a.log (same a.log);
 }
   where
@@ -123,18 +127,20 @@ goes_none relation none a = record {
     same (Some x) = ap Some (sym (append-nil x))
 
 -- what a desk and a network did
-pub goes_by : (relation : Stretch) (a b : State) (es : List Entry) (cs : List WorldCall) → Trail a.known b.known es → b.log ≡ option_map (λ calls. calls ++ cs) a.log →
+pub goes_by : (relation : Stretch) (a b : State) (es : List Entry) (cs : List WorldCall) → Trail a.known b.known es → AreMadeInTurns a.known.seat es → b.log ≡ option_map (λ calls. calls ++ cs) a.log →
     (IsTurnOwner b.known → Leads relation a b es cs) → Goes relation a b
-goes_by relation a b es cs trail log leads = record {
+goes_by relation a b es cs trail made log leads = record {
   goes_on = goes_of a.known b.known es trail;
+  made = made;
   told = told_by (λ calls. IsTurnOwner b.known → Leads relation a b es calls) cs leads a.log b.log log;
 }
 
 -- the same, cut short
-pub stops_by : (relation : Break) (a b : State) (es : List Entry) (cs : List WorldCall) → Trail a.known b.known es → b.log ≡ option_map (λ calls. calls ++ cs) a.log →
+pub stops_by : (relation : Break) (a b : State) (es : List Entry) (cs : List WorldCall) → Trail a.known b.known es → AreMadeInTurns a.known.seat es → b.log ≡ option_map (λ calls. calls ++ cs) a.log →
     (IsTurnOwner b.known → Leaves relation a es cs) → Stops relation a b
-stops_by relation a b es cs trail log leaves = record {
+stops_by relation a b es cs trail made log leaves = record {
   goes_on = goes_of a.known b.known es trail;
+  made = made;
   told = told_by (λ calls. IsTurnOwner b.known → Leaves relation a es calls) cs leaves a.log b.log log;
 }
 

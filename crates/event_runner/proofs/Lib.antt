@@ -20,3 +20,8 @@ pub mod TrailLemmas
 pub mod TurnLemmas
 pub mod WithinLemmas
 pub mod WriteLemmas
+pub mod RoundLemmas
+pub mod CourseLemmas
+pub mod UnderWayLemmas
+pub mod RunLemmas
+pub mod Theorems

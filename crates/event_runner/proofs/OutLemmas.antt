@@ -26,7 +26,7 @@ use Rattle.channel_model.specs.Setting.{Setting}
 use Rattle.channel_model.specs.Stretch.{Agrees, Standing}
 use Rattle.channel_model.specs.Traffic.{arrived, asked, connects, datagrams, faulted, faults, messages, noted, opened, queued, written}
 use Rattle.channel_model.specs.Turn.{is_start_to}
-use Rattle.event_runner.specs.Goes.{Ends, Goes, Stops}
+use Rattle.event_runner.specs.Goes.{AreMadeInTurns, Ends, Goes, Stops}
 use Rattle.event_runner.specs.Parts.{Asks, CutAsking}
 use Rattle.event_runner.specs.State.{Gets, HasTold, State, Tells, serve_unless, told_with, was_told}
 use Rattle.event_runner.proofs.AskLemmas.{asked_tcp, asked_udp, asks_connected, asks_datagram, asks_of, asks_queued, begun_then, begun_two, behind_start, connected_sound, IsCore, core_connect, core_send, cut_connected, cut_of, cut_told, cut_untold, opened_tcp, opened_udp, queued_sound, sent_sound, serves_quiet}
@@ -34,7 +34,7 @@ use Rattle.event_runner.proofs.CallLemmas.{call_idle, call_meant, call_others, g
 use Rattle.event_runner.proofs.GoesLemmas.{goes_by, owner_before, stops_by}
 use Rattle.event_runner.proofs.RowLemmas.{row_started, sound_lost}
 use Rattle.event_runner.proofs.SoundLemmas.{AreIdle, Sound, sound_idle, sound_of, sound_one}
-use Rattle.event_runner.proofs.TrailLemmas.{Trail, trail_trans}
+use Rattle.event_runner.proofs.TrailLemmas.{Trail, made_one, made_others, made_trans, trail_trans}
 
 -- the same rows and servers, otherwise written
 sound_as : (setting : Setting) (rows rows' : List Row) (keys keys' : List ℕ) (s : Standing) → rows' ≡ rows → keys' ≡ keys → Sound setting rows keys s → Sound setting rows' keys' s
@@ -58,7 +58,7 @@ module _ (reading word bits number leg server : ℕ) (address : ServerAddr) (lin
     -- a datagram was sent
     pub goes_sent : link ≡ 0 → b.rows ≡ a.rows → b.told ≡ keys_are → b.mix ≡ a.mix → b.log ≡ option_map (λ calls. calls ++ calls_are (Send server message WasSent ∷ [])) a.log → Goes (Asks reading word bits) a b
     goes_sent udp rows keys mix log =
-        goes_add (Starts word bits reading (Ok (Started number leg server address link id message))) a b start entry_is start.meant.0 (calls_are (Send server message WasSent ∷ [])) log (Asks reading word bits) mix
+        goes_add (Starts word bits reading (Ok (Started number leg server address link id message))) a b start entry_is start.meant.0 refl (calls_are (Send server message WasSent ∷ [])) log (Asks reading word bits) mix
         (λ os others idle from sound meant. (
           behind_start a.known.setting a.known.seat reading word bits number leg server address link id message a.rows a.told os others idle from sound meant from.held,
           past_behind from os (own a.known.seat entry_is),
@@ -70,7 +70,7 @@ module _ (reading word bits number leg server : ℕ) (address : ServerAddr) (lin
     pub goes_queued : (before : List Row) (row : Row) (after : List Row) → a.rows ≡ before ++ row ∷ after → row.number ≡ link → b.rows ≡ before ++ record row { unwritten = row.unwritten ++ framed message } ∷ after →
         b.told ≡ keys_are → b.mix ≡ a.mix → b.log ≡ option_map (λ calls. calls ++ calls_are []) a.log → Goes (Asks reading word bits) a b
     goes_queued before row after split is rows keys mix log =
-        goes_add (Starts word bits reading (Ok (Started number leg server address link id message))) a b start entry_is start.meant.0 (calls_are []) log (Asks reading word bits) mix
+        goes_add (Starts word bits reading (Ok (Started number leg server address link id message))) a b start entry_is start.meant.0 refl (calls_are []) log (Asks reading word bits) mix
         (λ os others idle from sound meant.
         let at : Sound a.known.setting (before ++ row ∷ after) a.told (record { past = followed_by from.past os; held = from.held; unwritten = from.unwritten }) =
         subst (λ r. Sound a.known.setting r a.told (record { past = followed_by from.past os; held = from.held; unwritten = from.unwritten })) split (sound_idle a.known.setting a.rows a.told os from idle sound) in
@@ -85,7 +85,7 @@ module _ (reading word bits number leg server : ℕ) (address : ServerAddr) (lin
     pub goes_connected : link ≢ 0 → held_link link (map link_of_row a.rows) ≡ None → b.rows ≡ a.rows ++ record { number = link; server = server; unread = []; unwritten = [] ++ framed message } ∷ [] →
         b.told ≡ keys_are → b.mix ≡ a.mix → b.log ≡ option_map (λ calls. calls ++ calls_are (Connect server link WasSent ∷ [])) a.log → Goes (Asks reading word bits) a b
     goes_connected tcp none rows keys mix log =
-        goes_add (Starts word bits reading (Ok (Started number leg server address link id message))) a b start entry_is start.meant.0 (calls_are (Connect server link WasSent ∷ [])) log (Asks reading word bits) mix
+        goes_add (Starts word bits reading (Ok (Started number leg server address link id message))) a b start entry_is start.meant.0 refl (calls_are (Connect server link WasSent ∷ [])) log (Asks reading word bits) mix
         (λ os others idle from sound meant. (
           behind_start a.known.setting a.known.seat reading word bits number leg server address link id message a.rows a.told os others idle from sound meant (from.held ++ record { number = link; server = server; unread = [] } ∷ []),
           past_behind from os (own a.known.seat entry_is),
@@ -96,17 +96,17 @@ module _ (reading word bits number leg server : ℕ) (address : ServerAddr) (lin
     -- memory was wanting
     pub stops_untold : b.log ≡ option_map (λ calls. calls ++ []) a.log → Stops (CutAsking reading word bits) a b
     stops_untold log =
-        stops_add (Starts word bits reading (Ok (Started number leg server address link id message))) a b start entry_is start.meant.0 [] log (CutAsking reading word bits)
+        stops_add (Starts word bits reading (Ok (Started number leg server address link id message))) a b start entry_is start.meant.0 refl [] log (CutAsking reading word bits)
         (λ os others idle from sound meant. cut_untold a.known.setting a.known.seat reading word bits number leg server address link id message a.rows a.told os others idle from sound meant)
 
     pub stops_told : b.log ≡ option_map (λ calls. calls ++ calls_are []) a.log → Stops (CutAsking reading word bits) a b
     stops_told log =
-        stops_add (Starts word bits reading (Ok (Started number leg server address link id message))) a b start entry_is start.meant.0 (calls_are []) log (CutAsking reading word bits)
+        stops_add (Starts word bits reading (Ok (Started number leg server address link id message))) a b start entry_is start.meant.0 refl (calls_are []) log (CutAsking reading word bits)
         (λ os others idle from sound meant. cut_told a.known.setting a.known.seat reading word bits number leg server address link id message a.rows a.told os others idle from sound meant)
 
     pub stops_connected : link ≢ 0 → held_link link (map link_of_row a.rows) ≡ None → b.log ≡ option_map (λ calls. calls ++ calls_are (Connect server link WasSent ∷ [])) a.log → Stops (CutAsking reading word bits) a b
     stops_connected tcp none log =
-        stops_add (Starts word bits reading (Ok (Started number leg server address link id message))) a b start entry_is start.meant.0 (calls_are (Connect server link WasSent ∷ [])) log (CutAsking reading word bits)
+        stops_add (Starts word bits reading (Ok (Started number leg server address link id message))) a b start entry_is start.meant.0 refl (calls_are (Connect server link WasSent ∷ [])) log (CutAsking reading word bits)
         (λ os others idle from sound meant. cut_connected a.known.setting a.known.seat reading word bits number leg server address link id message a.rows a.told os others idle from sound meant tcp none)
 
   -- ---- a failure
@@ -228,6 +228,11 @@ module _ (reading word bits number leg server : ℕ) (address : ServerAddr) (lin
       start_trail : Trail a.known m (start.stands.others ++ own a.known.seat entry_is ∷ [])
       start_trail = trail_added (Starts word bits reading (Ok (Started number leg server address link id message))) a.known m start entry_is start.meant.0
 
+      both_made : AreMadeInTurns a.known.seat ((start.stands.others ++ own a.known.seat entry_is ∷ []) ++ (fault.stands.others ++ own a.known.seat fault_is ∷ []))
+      both_made = made_trans a.known m (start.stands.others ++ own a.known.seat entry_is ∷ []) (fault.stands.others ++ own a.known.seat fault_is ∷ []) start.desk.seat
+          (made_one a.known.seat start.stands.others entry_is start.stands.by_others refl)
+          (subst (λ s. AreMadeInTurns m.seat (fault.stands.others ++ own s fault_is ∷ [])) start.desk.seat (made_one m.seat fault.stands.others fault_is fault.stands.by_others refl))
+
       abbrev both_entries : List Entry
       both_entries = (start.stands.others ++ own a.known.seat entry_is ∷ []) ++ (fault.stands.others ++ own a.known.seat fault_is ∷ [])
 
@@ -241,7 +246,7 @@ module _ (reading word bits number leg server : ℕ) (address : ServerAddr) (lin
           Goes (Asks reading word bits) a b
       goes_failed mix log step =
           let trail = trail_trans a.known m b.known (start.stands.others ++ own a.known.seat entry_is ∷ []) (fault.stands.others ++ own a.known.seat fault_is ∷ []) start_trail fault_trail in
-          goes_by (Asks reading word bits) a b both_entries (calls_are core) trail log
+          goes_by (Asks reading word bits) a b both_entries (calls_are core) trail both_made log
           (λ owner. leads_by (Asks reading word bits) a b both_entries (calls_are core) trail mix (λ from sound past.
           let os : List Entry = start.stands.others in
           let others = call_others (Starts word bits reading (Ok (Started number leg server address link id message))) a.known m start in
@@ -270,7 +275,8 @@ module _ (reading word bits number leg server : ℕ) (address : ServerAddr) (lin
           let more : List Entry = fault.stands.others in
           let more_others : AreOthers a.known.seat more = subst (λ s. AreOthers s more) start.desk.seat (call_others (Fails server link reading (Err unkept)) m b.known fault) in
           let es : List Entry = (start.stands.others ++ own a.known.seat entry_is ∷ []) ++ more in
-          stops_by (CutAsking reading word bits) a b es (calls_are core) (trail_trans a.known m b.known (start.stands.others ++ own a.known.seat entry_is ∷ []) more first then_) log
+          stops_by (CutAsking reading word bits) a b es (calls_are core) (trail_trans a.known m b.known (start.stands.others ++ own a.known.seat entry_is ∷ []) more first then_)
+          (made_trans a.known m (start.stands.others ++ own a.known.seat entry_is ∷ []) more start.desk.seat (made_one a.known.seat start.stands.others entry_is start.stands.by_others refl) (made_others m.seat more fault.stands.by_others)) log
           (λ owner from holds.
           let sound = sound_of a from holds in
           let os : List Entry = start.stands.others in

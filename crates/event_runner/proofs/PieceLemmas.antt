@@ -102,7 +102,7 @@ module _ (reading : ℕ) (a b : State) (before : List Row) (row : Row) (after : 
       let seat = a.known.seat in
       let es : List Entry = delivered.goes_on.since in
       let trail = trail_of a.known b.known delivered.goes_on in
-      goes_by (Hears reading 1) a b es (Receive (Piece row.number bytes) ∷ []) trail log
+      goes_by (Hears reading 1) a b es (Receive (Piece row.number bytes) ∷ []) trail delivered.made log
       (λ owner. leads_by (Hears reading 1) a b es (Receive (Piece row.number bytes) ∷ []) trail mix (λ from sound past.
       let alone = arrivals_alone reading row.server row.number (own_entries seat es) (messages_in row.unread bytes) delivered.notes in
       let brings = arrivals_bring setting seat row.server row.number from.past es (messages_in row.unread bytes) delivered.notes in
@@ -134,7 +134,7 @@ module _ (reading : ℕ) (a b : State) (before : List Row) (row : Row) (after : 
       let es : List Entry = delivered.goes_on.since in
       let cs : List WorldCall = Receive (Piece row.number bytes) ∷ [] in
       let trail = trail_of a.known b.known delivered.goes_on in
-      stops_by (CutHearing reading) a b es cs trail log
+      stops_by (CutHearing reading) a b es cs trail delivered.made log
       (λ owner from holds.
       let sound = sound_of a from holds in
       let alone = arrivals_alone reading row.server row.number (own_entries seat es) delivered.handed delivered.notes in

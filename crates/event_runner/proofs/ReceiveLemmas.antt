@@ -80,7 +80,7 @@ module _ (reading : ℕ) where
   pub hears_datagram : (a b : State) (server : ℕ) (bytes : List ℕ) (landed : Landed) → Keeps a b → Gets (Receive (Datagram server bytes)) a.log b.log →
       Calls (Arrives server 0 bytes (Ok landed)) 0 a.known b.known → Goes (Hears reading 1) a b
   hears_datagram a b server bytes landed keeps log call =
-      goes_add (Arrives server 0 bytes (Ok landed)) a b call (Arrive server 0 bytes) (arrive_adds server 0 bytes landed a.known.setting _ call.added call.meant) (Receive (Datagram server bytes) ∷ []) log (Hears reading 1) keeps.mix
+      goes_add (Arrives server 0 bytes (Ok landed)) a b call (Arrive server 0 bytes) (arrive_adds server 0 bytes landed a.known.setting _ call.added call.meant) refl (Receive (Datagram server bytes) ∷ []) log (Hears reading 1) keeps.mix
       (λ os others idle from sound meant.
       let entry = own a.known.seat (Arrive server 0 bytes) in
       let mid : Standing = record { past = followed_by from.past os; held = from.held; unwritten = from.unwritten } in
@@ -172,7 +172,7 @@ module _ (reading : ℕ) where
     pub cut_close : (before : List Row) (row : Row) (after : List Row) (count : ℕ) → a.rows ≡ before ++ row ∷ after → row.number ≡ number → Gets (Receive got) a.log b.log →
         Calls (Fails row.server number reading (Ok count)) 0 a.known b.known → Stops (CutHearing reading) a b
     cut_close before row after count rows is log call =
-        stops_add (Fails row.server number reading (Ok count)) a b call (fault_at row.server number) call.meant.0 (Receive got ∷ []) log (CutHearing reading)
+        stops_add (Fails row.server number reading (Ok count)) a b call (fault_at row.server number) call.meant.0 refl (Receive got ∷ []) log (CutHearing reading)
         (λ os others idle from sound meant.
         let at : Sound a.known.setting (before ++ row ∷ after) a.told from = subst (λ r. Sound a.known.setting r a.told from) rows sound in
         loss_nearly a.known.setting a.known.seat from os row others is (subst (λ n. held_link n from.held ≡ Some (link_of_row row)) is (row_held a.known.setting a.told before row after from at)))
@@ -180,7 +180,7 @@ module _ (reading : ℕ) where
     pub hears_loss : (before : List Row) (row : Row) (after : List Row) (count : ℕ) → a.rows ≡ before ++ row ∷ after → b.rows ≡ before ++ after → b.told ≡ a.told → b.mix ≡ a.mix → row.number ≡ number →
         b.log ≡ option_map (λ calls. calls ++ (Receive got ∷ Close number ∷ [])) a.log → Calls (Fails row.server number reading (Ok count)) 0 a.known b.known → Goes (Hears reading 1) a b
     hears_loss before row after count rows left told_same mix is log call =
-        goes_add (Fails row.server number reading (Ok count)) a b call (fault_at row.server number) call.meant.0 (Receive got ∷ Close number ∷ []) log (Hears reading 1) mix
+        goes_add (Fails row.server number reading (Ok count)) a b call (fault_at row.server number) call.meant.0 refl (Receive got ∷ Close number ∷ []) log (Hears reading 1) mix
         (λ os others idle from sound meant.
         let setting = a.known.setting in
         let seat = a.known.seat in
@@ -274,7 +274,7 @@ module _ (reading : ℕ) where
     -- a failure's Fault has the numbers as given
     pub hears_failure : (server count : ℕ) → Keeps a b → Gets (Receive (LinkFailed server number)) a.log b.log → Calls (Fails server number reading (Ok count)) 0 a.known b.known → Goes (Hears reading 1) a b
     hears_failure server count keeps log call =
-        goes_add (Fails server number reading (Ok count)) a b call (fault_at server number) call.meant.0 (Receive (LinkFailed server number) ∷ []) log (Hears reading 1) keeps.mix
+        goes_add (Fails server number reading (Ok count)) a b call (fault_at server number) call.meant.0 refl (Receive (LinkFailed server number) ∷ []) log (Hears reading 1) keeps.mix
         (λ os others idle from sound meant.
         let entry = own a.known.seat (fault_at server number) in
         let cs : List WorldCall = Receive (LinkFailed server number) ∷ [] in

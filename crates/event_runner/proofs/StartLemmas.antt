@@ -158,7 +158,7 @@ module _ (reading : ℕ) where
 
   pub goes_drawn : (a : State) (log : Option (List WorldCall)) (word bits : ℕ) → log ≡ option_map (λ calls. calls ++ word_calls (words_of a.mix word bits)) a.log → Goes (DrawsWords word bits) a (record a { log = log })
   goes_drawn a log word bits is =
-      goes_by (DrawsWords word bits) a (record a { log = log }) [] (word_calls (words_of a.mix word bits)) (trail_none a.known) is
+      goes_by (DrawsWords word bits) a (record a { log = log }) [] (word_calls (words_of a.mix word bits)) (trail_none a.known) refl is
       (λ owner from holds. (
         from,
         record {

@@ -1,8 +1,10 @@
 -- Calls of a desk, one behind the other, with the entries that came between.
-use Rattle.std.proofs.Common.{◌≡◌, ◌≢◌, ◌∙◌, ℕ, ◌==◌, List, [], ◌∷◌, ◌++◌, Option, None, Some, refl, ap, ap₂, sym, ne_eqb, eq-eqb}
+use Rattle.std.proofs.Common.{◌≡◌, ◌≢◌, ◌∙◌, ℕ, ◌==◌, true, List, [], ◌∷◌, ◌++◌, Option, None, Some, refl, ap, ap₂, sym, subst, ne_eqb, eq-eqb}
 use Rattle.std.proofs.lemmas.List.{append-nil, append_assoc}
+use Rattle.std.proofs.lemmas.Bool.{and_from}
 use Rattle.std.proofs.lemmas.List.Elements.{filter-append}
-use Rattle.std.specs.List.{AllByRecursion}
+use Rattle.std.proofs.lemmas.List.Folds.{list_all-append}
+use Rattle.std.specs.List.{AllByRecursion, list_all}
 use Rattle.chan_types.specs.declared.journal.Entry.{Entry}
 use Rattle.chan_types.specs.declared.journal.What.{What}
 use Rattle.channel_model.proofs.Theorems.{calls_stretch}
@@ -10,7 +12,9 @@ use Rattle.channel_model.specs.Journal.{own_entries}
 use Rattle.channel_model.specs.Known.{Calls, GoesOn, IsSameDesk, Known}
 use Rattle.channel_model.specs.Lawful.{IsLawful}
 use Rattle.channel_model.specs.Meanings.{Meaning}
+use Rattle.channel_model.specs.Course.{is_of_turn}
 use Rattle.channel_model.specs.Seen.{entries_of}
+use Rattle.event_runner.specs.Goes.{AreMadeInTurns, is_made_in_turn}
 
 -- a desk went on by these entries
 pub record Trail (old new : Known) (entries : List Entry) : Type 0 where
@@ -73,3 +77,21 @@ own-others seat (o ∷ os) others = rw (ne_eqb o.seat seat others.0) (own-others
 pub own_added : (seat by : ℕ) (added : Option What) → own_entries seat (entries_of seat by added) ≡ entries_of seat by added
 own_added seat by None = refl
 own_added seat by (Some what) = rw (eq-eqb seat seat refl) refl
+
+-- entries that were made in turns, and others
+pub made_trans : (a b : Known) (es fs : List Entry) → b.seat ≡ a.seat → AreMadeInTurns a.seat es → AreMadeInTurns b.seat fs → AreMadeInTurns a.seat (es ++ fs)
+made_trans a b es fs seat x y =
+    ap (list_all is_made_in_turn) (own-append a.seat es fs) ∙ list_all-append is_made_in_turn (own_entries a.seat es) (own_entries a.seat fs)
+    ∙ and_from _ _ x (subst (λ s. AreMadeInTurns s fs) seat y)
+
+-- those of other seats
+pub made_others : (seat : ℕ) (os : List Entry) → AllByRecursion (λ entry. entry.seat ≢ seat) os → AreMadeInTurns seat os
+made_others seat os others = ap (list_all is_made_in_turn) (own-others seat os others)
+
+-- and one of the seat's behind them
+pub made_one : (seat : ℕ) (os : List Entry) (what : What) → AllByRecursion (λ entry. entry.seat ≢ seat) os → is_of_turn (record { seat = seat; by = 0; what = what }) ≡ true →
+    AreMadeInTurns seat (os ++ record { seat = seat; by = 0; what = what } ∷ [])
+made_one seat os what others of_turn =
+    let entry : Entry = record { seat = seat; by = 0; what = what } in
+    ap (list_all is_made_in_turn) (own-append seat os (entry ∷ []) ∙ ap₂ (λ l m. l ++ m) (own-others seat os others) (own_added seat 0 (Some what)))
+    ∙ and_from (is_made_in_turn entry) true (and_from (is_of_turn entry) (entry.by == 0) of_turn refl) refl

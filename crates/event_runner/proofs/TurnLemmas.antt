@@ -55,7 +55,7 @@ module _ (reading : ℕ) where
   -- it read the clock
   pub reads_clock : (a : State) (log : Option (List WorldCall)) → Gets (Now reading) a.log log → Goes (SoFar [] 0 0 0) a (record a { log = log })
   reads_clock a log got =
-      goes_by (SoFar [] 0 0 0) a (record a { log = log }) [] (Now reading ∷ []) (trail_none a.known) got
+      goes_by (SoFar [] 0 0 0) a (record a { log = log }) [] (Now reading ∷ []) (trail_none a.known) refl got
       (λ owner from holds. (
         from,
         record {
@@ -112,7 +112,7 @@ module _ (reading : ℕ) where
 pub unread : (a b : State) → b.known ≡ a.known → b.log ≡ a.log → Stops IsCutShort a b
 unread a b same log =
     subst (λ k. Stops IsCutShort a (record { known = k; rows = b.rows; told = b.told; mix = b.mix; log = b.log })) (sym same)
-    (stops_by IsCutShort a (record { known = a.known; rows = b.rows; told = b.told; mix = b.mix; log = b.log }) [] [] (trail_none a.known) (log ∙ log_stays a.log) (λ owner from holds. inl (refl, refl)))
+    (stops_by IsCutShort a (record { known = a.known; rows = b.rows; told = b.told; mix = b.mix; log = b.log }) [] [] (trail_none a.known) refl (log ∙ log_stays a.log) (λ owner from holds. inl (refl, refl)))
 
 -- five parts are a turn
 pub five_parts : (reading q d t : ℕ) (a b : State) → Goes (SoFar reading all_parts (0 + q + 0 + 0 + 0 + 0) (0 + 0 + d + 0 + 0 + 0) (0 + 0 + 0 + t + 0 + 0)) a b → Goes (MakesTurn (record { reading = reading; received = q; expired = d; started = t })) a b

@@ -39,6 +39,7 @@ pub goes_with : (one other : Stretch) (a b : State) →
     Goes one a b → Goes other a b
 goes_with one other a b as_other x = record {
   goes_on = x.goes_on;
+  made = x.made;
   told = told_as
       (λ cs. IsTurnOwner b.known → Leads one a b x.goes_on.since cs) (λ cs. IsTurnOwner b.known → Leads other a b x.goes_on.since cs)
       (λ cs p owner from holds.
@@ -54,6 +55,7 @@ pub stops_as : (one : Stretch) (cut : Break) (a b c : State) → c.known ≡ b.k
 stops_as one cut a b c known log as_cut x =
     let whole : Stops cut a b = record {
       goes_on = x.goes_on;
+      made = x.made;
       told = told_as
           (λ cs. IsTurnOwner b.known → Leads one a b x.goes_on.since cs) (λ cs. IsTurnOwner b.known → Leaves cut a x.goes_on.since cs)
           (λ cs p owner from holds. let to = p owner from holds in as_cut a.known.setting a.known.seat from to.0 x.goes_on.since cs to.1)
@@ -64,7 +66,7 @@ stops_as one cut a b c known log as_cut x =
     moved : c.known ≡ b.known → c.log ≡ b.log → Stops cut a b → Stops cut a c
     moved known log s =
         subst (λ l. Stops cut a (record c { log = l })) (sym log) (subst (λ k. Stops cut a (record { known = k; rows = c.rows; told = c.told; mix = c.mix; log = b.log })) (sym known)
-        (record { goes_on = s.goes_on; told = s.told }))
+        (record { goes_on = s.goes_on; made = s.made; told = s.told }))
 
 -- the last of the answers took nothing
 pub last_behind : (xs ys : List Wrote) → last_took_nothing ys ≡ true → last_took_nothing (xs ++ ys) ≡ true
@@ -273,7 +275,7 @@ module _ (reading : ℕ) where
     -- behind its Fault, before its close
     pub cut_failed : (count : ℕ) → Calls (Fails row.server row.number reading (Ok count)) 0 a.known b.known → Gets failing a.log b.log → Stops (CutWriting reading) a b
     cut_failed count call log =
-        stops_add (Fails row.server row.number reading (Ok count)) a b call (failed_at row.server row.number) call.meant.0 (failing ∷ []) log (CutWriting reading)
+        stops_add (Fails row.server row.number reading (Ok count)) a b call (failed_at row.server row.number) call.meant.0 refl (failing ∷ []) log (CutWriting reading)
         (λ os others idle from sound meant.
         let entry = own a.known.seat (failed_at row.server row.number) in
         let mine = own_one a.known.seat os entry others refl in
@@ -298,7 +300,7 @@ module _ (reading : ℕ) where
     pub goes_lost : (count : ℕ) → Calls (Fails row.server row.number reading (Ok count)) 0 a.known b.known → b.rows ≡ before ++ after → b.told ≡ a.told → b.mix ≡ a.mix →
         b.log ≡ option_map (λ calls. calls ++ (failing ∷ Close row.number ∷ [])) a.log → Goes (Loses row.number) a b
     goes_lost count call left keys mix log =
-        goes_add (Fails row.server row.number reading (Ok count)) a b call (failed_at row.server row.number) call.meant.0 (failing ∷ Close row.number ∷ []) log (Loses row.number) mix
+        goes_add (Fails row.server row.number reading (Ok count)) a b call (failed_at row.server row.number) call.meant.0 refl (failing ∷ Close row.number ∷ []) log (Loses row.number) mix
         (λ os others idle from sound meant.
         let setting = a.known.setting in
         let seat = a.known.seat in

@@ -6,6 +6,7 @@ use Rattle.chan_types.specs.declared.journal.What.TheVariants.{Arrive}
 use Rattle.item_list.specs.declared.no_memory.NoMemory.{NoMemory}
 use Rattle.channel_model.specs.Journal.{own_entries}
 use Rattle.channel_model.specs.Known.{GoesOn, Known}
+use Rattle.event_runner.specs.Goes.{AreMadeInTurns}
 
 -- the entries of a seat are that these messages came from the server over the link, in order
 abbrev pub NoteArrivals : ℕ → ℕ → ℕ → List (List ℕ) → List Entry → Type 0
@@ -14,11 +15,13 @@ NoteArrivals seat server link messages entries = map (λ entry. entry.what) (own
 -- a desk was handed these messages
 pub record HasDelivered (server link : ℕ) (messages : List (List ℕ)) (old new : Known) : Type 0 where
   pub goes_on : GoesOn old new
+  pub made : AreMadeInTurns old.seat goes_on.since
   pub notes : NoteArrivals old.seat server link messages goes_on.since
 
 -- a desk was handed the first of these messages
 pub record HasDeliveredSome (server link : ℕ) (messages : List (List ℕ)) (old new : Known) : Type 0 where
   pub goes_on : GoesOn old new
+  pub made : AreMadeInTurns old.seat goes_on.since
   pub handed : List (List ℕ)
   pub not_more : IsPrefix handed messages
   pub notes : NoteArrivals old.seat server link handed goes_on.since

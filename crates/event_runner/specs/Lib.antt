@@ -7,3 +7,4 @@ pub mod Rows
 pub mod Running
 pub mod State
 pub mod Turning
+pub mod UnderWay

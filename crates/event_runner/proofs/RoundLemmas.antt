@@ -1,0 +1,171 @@
+-- Turns with what stands behind them, where one more comes or the last one changes.
+use Rattle.std.proofs.Common.{◌≡◌, ◌∙◌, ℕ, ◌==◌, ◌&&◌, ◌||◌, Bool, true, false, List, [], ◌∷◌, ◌++◌, length, map, not, refl, ap, sym}
+use Rattle.std.specs.Prelude.{Option, Some, None, flat_map, is_none, is_some}
+use Rattle.std.specs.List.{list_all}
+use Rattle.std.specs.Option.{option_map_or}
+use Rattle.std.proofs.lemmas.Bool.{and_from, and_parts}
+use Rattle.std.proofs.lemmas.List.{append_assoc, flat_map_more}
+use Rattle.std.proofs.lemmas.List.Folds.{list_all-append}
+use Rattle.chan_types.specs.declared.journal.Entry.{Entry}
+use Rattle.resolv_options.specs.Lasts.{last_or}
+use Rattle.channel_model.specs.Course.{AreTurns, Rest, Round, goes_on, has_no_turn, is_of_turn, may_follow, skips, standing_after, wakes_at}
+use Rattle.channel_model.specs.Completion.{pending, ready}
+use Rattle.channel_model.specs.Endings.{somewhere_behind}
+use Rattle.channel_model.specs.Journal.{Past, followed_by}
+use Rattle.channel_model.specs.Setting.{Setting}
+use Rattle.channel_model.specs.Stretch.{Standing, behind}
+use Rattle.channel_model.specs.Turn.{somewhere}
+use Rattle.event_runner.specs.UnderWay.{Reach, delivered, following, has_come, has_rested, is_delivered, rested, turned}
+
+-- no turns, or turns with a last one
+pub by_last : (P : List Round → Type 0) → P [] → ((before : List Round) (round : Round) → P (before ++ round ∷ [])) → (rounds : List Round) → P rounds
+by_last P none some [] = none
+by_last P none some (x ∷ rounds) = by_last (λ l. P (x ∷ l)) (some [] x) (λ before round. some (x ∷ before) round) rounds
+
+-- one of two tests holds
+pub either_first : (b c : Bool) → b ≡ true → (b || c) ≡ true
+either_first b c p = rw p refl
+
+pub either_second : (b c : Bool) → c ≡ true → (b || c) ≡ true
+either_second true c p = refl
+either_second false c p = p
+
+-- two tests of which one holds, where each makes a third hold
+pub by_either : {P : Type 0} (b c : Bool) → (b || c) ≡ true → (b ≡ true → P) → (c ≡ true → P) → P
+by_either true c h left right = left refl
+by_either false c h left right = right h
+
+-- the last of turns
+pub last_or-snoc : {A X : Type 0} (f : X → A) (item : A) (xs : List X) (x : X) → last_or item (map f (xs ++ x ∷ [])) ≡ f x
+last_or-snoc f item [] x = refl
+last_or-snoc f item (y ∷ xs) x = last_or-snoc f (f y) xs x
+
+pub somewhere_behind-snoc : (test : Past → Bool) (first : List Entry) (rounds : List Round) (round : Round) → somewhere_behind test first (rounds ++ round ∷ []) ≡ somewhere test round.new.past round.between
+somewhere_behind-snoc test first [] round = refl
+somewhere_behind-snoc test first (x ∷ []) round = refl
+somewhere_behind-snoc test first (x ∷ y ∷ rounds) round = somewhere_behind-snoc test first (y ∷ rounds) round
+
+pub standing_after-snoc : (s : Standing) (rounds : List Round) (round : Round) → standing_after s (rounds ++ round ∷ []) ≡ behind round.new round.between
+standing_after-snoc s [] round = refl
+standing_after-snoc s (x ∷ rounds) round = standing_after-snoc (behind x.new x.between) rounds round
+
+-- a list that is made of turns, where the last one makes more
+pub flat_last : {A : Type 0} (f : Round → List A) (front : List A) (before : List Round) (old new : Round) (more : List A) → f new ≡ f old ++ more →
+    front ++ flat_map f (before ++ new ∷ []) ≡ (front ++ flat_map f (before ++ old ∷ [])) ++ more
+flat_last f front before old new more is =
+    sym (flat_map_more f front before new) ∙ ap (λ l. (front ++ flat_map f before) ++ l) is
+    ∙ sym (append_assoc (front ++ flat_map f before) (f old) more) ∙ ap (λ l. l ++ more) (flat_map_more f front before old)
+
+-- a test that held at a position holds somewhere behind more entries too
+pub somewhere-grows : (test : Past → Bool) (past : Past) (es more : List Entry) → somewhere test past es ≡ true → somewhere test past (es ++ more) ≡ true
+somewhere-grows test past [] [] h = h
+somewhere-grows test past [] (e ∷ more) h = either_first (test past) (somewhere test (e.what ∷ past) more) h
+somewhere-grows test past (e ∷ es) more h = by_either (test past) (somewhere test (e.what ∷ past) es) h
+    (λ here. either_first (test past) (somewhere test (e.what ∷ past) (es ++ more)) here)
+    (λ later. either_second (test past) (somewhere test (e.what ∷ past) (es ++ more)) (somewhere-grows test (e.what ∷ past) es more later))
+
+-- a test that holds at the end holds somewhere
+pub somewhere-end : (test : Past → Bool) (past : Past) (es : List Entry) → test (followed_by past es) ≡ true → somewhere test past es ≡ true
+somewhere-end test past [] h = h
+somewhere-end test past (e ∷ es) h = either_second (test past) (somewhere test (e.what ∷ past) es) (somewhere-end test (e.what ∷ past) es h)
+
+-- entries that no turn makes, and more of them
+pub no_turn-append : (es more : List Entry) → has_no_turn es ≡ true → has_no_turn more ≡ true → has_no_turn (es ++ more) ≡ true
+no_turn-append es more p q = list_all-append (λ entry. not (is_of_turn entry)) es more ∙ and_from (has_no_turn es) (has_no_turn more) p q
+
+-- the turn with more entries behind it
+abbrev pub with_more : List Entry → Round → Round
+with_more more round = record round { between = round.between ++ more }
+
+-- the turn with a wait behind it
+abbrev pub with_rest : Rest → Round → Round
+with_rest rest round = record round { rest = Some rest }
+
+module _ (setting : Setting) where
+  -- what may follow a turn may follow it where others come behind that
+  may_snoc : (x : Round) (rounds : List Round) (round : Round) → goes_on setting x ≡ true → may_follow setting x (rounds ++ round ∷ []) ≡ true
+  may_snoc x [] round h = h
+  may_snoc x (y ∷ rounds) round h = h
+
+  may_start : (x : Round) (rounds : List Round) (round : Round) → may_follow setting x (rounds ++ round ∷ []) ≡ true → goes_on setting x ≡ true
+  may_start x [] round h = h
+  may_start x (y ∷ rounds) round h = h
+
+  may_of : (x : Round) (rounds : List Round) → goes_on setting x ≡ true → may_follow setting x rounds ≡ true
+  may_of x [] h = refl
+  may_of x (y ∷ rounds) h = h
+
+  module _ (seat slice : ℕ) where
+    -- one turn more, where the run goes on behind each
+    pub turns_snoc : (s : Standing) (rounds : List Round) (round : Round) → AreTurns setting seat slice s rounds → list_all (goes_on setting) rounds ≡ true →
+        AreTurns setting seat slice (standing_after s rounds) (round ∷ []) → AreTurns setting seat slice s (rounds ++ round ∷ [])
+    turns_snoc s [] round turns go one = one
+    turns_snoc s (x ∷ rounds) round turns go one =
+        let parts = and_parts (goes_on setting x) (list_all (goes_on setting) rounds) go in
+        (turns.0, turns.1, turns.2, may_snoc x rounds round parts.0, turns_snoc (behind x.new x.between) rounds round turns.4 parts.1 one)
+
+    -- and back
+    pub turns_unsnoc : (s : Standing) (rounds : List Round) (round : Round) → AreTurns setting seat slice s (rounds ++ round ∷ []) →
+        AreTurns setting seat slice s rounds × (list_all (goes_on setting) rounds ≡ true) × AreTurns setting seat slice (standing_after s rounds) (round ∷ [])
+    turns_unsnoc s [] round turns = (tt, refl, turns)
+    turns_unsnoc s (x ∷ rounds) round turns =
+        let rest = turns_unsnoc (behind x.new x.between) rounds round turns.4 in
+        let go : goes_on setting x ≡ true = may_start x rounds round turns.3 in
+        ((turns.0, turns.1, turns.2, may_of x rounds go, rest.0), and_from (goes_on setting x) (list_all (goes_on setting) rounds) go rest.1, rest.2)
+
+    -- the last turn may change as long as it stays one
+    pub turns_last : (s : Standing) (before : List Round) (old new : Round) → AreTurns setting seat slice s (before ++ old ∷ []) →
+        (AreTurns setting seat slice (standing_after s before) (old ∷ []) → AreTurns setting seat slice (standing_after s before) (new ∷ [])) →
+        AreTurns setting seat slice s (before ++ new ∷ [])
+    turns_last s before old new turns change =
+        let parts = turns_unsnoc s before old turns in
+        turns_snoc s before new parts.0 parts.1 (change parts.2)
+
+    -- where the last turn goes on, all do
+    pub all_go_on : (s : Standing) (rounds : List Round) → AreTurns setting seat slice s rounds → last_or true (map (goes_on setting) rounds) ≡ true → list_all (goes_on setting) rounds ≡ true
+    all_go_on s rounds = by_last
+        (λ rounds. AreTurns setting seat slice s rounds → last_or true (map (goes_on setting) rounds) ≡ true → list_all (goes_on setting) rounds ≡ true)
+        (λ turns last. refl)
+        (λ before round turns last.
+        let go : goes_on setting round ≡ true = sym (last_or-snoc (goes_on setting) true before round) ∙ last in
+        list_all-append (goes_on setting) before (round ∷ []) ∙ and_from (list_all (goes_on setting) before) (list_all (goes_on setting) (round ∷ []))
+        (turns_unsnoc s before round turns).1 (and_from (goes_on setting round) true go refl))
+        rounds
+
+    -- more entries behind a turn
+    pub turn_more : (s : Standing) (more : List Entry) (round : Round) → has_no_turn more ≡ true → AreTurns setting seat slice s (round ∷ []) → AreTurns setting seat slice s (with_more more round ∷ [])
+    turn_more s more round none turns =
+        (turns.0, no_turn-append round.between more turns.1 none, timely round.rest turns.2, refl, tt)
+      where
+        timely : (rest : Option Rest) → option_map_or (λ r. somewhere (λ past. r.until == wakes_at setting round.reading slice past) round.new.past round.between) rest true ≡ true →
+            option_map_or (λ r. somewhere (λ past. r.until == wakes_at setting round.reading slice past) round.new.past (round.between ++ more)) rest true ≡ true
+        timely None h = h
+        timely (Some r) h = somewhere-grows (λ past. r.until == wakes_at setting round.reading slice past) round.new.past round.between more h
+
+  -- two of which the second holds where the first does
+  or_grows : (b c d : Bool) → (c ≡ true → d ≡ true) → (b || c) ≡ true → (b || d) ≡ true
+  or_grows b c d grows h = by_either b c h (λ p. either_first b d p) (λ p. either_second b d (grows p))
+
+  -- so far as a turn has come, it has come with more entries behind it
+  pub come_more : (reach : Reach) (more : List Entry) (round : Round) → has_come setting reach round ≡ true → has_come setting reach (with_more more round) ≡ true
+  come_more turned more round come = come
+  come_more delivered more round come =
+      let parts = and_parts (is_none round.rest) (is_delivered setting round) come in
+      and_from (is_none round.rest) (is_delivered setting (with_more more round)) parts.0
+      (somewhere-grows (λ past. length (ready setting past) == 0) round.new.past round.between more parts.1)
+  come_more rested more round come =
+      let parts = and_parts (is_delivered setting round) (has_rested setting round) come in
+      and_from (is_delivered setting (with_more more round)) (has_rested setting (with_more more round))
+      (somewhere-grows (λ past. length (ready setting past) == 0) round.new.past round.between more parts.0)
+      (or_grows (is_some round.rest) (somewhere (skips setting) round.new.past round.between) (somewhere (skips setting) round.new.past (round.between ++ more))
+      (somewhere-grows (skips setting) round.new.past round.between more) parts.1)
+  come_more following more round come =
+      let some : Past → Bool = λ past. not (length (pending setting past) == 0) in
+      let parts = and_parts (is_delivered setting round && somewhere some round.new.past round.between) (has_rested setting round) come in
+      let others = and_parts (is_delivered setting round) (somewhere some round.new.past round.between) parts.0 in
+      and_from (is_delivered setting (with_more more round) && somewhere some round.new.past (round.between ++ more)) (has_rested setting (with_more more round))
+      (and_from (is_delivered setting (with_more more round)) (somewhere some round.new.past (round.between ++ more))
+      (somewhere-grows (λ past. length (ready setting past) == 0) round.new.past round.between more others.0)
+      (somewhere-grows some round.new.past round.between more others.1))
+      (or_grows (is_some round.rest) (somewhere (skips setting) round.new.past round.between) (somewhere (skips setting) round.new.past (round.between ++ more))
+      (somewhere-grows (skips setting) round.new.past round.between more) parts.1)

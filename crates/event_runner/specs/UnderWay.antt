@@ -1,0 +1,62 @@
+-- A run under way: where it stands between two calls of its runner, and how far it has come behind its last turn.
+use Rattle.std.specs.Prelude.{Bool, IsTrue, List, MatchOption, None, Option, Some, is_none, is_some, length, map, true, ℕ, ◌&&◌, ◌++◌, ◌==◌, ◌||◌, ◌≡◌, ◌≤◌}
+use Rattle.net_world.specs.declared.log.WorldCall.{WorldCall}
+use Rattle.channel_model.specs.Completion.{ready}
+use Rattle.channel_model.specs.Course.{IsCourse, IsCourseSoFar, Round, goes_on, skips, standing_after}
+use Rattle.channel_model.specs.Known.{Known}
+use Rattle.channel_model.specs.Setting.{Setting}
+use Rattle.channel_model.specs.Stretch.{beginning, behind}
+use Rattle.channel_model.specs.Turn.{somewhere}
+use Rattle.resolv_options.specs.Lasts.{last_or}
+use Rattle.event_runner.specs.Running.{Running, run_of}
+use Rattle.event_runner.specs.State.{Holds, IsTurnOwner}
+
+-- how far a run has come behind its last turn: the turn was made; then all that was ready was delivered; then it rested, or had no reason to; and then it may make another turn
+pub data Reach : Type 0 where
+  turned : Reach
+  delivered : Reach
+  rested : Reach
+  following : Reach
+
+module _ (setting : Setting) where
+  -- behind the turn there is a position at which nothing is ready
+  abbrev pub is_delivered : Round → Bool
+  is_delivered round = somewhere (λ past. length (ready setting past) == 0) round.new.past round.between
+
+  -- behind the turn stands a wait, or a position at which none is called for
+  abbrev pub has_rested : Round → Bool
+  has_rested round = is_some round.rest || somewhere (skips setting) round.new.past round.between
+
+  -- a turn with what stands behind it has come so far
+  abbrev pub has_come : Reach → Round → Bool
+  has_come turned round = is_none round.rest
+  has_come delivered round = is_none round.rest && is_delivered round
+  has_come rested round = is_delivered round && has_rested round
+  has_come following round = goes_on setting round
+
+-- the journal that a desk has seen, and these calls, are a course of so many turns, which goes on behind each turn but the last
+pub record IsUnderWay (slice turns asides : ℕ) (reach : Reach) (known : Known) (running : Running) (calls : List WorldCall) : Type 0 where
+  pub course : IsCourse known.setting known.seat slice known.seen calls turns asides
+  -- the last turn, if there is one, has come so far
+  pub come : IsTrue (last_or true (map (has_come known.setting reach) course.rounds))
+  -- the runner's reading of the clock is the last turn's, or 0 before the first
+  pub reading : last_or 0 (map (λ round. round.reading) course.rounds) ≡ running.reading
+  -- what the runner keeps is as the course's end has it
+  pub holds : Holds (run_of known running None) (standing_after (behind beginning course.first) course.rounds)
+
+-- a log that is told goes on with calls of this kind
+abbrev pub LogGets : (List WorldCall → Type 0) → Option (List WorldCall) → Option (List WorldCall) → Type 0
+LogGets kind old new = MatchOption old (new ≡ None) (λ earlier. (calls : List WorldCall) × (new ≡ Some (earlier ++ calls)) × kind calls)
+
+-- the same of a log that is told since the run began, where no other seat makes entries of turns
+abbrev pub RunsSince : ℕ → ℕ → ℕ → Reach → Known → Running → Option (List WorldCall) → Option (List WorldCall) → Type 0
+RunsSince slice turns asides reach known running log_old log_new =
+    LogGets (λ calls. IsTurnOwner known → IsUnderWay slice turns asides reach known running calls) log_old log_new
+
+-- the journal that a desk has seen, and these calls, are a course of at most so many turns, or one that was cut short
+abbrev pub IsSoFar : ℕ → ℕ → ℕ → Known → List WorldCall → Type 0
+IsSoFar slice most asides known calls = (made : ℕ) × (made ≤ most) × IsCourseSoFar known.setting known.seat slice known.seen calls made asides
+
+-- the same of a log that is told since the run began
+abbrev pub RanSince : ℕ → ℕ → ℕ → Known → Option (List WorldCall) → Option (List WorldCall) → Type 0
+RanSince slice most asides known log_old log_new = LogGets (λ calls. IsTurnOwner known → IsSoFar slice most asides known calls) log_old log_new
