@@ -1,7 +1,7 @@
 //! A channel with one owner.
 
 ghost use Rattle.std.specs.Prelude.{◌≡◌, [], IfOk, IsTrue};
-ghost use Rattle.channel_table.specs.Calling.{known_alone};
+ghost use Rattle.channel_table.specs.Calling.{known_by_owner};
 ghost use Rattle.channel_table.specs.Rows.{HasOneLeg};
 
 use crate::table::Table;
@@ -13,7 +13,7 @@ use resolv_options::Options;
 use std::alloc::Global;
 use std::marker::Model;
 
-/// A channel with one owner, who has seat 0. Contracts see what he knows: the whole journal, which he made alone.
+/// A channel with one owner, who has seat 0. Contracts see its setting, and the whole journal, which he made alone.
 #[derive(Drop)]
 pub struct Alone<T: Token> {
     table: Table<T>,
@@ -23,21 +23,20 @@ pub struct Alone<T: Token> {
 impl<T: Token> Model for Alone<T> {
     ghost use Rattle.std.specs.Coded.{codes};
     ghost use Rattle.chan_types.specs.PlanCode.{moves_code};
-    ghost use Rattle.channel_model.specs.Known.{Known};
-    ghost use Rattle.channel_table.specs.Calling.{known_alone};
+    ghost use Rattle.channel_table.specs.Calling.{Owned, owned};
 
-    ghost Value = { Known };
+    ghost Value = { Owned };
 
     ghost coded = { Prim.hlevel (codes, moves_code) };
 
-    ghost view = { λ alone. known_alone alone.voice alone.table };
+    ghost view = { λ alone. owned alone.voice alone.table };
 }
 
 impl<T: Token> Alone<T> {
     /// A channel without a request.
     pub fn make(alloc: Global, options: Options, hosts: Hosts) -> Result<Alone<T>, NoMemory>
         ensures { IfOk result (λ alone. alone
-            ≡ known_alone 0 (record { setting = record { options = options; hosts = hosts }; journal = [] })) }
+            ≡ record { setting = record { options = options; hosts = hosts }; voice = 0; seen = [] }) }
     {
         Ok(Alone {
             table: Table::make(alloc, options, hosts)?,
@@ -63,7 +62,7 @@ impl<T: Token> Alone<T> {
 impl<T: Token> Desk for Alone<T> {
     type Token = T;
 
-    ghost known = { λ alone. alone };
+    ghost known = { known_by_owner };
 
     /// Accepts a request. One for addresses is refused as for want of memory, until the table has its two legs.
     fn accept(&mut self, spec: Spec, token: T) -> Result<u64, Refused<T>> {
