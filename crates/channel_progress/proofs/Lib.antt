@@ -1,0 +1,26 @@
+mod ListLemmas
+mod LeftLemmas
+mod CandidateLemmas
+mod StandLemmas
+mod AskingLemmas
+mod FlyingLemmas
+mod FitLemmas
+mod EntryLemmas
+mod ViewLemmas
+mod IdentifierLemmas
+mod OfPartLemmas
+mod PartLemmas
+mod TurnLemmas
+mod GapLemmas
+mod WaitLemmas
+mod WakeLemmas
+mod RoundLemmas
+mod CourseLemmas
+pub mod ScriptLemmas
+pub mod StalledLemmas
+pub mod Theorems
+pub mod WakingExamples
+pub mod AllowedExamples
+pub mod ExampleWords
+pub mod StalledExample
+pub mod EarlyExample

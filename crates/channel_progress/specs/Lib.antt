@@ -1,0 +1,4 @@
+pub mod Allowed
+pub mod Waking
+pub mod Prompted
+pub mod PlainRun
