@@ -1,32 +1,37 @@
-//! `adig` asks a name server for the addresses of a name, and prints the answer.
-//! Real sockets aren't here yet: the network is one in memory that never answers.
+//! `adig` asks name servers one question, and prints what they answer.
 #![tactic(auto)]
 
-mod output;
-
 use adig_tool::run;
-use net_world::{MemFiles, ScriptWorld};
-use output::Output;
+use sock_engine::{RealFiles, RealSink, SockWorld};
 use std::alloc::{AllocError, Global};
-use std::collections::BTreeMap;
 use std::process::ExitCode;
 use std::rt::Env;
 use std::{env, io};
+use tool_line::Exit;
 
 /// How many turns a run may make.
 const TURNS: u64 = 10_000_000;
 
-/// The exit status for want of memory.
-const OUT_OF_MEMORY: u8 = 5;
-
 fn main(rt: HostRuntime) -> ExitCode {
     let alloc = rt.alloc();
-    let mut output = Output::new(io::writer(&rt));
-    let status = match words_of(&rt, alloc) {
-        Ok(words) => asked(alloc, words.as_slice(), &mut output),
-        Err(AllocError) => OUT_OF_MEMORY,
+    let Ok(owned) = words_of(&rt, alloc) else {
+        return ExitCode::from(Exit::OutOfMemory.number());
     };
-    ExitCode::from(status)
+    let Ok(words) = texts_of(alloc, owned.as_slice()) else {
+        return ExitCode::from(Exit::OutOfMemory.number());
+    };
+    let Ok(mut world) = SockWorld::make(rt) else {
+        return ExitCode::from(Exit::OutOfMemory.number());
+    };
+    let ended = run(
+        alloc,
+        words.as_slice(),
+        &mut RealFiles::make(rt),
+        &mut world,
+        &mut RealSink::make(rt),
+        TURNS,
+    );
+    ExitCode::from(ended.status)
 }
 
 /// The words behind the program's name. Where one of them isn't UTF-8 there are none, which is a faulty command line.
@@ -44,24 +49,7 @@ fn words_of<R: Env + AllocGlobal>(rt: &R, alloc: Global) -> Result<Vec<String>, 
     Ok(words)
 }
 
-/// Runs with these words, and answers the exit status.
-fn asked<K: io::Write>(alloc: Global, words: &[String], output: &mut Output<K>) -> u8 {
-    let mut files = MemFiles::make(BTreeMap::new(alloc), Vec::new(alloc));
-    let mut world = ScriptWorld::make(Vec::new(alloc), Vec::new(alloc), Vec::new(alloc));
-    let Ok(words) = words
-        .iter()
-        .map(|word| word.as_str())
-        .collect::<Vec<&str>>(alloc)
-    else {
-        return OUT_OF_MEMORY;
-    };
-    let ended = run(
-        alloc,
-        words.as_slice(),
-        &mut files,
-        &mut world,
-        output,
-        TURNS,
-    );
-    ended.status
+/// The words as borrowed texts.
+fn texts_of(alloc: Global, words: &[String]) -> Result<Vec<&str>, AllocError> {
+    words.iter().map(|word| word.as_str()).collect(alloc)
 }

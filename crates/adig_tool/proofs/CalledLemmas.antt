@@ -1,9 +1,9 @@
--- Who was called: each accepted request once, with its fate.
-use Rattle.std.proofs.Common.{◌≡◌, ℕ, ◌==◌, List, [], ◌∷◌, ◌++◌, length, refl, sym, ap, subst, ◌∙◌, map, Bool, true, false, if◌then◌else◌, inl, inr, arith, eqb-true}
-use Rattle.std.specs.Prelude.{Option, Some, None, find, is_some, option_map, option_and_then, option_to_list, ◌⊎◌}
-use Rattle.std.specs.List.{cons_option}
+-- Who was called for: each accepted request once, with its fate.
+use Rattle.std.proofs.Common.{◌≡◌, ◌≢◌, ℕ, ◌+◌, ◌≤◌, ◌==◌, List, [], ◌∷◌, ◌++◌, refl, sym, ap, subst, ◌∙◌, map, Bool, true, false, if◌then◌else◌, inl, inr, arith, eqb-true, eq-eqb, ne_eqb}
+use Rattle.std.specs.Prelude.{Option, Some, None, filter, find, is_none, is_some, option_map, option_and_then, option_to_list, ◌⊎◌}
+use Rattle.std.specs.List.{AllByRecursion}
 use Rattle.std.specs.Option.{option_or}
-use Rattle.std.proofs.lemmas.List.{length-map}
+use Rattle.std.proofs.lemmas.List.{append-nil, append_assoc, map-append}
 use Rattle.std.proofs.lemmas.List.Folds.{find-append}
 use mathlib.Core.List.{IsPrefix}
 use Rattle.chan_types.specs.declared.answer.Answer.{Answer}
@@ -13,14 +13,16 @@ use Rattle.chan_types.specs.declared.journal.What.TheVariants.{Accept, Arrive, C
 use Rattle.chan_types.specs.declared.script.Script.{Script}
 use Rattle.chan_types.specs.declared.spec.Spec.{Spec}
 use Rattle.channel_model.specs.AtOnce.{at_once}
-use Rattle.channel_model.specs.Completion.{completed_by, fate, requests, taken_by as taken_of}
-use Rattle.channel_model.specs.Journal.{Accepted, Past, accepted, accepted_by, past_of, spec_of}
+use Rattle.channel_model.specs.Completion.{completed_by, completions, fate, is_open, occurrences, pending, ready, requests, taken, taken_by}
+use Rattle.channel_model.specs.Journal.{Accepted, Past, accepted, accepted_by, followed_by, past_of, spec_of}
+use Rattle.channel_model.specs.Lawful.{IsLawful, IsLawfulPast}
 use Rattle.channel_model.specs.Search.{answer_of_search, search_answer}
 use Rattle.channel_model.specs.Setting.{Setting}
-use Rattle.adig_tool.specs.Entries.{asked_by, asked_in, taken_by, taken_in}
-use Rattle.adig_tool.specs.Headline.{request_for}
-use Rattle.adig_tool.specs.Steps.{AreFates, accepted_in, numbers_of, taken_from}
-use Rattle.adig_tool.proofs.WholeLemmas.{accepted_later}
+use Rattle.channel_model.proofs.Theorems.{completes_once, taken_then_ready}
+use Rattle.adig_tool.specs.Session.{first_request}
+use Rattle.adig_tool.specs.SessionParts.{take_entry}
+use Rattle.adig_tool.proofs.FateLemmas.{fate_later}
+use Rattle.adig_tool.proofs.ListLemmas.{heads, one_at_most, one_or_none, tails}
 
 -- the request was accepted
 abbrev pub IsKnown : ℕ → Past → Type 0
@@ -89,81 +91,138 @@ module _ (setting : Setting) (request : ℕ) where
       by None before made = completed_known what past answer made
       by (Some x) before made = known_later request past what (before x refl)
 
--- nothing, or the one request
-pub one_at_most : (request : Accepted) (xs : List Accepted) → IsPrefix xs (request ∷ []) → (xs ≡ []) ⊎ (xs ≡ request ∷ [])
-one_at_most request [] p = inl refl
-one_at_most request (x ∷ []) p = inr (let is : x ∷ p.0 ≡ request ∷ [] = p.1 in cc)
-one_at_most request (x ∷ y ∷ xs) p = absurd (let is : x ∷ y ∷ (xs ++ p.0) ≡ request ∷ [] = p.1 in cc)
+-- ---- the requests of a journal that accepts at most the one
 
--- the number of an accepted request, where at most one is accepted
-known_number : (text : List ℕ) (n : ℕ) (xs : List Accepted) → (xs ≡ []) ⊎ (xs ≡ request_for text ∷ []) → is_some (find (λ r. r.number == n) xs) ≡ true → n ≡ 1
-known_number text n xs (inl none) is = absurd (let h = rw none at is in cc)
-known_number text n xs (inr one) is = by (1 == n) refl (rw one at is)
+module _ (spec : Spec) (past : Past) (at_most : IsPrefix (accepted past) (first_request spec ∷ [])) where
+  -- an accepted request has the number 1
+  known_number : (n : ℕ) (xs : List Accepted) → (xs ≡ []) ⊎ (xs ≡ first_request spec ∷ []) → is_some (find (λ r. r.number == n) xs) ≡ true → n ≡ 1
+  known_number n xs (inl none) is = absurd (let h = rw none at is in cc)
+  known_number n xs (inr one) is = by (1 == n) refl (rw one at is)
+    where
+      by : (b : Bool) → (1 == n) ≡ b → is_some (if b then Some (first_request spec) else None) ≡ true → n ≡ 1
+      by true same h = sym (eqb-true 1 n same)
+      by false same h = absurd (cc h)
+
+  pub fate_number : (setting : Setting) (n : ℕ) (answer : Answer) → fate setting n past ≡ Some answer → n ≡ 1
+  fate_number setting n answer is = known_number n (accepted past) (one_at_most (first_request spec) (accepted past) at_most) (fate_known setting n past answer is)
+
+-- ---- lists by how often their items stand in them
+
+-- the first item stands in a list
+stands_first : (x : ℕ) (xs : List ℕ) → 1 ≤ occurrences x (x ∷ xs)
+stands_first x xs = rw (eq-eqb x x refl) (omega arith)
+
+-- no item stands in a list without one
+no_item : (xs : List ℕ) → ((n : ℕ) → occurrences n xs ≡ 0) → xs ≡ []
+no_item [] none = refl
+no_item (x ∷ xs) none = absurd (omega (arith, none x, stands_first x xs))
+
+-- the one item
+one_item : (xs : List ℕ) → occurrences 1 xs ≡ 1 → ((n : ℕ) → n ≢ 1 → occurrences n xs ≡ 0) → xs ≡ 1 ∷ []
+one_item [] one none = absurd (omega (arith, one))
+one_item (x ∷ xs) one none = by (x == 1) refl
   where
-    by : (b : Bool) → (1 == n) ≡ b → is_some (if b then Some (request_for text) else None) ≡ true → n ≡ 1
-    by true same h = sym (eqb-true 1 n same)
-    by false same h = absurd (cc h)
+    rest_none : (x == 1) ≡ true → (n : ℕ) → occurrences n xs ≡ 0
+    rest_none is n = of_n (n == 1) refl
+      where
+        of_n : (b : Bool) → (n == 1) ≡ b → occurrences n xs ≡ 0
+        of_n true same =
+            let h : occurrences 1 xs + 1 ≡ 1 = rw is at one in
+            subst (λ m. occurrences m xs ≡ 0) (sym (eqb-true n 1 same)) (omega (arith, h))
+        of_n false other =
+            let not_one : n ≢ 1 = λ e. absurd (let h = eq-eqb n 1 e in cc) in
+            let not_x : (x == n) ≡ false = ne_eqb x n (λ e. not_one (sym e ∙ eqb-true x 1 is)) in
+            rw not_x at (none n not_one)
 
-pub fate_number : (setting : Setting) (text : List ℕ) (past : Past) → IsPrefix (accepted past) (request_for text ∷ []) → (n : ℕ) (answer : Answer) → fate setting n past ≡ Some answer → n ≡ 1
-fate_number setting text past at_most n answer is = known_number text n (accepted past) (one_at_most (request_for text) (accepted past) at_most) (fate_known setting n past answer is)
+    by : (b : Bool) → (x == 1) ≡ b → x ∷ xs ≡ 1 ∷ []
+    by true is = rw (eqb-true x 1 is, no_item xs (rest_none is)) refl
+    by false other =
+        let not_one : x ≢ 1 = λ e. absurd (let h = eq-eqb x 1 e in cc) in
+        absurd (omega (arith, none x not_one, stands_first x xs))
 
--- ---- one call each
+-- ---- where nothing is pending and nothing ready, the taken requests are the accepted ones
 
--- the requests that were taken, either way
-pub taken_same : (journal : List Entry) → taken_in journal ≡ taken_from journal
-unfolding taken_in
-taken_same [] = refl
-taken_same (e ∷ journal) = by_what e.what (taken_same journal)
-  where
-    by_what : (what : What) → taken_in journal ≡ taken_from journal → taken_by what ++ taken_in journal ≡ cons_option (taken_of what) (taken_from journal)
-    by_what (Accept number spec script) rest = rest
-    by_what Cancel rest = rest
-    by_what Destroy rest = rest
-    by_what (Take number) rest = ap (λ l. number ∷ l) rest
-    by_what (Start number leg server link id mix moment) rest = rest
-    by_what (Arrive server link bytes) rest = rest
-    by_what (Expire number leg moment) rest = rest
-    by_what (Fault server link moment) rest = rest
-    by_what (Servers list) rest = rest
+module _ (setting : Setting) (spec : Spec) (past : Past) (at_most : IsPrefix (accepted past) (first_request spec ∷ []))
+    (lawful : IsLawfulPast setting past) (none_pending : pending setting past ≡ []) (none_ready : ready setting past ≡ []) where
+  -- a taken request is a completed one
+  taken_are : completions setting past ≡ taken past
+  taken_are = taken_then_ready setting past lawful ∙ ap (λ ns. taken past ++ ns) none_ready ∙ append-nil (taken past)
 
--- the requests that were asked, either way
-pub asked_same : (journal : List Entry) → asked_in journal ≡ map (λ r. r.spec) (accepted_in journal)
-unfolding asked_in
-asked_same [] = refl
-asked_same (e ∷ journal) = by_what e.what (asked_same journal)
-  where
-    by_what : (what : What) → asked_in journal ≡ map (λ r. r.spec) (accepted_in journal) → asked_by what ++ asked_in journal ≡ map (λ r. r.spec) (cons_option (accepted_by what) (accepted_in journal))
-    by_what (Accept number spec script) rest = ap (λ l. spec ∷ l) rest
-    by_what Cancel rest = rest
-    by_what Destroy rest = rest
-    by_what (Take number) rest = rest
-    by_what (Start number leg server link id mix moment) rest = rest
-    by_what (Arrive server link bytes) rest = rest
-    by_what (Expire number leg moment) rest = rest
-    by_what (Fault server link moment) rest = rest
-    by_what (Servers list) rest = rest
+  -- how often a number was taken: once where it has a fate
+  counted : (n : ℕ) → occurrences n (taken past) ≡ (if is_some (fate setting n past) then 1 else 0)
+  counted n = ap (occurrences n) (sym taken_are) ∙ completes_once setting n past lawful
 
--- as many calls as requests, each with a fate: one each
-one_each : (setting : Setting) (text : List ℕ) (past : Past) (xs : List Accepted) (calls : List Answer) →
-    ((n : ℕ) (answer : Answer) → fate setting n past ≡ Some answer → n ≡ 1) → (xs ≡ []) ⊎ (xs ≡ request_for text ∷ []) → length calls ≡ length xs → AreFates setting past calls →
-    map Some calls ≡ map (λ request. fate setting request past) (map (λ r. r.number) xs)
-one_each setting text past xs [] number (inl none) as_many fates = rw none refl
-one_each setting text past xs (a ∷ calls) number (inl none) as_many fates = absurd (let h = rw none at as_many in omega (arith, h))
-one_each setting text past xs [] number (inr one) as_many fates = absurd (let h = rw one at as_many in omega (arith, h))
-one_each setting text past xs (a ∷ []) number (inr one) as_many fates =
-    let is : fate setting a.number past ≡ Some a = first_same (fate setting a.number past) (Some a) fates in
-    rw one (ap (λ found. found ∷ []) (sym (subst (λ n. fate setting n past ≡ Some a) (number a.number a is) is)))
-  where
-    first_same : (x y : Option Answer) → x ∷ [] ≡ y ∷ [] → x ≡ y
-    first_same x y e = cc
-one_each setting text past xs (a ∷ b ∷ calls) number (inr one) as_many fates = absurd (let h = rw one at as_many in omega (arith, h))
+  -- other numbers have none
+  never : (n : ℕ) → (fate setting n past ≡ None) → occurrences n (taken past) ≡ 0
+  never n none = counted n ∙ ap (λ found. if is_some found then 1 else 0) none
 
-pub called_once : (setting : Setting) (text : List ℕ) (journal : List Entry) (calls : List Answer) → IsPrefix (accepted (past_of journal)) (request_for text ∷ []) →
-    length (asked_in journal) ≡ length (taken_in journal) → taken_from journal ≡ numbers_of calls → AreFates setting (past_of journal) calls →
-    map Some calls ≡ map (λ request. fate setting request (past_of journal)) (requests (past_of journal))
-called_once setting text journal calls at_most balanced takes fates =
-    one_each setting text (past_of journal) (accepted (past_of journal)) calls (fate_number setting text (past_of journal) at_most)
-    (one_at_most (request_for text) (accepted (past_of journal)) at_most)
-    (sym (length-map calls (λ answer. answer.number)) ∙ ap length (sym takes) ∙ ap length (sym (taken_same journal)) ∙ sym balanced ∙ ap length (asked_same journal)
-    ∙ length-map (accepted_in journal) (λ r. r.spec) ∙ ap length (sym (accepted_later [] journal)))
-    fates
+  no_fate : (n : ℕ) → ((answer : Answer) → fate setting n past ≡ Some answer → ⊥) → fate setting n past ≡ None
+  no_fate n not = by (fate setting n past) refl
+    where
+      by : (found : Option Answer) → fate setting n past ≡ found → fate setting n past ≡ None
+      by None is = is
+      by (Some answer) is = absurd (not answer is)
+
+  other_none : (n : ℕ) → n ≢ 1 → occurrences n (taken past) ≡ 0
+  other_none n other = never n (no_fate n (λ answer is. other (fate_number spec past at_most setting n answer is)))
+
+  -- the one request has its fate
+  has_fate : accepted past ≡ first_request spec ∷ [] → is_some (fate setting 1 past) ≡ true
+  has_fate one = by (fate setting 1 past) refl
+    where
+      by : (found : Option Answer) → fate setting 1 past ≡ found → is_some (fate setting 1 past) ≡ true
+      by (Some answer) is = ap is_some is
+      by None is =
+          let one_open : pending setting past ≡ 1 ∷ [] =
+          ap (λ rs. filter (is_open setting past) (map (λ r. r.number) rs)) one ∙ ap (λ found. if is_none found then 1 ∷ [] else []) is in
+          absurd (let h : 1 ∷ [] ≡ [] = sym one_open ∙ none_pending in cc h)
+
+  pub taken_all : taken past ≡ requests past
+  taken_all = by (one_at_most (first_request spec) (accepted past) at_most)
+    where
+      by : (accepted past ≡ []) ⊎ (accepted past ≡ first_request spec ∷ []) → taken past ≡ requests past
+      by (inl none) =
+          no_item (taken past) (λ n. never n (no_fate n (λ answer is. absurd (let h = rw none at (fate_known setting n past answer is) in cc))))
+          ∙ sym (ap (map (λ r. r.number)) none)
+      by (inr one) =
+          one_item (taken past) (counted 1 ∙ ap (λ b. if b then 1 else 0) (has_fate one)) other_none
+          ∙ sym (ap (map (λ r. r.number)) one)
+
+-- ---- what was called for
+
+-- the numbers of these answers
+abbrev pub numbers_of : List Answer → List ℕ
+numbers_of answers = map (λ answer. answer.number) answers
+
+-- the requests that entries take
+pub taken_later : (past : Past) (answers : List Answer) → taken (followed_by past (map take_entry answers)) ≡ taken past ++ numbers_of answers
+taken_later past [] = sym (append-nil (taken past))
+taken_later past (a ∷ answers) = taken_later (Take a.number ∷ past) answers ∙ append_assoc (taken past) (a.number ∷ []) (numbers_of answers)
+
+-- fates that were called for stay
+fates_stay : (setting : Setting) (past : Past) (es : List Entry) (ns : List ℕ) (calls : List Answer) →
+    map Some calls ≡ map (λ n. fate setting n past) ns → map Some calls ≡ map (λ n. fate setting n (followed_by past es)) ns
+fates_stay setting past es [] [] are = refl
+fates_stay setting past es [] (a ∷ calls) are = absurd (cc are)
+fates_stay setting past es (n ∷ ns) [] are = absurd (cc are)
+fates_stay setting past es (n ∷ ns) (a ∷ calls) are =
+    let one = heads (Some a) (fate setting n past) (map Some calls) (map (λ m. fate setting m past) ns) are in
+    let others = tails (Some a) (fate setting n past) (map Some calls) (map (λ m. fate setting m past) ns) are in
+    rw (fate_later setting n past es a (sym one), sym (fates_stay setting past es ns calls others)) refl
+
+-- fates of answers by their numbers
+fates_numbered : (setting : Setting) (past : Past) (answers : List Answer) → AllByRecursion (λ answer. fate setting answer.number past ≡ Some answer) answers →
+    map Some answers ≡ map (λ n. fate setting n past) (numbers_of answers)
+fates_numbered setting past [] are = refl
+fates_numbered setting past (a ∷ answers) are = rw (are.0, fates_numbered setting past answers are.1) refl
+
+-- what was called for before, and then these: the fates of the requests that were taken
+pub called_then : (setting : Setting) (past : Past) (calls answers : List Answer) (es : List Entry) →
+    map Some calls ≡ map (λ n. fate setting n past) (taken past) → taken (followed_by past es) ≡ taken past ++ numbers_of answers → AllByRecursion (λ answer. fate setting answer.number (followed_by past es) ≡ Some answer) answers →
+    map Some (calls ++ answers) ≡ map (λ n. fate setting n (followed_by past es)) (taken (followed_by past es))
+called_then setting past calls answers es before takes fates =
+    map-append Some calls answers
+    ∙ ap (λ l. l ++ map Some answers) (fates_stay setting past es (taken past) calls before)
+    ∙ ap (λ l. map (λ n. fate setting n (followed_by past es)) (taken past) ++ l) (fates_numbered setting (followed_by past es) answers fates)
+    ∙ sym (map-append (λ n. fate setting n (followed_by past es)) (taken past) (numbers_of answers))
+    ∙ ap (map (λ n. fate setting n (followed_by past es))) (sym takes)

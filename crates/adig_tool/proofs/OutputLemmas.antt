@@ -1,25 +1,34 @@
--- What a run put that didn't come to its page.
-use Rattle.std.proofs.Common.{ℕ, ◌<◌, List, [], arith, ap, inr, refl, sym}
-use Rattle.std.specs.Prelude.{Option, Some, None}
-use Rattle.std.proofs.lemmas.List.{append-nil}
-use Rattle.chan_types.specs.declared.answer.Answer.{Answer}
-use Rattle.adig_tool.specs.Output.{GrowsBy, GrowsByPart, IsTextOf, IsOutputOf, stalled_text}
+-- What was put, and the exit status of that.
+use Rattle.std.proofs.Common.{◌≡◌, ℕ, List, arith, inl, inr, refl}
+use Rattle.std.specs.Prelude.{Err, None, Ok, Option, Result, Some}
+use Rattle.item_list.specs.declared.no_memory.NoMemory.{NoMemory}
+use Rattle.net_world.specs.Cause.{HasCause, is_not_put}
+use Rattle.net_world.specs.Sink.{Puts}
+use Rattle.net_world.specs.declared.answers.PutEnd.{PutEnd}
+use Rattle.net_world.specs.declared.answers.PutEnd.TheVariants.{Done, Failed as NotPut}
+use Rattle.tool_line.specs.Ending.{number_of}
+use Rattle.tool_line.specs.Words.{Text}
+use Rattle.tool_line.specs.declared.ending.Exit.{Exit}
+use Rattle.tool_line.specs.declared.ending.Exit.TheVariants.{OutOfMemory, SinkFault}
+use Rattle.adig_tool.specs.Outside.{OutputTold}
+use Rattle.adig_tool.specs.Output.{IsPut}
 
--- without its page a run put a part of one of its texts
-pub part_put : (word : List ℕ) (calls : List Answer) (status : ℕ) (old new : Option (List ℕ)) (text : List ℕ) →
-    1 < status → IsTextOf word calls text → GrowsByPart old new text → IsOutputOf word calls status old new
-part_put word calls status old new text more one part = record {
-  page = λ ended. absurd (omega (arith, more, ended));
-  part = (text, one, part);
-}
+-- the whole text
+pub put_whole : (text : Text) (end : Exit) (status : ℕ) (old new : OutputTold) → status ≡ number_of end → Puts old.bytes new.bytes text (Ok Done) →
+    HasCause old.faults new.faults is_not_put (Ok Done) → IsPut (Some text) end status old new
+put_whole text end status old new is puts cause = record { told = inl (is, puts); counted = cause.later }
 
--- bytes go on with nothing
-same_bytes : (bytes : Option (List ℕ)) → GrowsBy bytes bytes []
-same_bytes None = refl
-same_bytes (Some bytes) = ap Some (sym (append-nil bytes))
+-- a part of it
+pub put_part : (text : Text) (end : Exit) (status : ℕ) (old new : OutputTold) → status ≡ number_of SinkFault → Puts old.bytes new.bytes text (Ok NotPut) →
+    HasCause old.faults new.faults is_not_put (Ok NotPut) → IsPut (Some text) end status old new
+put_part text end status old new is puts cause = record { told = inr (inl (is, cause.cause refl, puts)); counted = cause.later }
 
--- nothing was put
-pub nothing_put : (word : List ℕ) (calls : List Answer) (status : ℕ) (bytes : Option (List ℕ)) → 1 < status → IsOutputOf word calls status bytes bytes
-nothing_put word calls status bytes more =
-    let nothing : GrowsByPart bytes bytes stalled_text = ([], (stalled_text, refl), same_bytes bytes) in
-    part_put word calls status bytes bytes stalled_text more (inr (inr refl)) nothing
+-- nothing, for want of memory
+pub put_none : (text : Text) (end : Exit) (status : ℕ) (old new : OutputTold) (e : NoMemory) → status ≡ number_of OutOfMemory → Puts old.bytes new.bytes text (Err e) →
+    HasCause old.faults new.faults is_not_put (Err e) → IsPut (Some text) end status old new
+put_none text end status old new e is puts cause = record { told = inr (inr (is, puts)); counted = cause.later }
+
+-- nothing at all
+pub put_nothing : (text : Option Text) (end : Exit) (status : ℕ) (output : OutputTold) → status ≡ number_of OutOfMemory → IsPut text end status output output
+put_nothing None end status output is = record { told = (is, refl); counted = omega arith }
+put_nothing (Some text) end status output is = record { told = inr (inr (is, refl)); counted = omega arith }

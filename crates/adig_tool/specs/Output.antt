@@ -1,35 +1,41 @@
--- What a run puts.
-use Rattle.std.specs.Prelude.{◌≡◌, ◌⊎◌, ℕ, List, [], ◌∷◌, ◌++◌, codes, Option, option_map}
-use mathlib.Core.List.{IsPrefix}
+-- What a run puts, and the exit status that comes of it.
+use Rattle.std.specs.Prelude.{List, None, Option, Some, option_map, ℕ, ◌≡◌, ◌⊎◌, ◌≤◌}
 use Rattle.chan_types.specs.declared.answer.Answer.{Answer}
-use Rattle.adig_tool.specs.declared.ended.TheConstants.{SUCCESS, FAILURE}
-use Rattle.adig_tool.specs.Page.{page_of}
+use Rattle.chan_types.specs.declared.spec.Spec.{Spec}
+use Rattle.channel_model.specs.Lawful.{first}
+use Rattle.net_world.specs.Cause.{Rose}
+use Rattle.tool_line.specs.Ending.{number_of, text_of}
+use Rattle.tool_line.specs.Heads.{page_of}
+use Rattle.tool_line.specs.Words.{Text}
+use Rattle.tool_line.specs.declared.ending.Exit.{Exit}
+use Rattle.tool_line.specs.declared.ending.Exit.TheVariants.{Failure, FileFault, OutOfMemory, SinkFault, Stalled, Success, Usage, WaitFault}
+use Rattle.tool_line.specs.declared.ending.Tool.TheVariants.{Adig}
+use Rattle.adig_tool.specs.Outside.{GrowsBy, GrowsByPart, OutputTold}
 
--- the text that tells of refused words
-abbrev pub usage_text : List ℕ
-usage_text = codes "adig: usage" ++ 10 ∷ []
+-- the page of a request whose callback was called with its answer
+abbrev pub page_for : Spec → List Answer → Option Text
+page_for spec calls = option_map (page_of spec) (first calls)
 
--- the text that tells of a wait that failed
-abbrev pub wait_fault_text : List ℕ
-wait_fault_text = codes "adig: wait fault" ++ 10 ∷ []
+-- the text of a run that comes to this end: the page of its request, or the line in place of one; none for want of memory
+abbrev pub text_at : Spec → List Answer → Exit → Option Text
+text_at spec calls Success = page_for spec calls
+text_at spec calls Failure = page_for spec calls
+text_at spec calls Usage = text_of Adig Usage
+text_at spec calls FileFault = text_of Adig FileFault
+text_at spec calls SinkFault = None
+text_at spec calls OutOfMemory = None
+text_at spec calls WaitFault = text_of Adig WaitFault
+text_at spec calls Stalled = text_of Adig Stalled
 
--- the text that tells of a run that made all its turns
-abbrev pub stalled_text : List ℕ
-stalled_text = codes "adig: stalled" ++ 10 ∷ []
+-- a run that came to this end put this text, and the exit status is that of the end; or the output failed in this run behind a part of the text, and it is 4; or memory was wanting, nothing was put, and it is 5
+abbrev pub PutsText : Option Text → Exit → ℕ → OutputTold → OutputTold → Type 0
+PutsText None end status before after = (status ≡ 5) × (after.bytes ≡ before.bytes)
+PutsText (Some text) end status before after =
+    ((status ≡ number_of end) × GrowsBy before.bytes after.bytes text)
+    ⊎ ((status ≡ 4) × Rose before.faults after.faults × GrowsByPart before.bytes after.bytes text)
+    ⊎ ((status ≡ 5) × (after.bytes ≡ before.bytes))
 
--- bytes that are told go on with this text
-abbrev pub GrowsBy : Option (List ℕ) → Option (List ℕ) → List ℕ → Type 0
-GrowsBy old new text = new ≡ option_map (λ bytes. bytes ++ text) old
-
--- bytes that are told go on with a part of this text from its beginning, or with nothing
-abbrev pub GrowsByPart : Option (List ℕ) → Option (List ℕ) → List ℕ → Type 0
-GrowsByPart old new text = (part : List ℕ) × IsPrefix part text × GrowsBy old new part
-
--- a text of a run that asks for the name of this word: its page, or that of a failed wait or of too many turns
-abbrev pub IsTextOf : List ℕ → List Answer → List ℕ → Type 0
-IsTextOf word calls text = (text ≡ page_of word calls) ⊎ (text ≡ wait_fault_text) ⊎ (text ≡ stalled_text)
-
--- what a run that asks for the name of this word put: the page, where its request has its answer, and in any case a part, from its beginning, of one of its texts, or nothing
-pub record IsOutputOf (word : List ℕ) (calls : List Answer) (status : ℕ) (old new : Option (List ℕ)) : Type 0 where
-  pub page : (status ≡ SUCCESS) ⊎ (status ≡ FAILURE) → GrowsBy old new (page_of word calls)
-  pub part : (text : List ℕ) × IsTextOf word calls text × GrowsByPart old new text
+-- the same, and the count of the output's failures didn't fall
+pub record IsPut (text : Option Text) (end : Exit) (status : ℕ) (before after : OutputTold) : Type 0 where
+  pub told : PutsText text end status before after
+  pub counted : before.faults ≤ after.faults

@@ -1,18 +1,13 @@
-//! `adig` as a library: it asks one name of one server over a given network, and puts the answer as a page of text.
+//! `adig` as a library: it asks one question over a given network, and puts the answer as a page of text.
 #![tactic(auto)]
 
-mod answers;
 mod asking;
-mod channel;
+mod closing;
 mod ended;
-mod page;
 mod putting;
-mod query;
-mod reply;
-mod runner;
+mod resolving;
 mod running;
-mod text;
-mod words;
+mod session;
 
 pub use ended::Ended;
 pub use running::run;

@@ -1,25 +1,64 @@
 //! How a run's text is put, once, and what the exit status is then.
 
-ghost use Rattle.std.specs.Prelude.{◌≡◌, ◌≢◌, ◌⊎◌};
-ghost use Rattle.net_world.specs.Cause.{Rose};
-ghost use Rattle.adig_tool.specs.Output.{GrowsBy, GrowsByPart};
+ghost use Rattle.std.specs.Prelude.{◌≡◌, Some};
+ghost use Rattle.tool_line.specs.Ending.{text_of};
+ghost use Rattle.tool_line.specs.declared.ending.Tool.TheVariants.{Adig};
+ghost use Rattle.adig_tool.specs.Output.{IsPut, page_for, text_at};
 
-use crate::ended::{OUT_OF_MEMORY, SINK_FAULT};
+use chan_types::{Calls, Spec};
 use item_list::NoMemory;
 use net_world::{PutEnd, Sink};
+use std::alloc::Global;
+use tool_line::{Exit, Tool, page_of};
 
-/// Puts the text, and answers the exit status: this one where all was put.
-pub fn put<K: Sink>(sink: &mut K, text: &[u8], status: u8) -> u8
-    ensures known { (result ≡ status) ⊎ (result ≡ SINK_FAULT) ⊎ (result ≡ OUT_OF_MEMORY) }
-    ensures whole { result ≢ SINK_FAULT → result ≢ OUT_OF_MEMORY
-        → GrowsBy (K.bytes sink.old) (K.bytes sink.new) text.now }
-    ensures part { GrowsByPart (K.bytes sink.old) (K.bytes sink.new) text.now }
-    ensures sink_fault { result ≡ SINK_FAULT
-        → (status ≡ SINK_FAULT) ⊎ Rose (K.faults sink.old) (K.faults sink.new) }
+/// Puts the text of a run that came to this end, and answers the exit status.
+pub fn put<K: Sink>(sink: &mut K, text: &[u8], end: Exit) -> u8
+    ensures { IsPut (Some text.now) end result
+        (record { bytes = K.bytes sink.old; faults = K.faults sink.old })
+        (record { bytes = K.bytes sink.new; faults = K.faults sink.new }) }
 {
     match sink.put(text) {
-        Ok(PutEnd::Done) => status,
-        Ok(PutEnd::Failed) => SINK_FAULT,
-        Err(NoMemory) => OUT_OF_MEMORY,
+        Ok(PutEnd::Done) => end.number(),
+        Ok(PutEnd::Failed) => Exit::SinkFault.number(),
+        Err(NoMemory) => Exit::OutOfMemory.number(),
+    }
+}
+
+/// Puts the line that stands in place of a page at this end, if there is one.
+pub fn put_line<K: Sink>(sink: &mut K, end: Exit) -> u8
+    ensures { IsPut (text_of Adig end) end result
+        (record { bytes = K.bytes sink.old; faults = K.faults sink.old })
+        (record { bytes = K.bytes sink.new; faults = K.faults sink.new }) }
+{
+    match end.text(Tool::Adig) {
+        Some(line) => put(sink, line.as_bytes(), end),
+        None => Exit::OutOfMemory.number(),
+    }
+}
+
+/// Puts the page of a request whose callback was called, if it was.
+fn put_page<K: Sink>(alloc: Global, spec: &Spec, calls: &Calls, end: Exit, sink: &mut K) -> u8
+    ensures { IsPut (page_for spec.now calls.now) end result
+        (record { bytes = K.bytes sink.old; faults = K.faults sink.old })
+        (record { bytes = K.bytes sink.new; faults = K.faults sink.new }) }
+{
+    match calls.iter().next() {
+        Some(answer) => match page_of(alloc, spec, answer) {
+            Ok(page) => put(sink, page.as_slice(), end),
+            Err(NoMemory) => Exit::OutOfMemory.number(),
+        },
+        None => Exit::OutOfMemory.number(),
+    }
+}
+
+/// Puts the text of a run that came to this end: its page, or the line in place of it.
+pub fn tell<K: Sink>(alloc: Global, spec: &Spec, calls: &Calls, end: Exit, sink: &mut K) -> u8
+    ensures { IsPut (text_at spec.now calls.now end) end result
+        (record { bytes = K.bytes sink.old; faults = K.faults sink.old })
+        (record { bytes = K.bytes sink.new; faults = K.faults sink.new }) }
+{
+    match end {
+        Exit::Success | Exit::Failure => put_page(alloc, spec, calls, end, sink),
+        _ => put_line(sink, end),
     }
 }

@@ -1,199 +1,216 @@
-//! Whole runs over a network in memory.
+//! Whole runs over a network in memory: what happened, what was called, and what was put, as lines of text.
 
+ghost use Rattle.std.specs.Prelude.{All, IfOk};
+ghost use Rattle.net_world.specs.Script.{MayCome};
+
+mod pages;
+mod refusals;
 mod replies;
+mod searching;
+mod setting;
+mod statuses;
+mod telling;
 
-use crate::ended::{Ended, FAILURE, SINK_FAULT, STALLED, SUCCESS, USAGE, WAIT_FAULT};
 use crate::run;
-use chan_types::{Status, What};
-use item_list::Bytes;
-use net_world::{Got, MemFiles, MemSink, ScriptWorld, Timed, WorldCall};
-use std::alloc::{AllocError, Global};
+use item_list::{Bytes, NoMemory};
+use net_world::{Got, MemFiles, MemSink, ScriptWorld, Timed};
+use std::alloc::Global;
 use std::collections::BTreeMap;
 use std::test::Fail;
+use telling::{calls_told, journal_told, sent_in};
 
-/// A command line of the form that is understood.
-const WORDS: [&str; 4] = ["--server", "192.0.2.53", "--no-edns", "example.com"];
+/// The words of a run for the addresses of example.com.
+const PLAIN: &str = "--server 192.0.2.53 --no-edns example.com";
 
-/// The query for the A records of example.com with identifier 0x1234 and RD (RFC 1035, section 4.1).
-const QUERY: [u8; 29] = [
-    0x12, 0x34, 0x01, 0x00, 0x00, 0x01, 0x00, 0x00, 0x00, 0x00, 0x00, 0x00, 0x07, 0x65, 0x78, 0x61,
-    0x6d, 0x70, 0x6c, 0x65, 0x03, 0x63, 0x6f, 0x6d, 0x00, 0x00, 0x01, 0x00, 0x01,
-];
+/// A reply to it with the address 192.0.2.1 (RFC 1035, section 4.1): to the query with identifier 0x1234, which is the word
+/// that the network gives each time, if none other is given.
+const REPLY: &[u8] =
+    b"\x12\x34\x81\x80\0\x01\0\x01\0\0\0\0\x07example\x03com\0\0\x01\0\x01\xc0\x0c\0\x01\0\x01\0\0\x01\x2c\0\x04\xc0\0\x02\x01";
 
-/// The reply to it with the address 192.0.2.1, its owner's name a pointer to the question.
-const REPLY: [u8; 45] = [
-    0x12, 0x34, 0x81, 0x80, 0x00, 0x01, 0x00, 0x01, 0x00, 0x00, 0x00, 0x00, 0x07, 0x65, 0x78, 0x61,
-    0x6d, 0x70, 0x6c, 0x65, 0x03, 0x63, 0x6f, 0x6d, 0x00, 0x00, 0x01, 0x00, 0x01, 0xc0, 0x0c, 0x00,
-    0x01, 0x00, 0x01, 0x00, 0x00, 0x01, 0x2c, 0x00, 0x04, 0xc0, 0x00, 0x02, 0x01,
-];
-
-/// The reply to it with RCODE 2 (SERVFAIL).
-const SERVFAIL: [u8; 29] = [
-    0x12, 0x34, 0x81, 0x82, 0x00, 0x01, 0x00, 0x00, 0x00, 0x00, 0x00, 0x00, 0x07, 0x65, 0x78, 0x61,
-    0x6d, 0x70, 0x6c, 0x65, 0x03, 0x63, 0x6f, 0x6d, 0x00, 0x00, 0x01, 0x00, 0x01,
-];
-
-/// A network whose first random word is 0x1234, and on which the server's datagram comes at moment 1, if there is one.
-fn network(
-    alloc: Global,
-    datagram: Option<&[u8]>,
-    fails: &[u64],
-) -> Result<ScriptWorld, AllocError> {
-    let mut items = Vec::new(alloc);
-    if let Some(bytes) = datagram {
-        items.push(Timed {
-            from: 1,
-            got: Got::Datagram(0, Bytes::from_vec(bytes.to_vec(alloc)?)),
-        })?;
-    }
-    Ok(ScriptWorld::make([0x1234].to_vec(alloc)?, items, fails.to_vec(alloc)?))
-}
-
-/// A run of these words with ample turns, without files.
-fn ran(
-    alloc: Global,
-    words: &[&str],
-    world: &mut ScriptWorld,
-    sink: &mut MemSink,
+/// A run: its words, parted by blanks; its resolv.conf, if there is one; the network's first random words; what comes on it,
+/// and which of its calls fail; whether the read and the put fail; and how many turns it may make.
+#[derive(Clone, Copy)]
+struct Scenario<'a> {
+    line: &'a str,
+    resolv: Option<&'a [u8]>,
+    words: &'a [u16],
+    comings: &'a [Coming<'a>],
+    fails: &'a [u64],
+    reads_fail: bool,
+    puts_fail: bool,
     turns: u64,
-) -> Ended {
-    let mut files = MemFiles::make(BTreeMap::new(alloc), Vec::new(alloc));
-    run(alloc, words, &mut files, world, sink, turns)
 }
 
-/// The datagrams that were sent, one behind the other.
-fn sent(alloc: Global, world: &ScriptWorld) -> Result<Vec<u8>, AllocError> {
-    let mut all = Vec::new(alloc);
-    for call in world.log().calls() {
-        if let WorldCall::Send { bytes, .. } = call {
-            all.extend_from_slice(bytes.as_slice())?;
+/// A run with these words, on which this comes. There is no file, nothing fails, and it may make 1,000 turns.
+fn case<'a>(line: &'a str, comings: &'a [Coming<'a>]) -> Scenario<'a> {
+    Scenario {
+        line,
+        resolv: None,
+        words: &[0x1234],
+        comings,
+        fails: &[],
+        reads_fail: false,
+        puts_fail: false,
+        turns: 1000,
+    }
+}
+
+/// What a run left: its exit status, what it put, its journal and its calls as lines, and the bytes that it sent and wrote.
+#[derive(Drop)]
+struct Left {
+    status: u8,
+    put: Vec<u8>,
+    journal: String,
+    calls: String,
+    sent: Vec<u8>,
+    /// How many callbacks were called.
+    called: u64,
+}
+
+/// Runs the case.
+fn ran(alloc: Global, case: &Scenario<'_>) -> Result<Left, Fail> {
+    let words = words_of(alloc, case.line)?;
+    let mut files = files_of(alloc, case)?;
+    let mut world = world_of(alloc, case)?;
+    let mut sink = MemSink::make(failing(alloc, case.puts_fail)?);
+    let ended = run(alloc, words.as_slice(), &mut files, &mut world, &mut sink, case.turns);
+    Ok(Left {
+        status: ended.status,
+        put: sink.bytes().to_vec(alloc)?,
+        journal: journal_told(alloc, ended.journal.entries())?,
+        calls: calls_told(alloc, world.log().calls())?,
+        sent: sent_in(alloc, world.log().calls())?,
+        called: ended.calls.iter().count() as u64,
+    })
+}
+
+/// The words of a line. An empty line has none.
+fn words_of(alloc: Global, line: &str) -> Result<Vec<&str>, Fail> {
+    let mut words = Vec::new(alloc);
+    if !line.is_empty() {
+        for word in line.split(' ') {
+            words.push(word)?;
         }
     }
-    Ok(all)
+    Ok(words)
 }
 
-// The query goes out once, and the reply's address is printed.
-#[test]
-fn an_address_is_printed(rt: HostRuntime) -> Result<(), Fail> {
-    let alloc = rt.alloc();
-    let mut world = network(alloc, Some(REPLY.as_slice()), &[])?;
-    let mut sink = MemSink::make(Vec::new(alloc));
-    let ended = ran(alloc, &WORDS, &mut world, &mut sink, 1000);
-    assert_eq!(rt; ended.status, SUCCESS);
-    assert_eq!(rt; sent(alloc, &world)?.as_slice(), QUERY.as_slice());
-    assert_eq!(rt;
-        sink.bytes(),
-        b";; example.com IN A\n;; status 0 SUCCESS\n;; id 4660 rcode 0 flags qr rd ra\n;; ANSWER\nexample.com. 300 IN A 192.0.2.1\n".as_slice()
-    );
-    Ok(())
-}
-
-// Nothing comes: the one attempt expires.
-#[test]
-fn silence_is_a_timeout(rt: HostRuntime) -> Result<(), Fail> {
-    let alloc = rt.alloc();
-    let mut world = network(alloc, None, &[])?;
-    let mut sink = MemSink::make(Vec::new(alloc));
-    let ended = ran(alloc, &WORDS, &mut world, &mut sink, 1000);
-    assert_eq!(rt; ended.status, FAILURE);
-    assert_eq!(rt;
-        sink.bytes(),
-        b";; example.com IN A\n;; status 12 ETIMEOUT\n".as_slice()
-    );
-    Ok(())
-}
-
-// The server refuses: the one attempt has failed, and the reply is kept.
-#[test]
-fn a_server_failure_is_printed(rt: HostRuntime) -> Result<(), Fail> {
-    let alloc = rt.alloc();
-    let mut world = network(alloc, Some(SERVFAIL.as_slice()), &[])?;
-    let mut sink = MemSink::make(Vec::new(alloc));
-    let ended = ran(alloc, &WORDS, &mut world, &mut sink, 1000);
-    assert_eq!(rt; ended.status, FAILURE);
-    assert_eq!(rt;
-        sink.bytes(),
-        b";; example.com IN A\n;; status 3 ESERVFAIL\n;; id 4660 rcode 2 flags qr rd ra\n".as_slice()
-    );
-    Ok(())
-}
-
-// The first put fails, behind a whole run.
-#[test]
-fn a_failing_put_is_a_sink_fault(rt: HostRuntime) -> Result<(), Fail> {
-    let alloc = rt.alloc();
-    let mut world = network(alloc, Some(REPLY.as_slice()), &[])?;
-    let mut sink = MemSink::make([0].to_vec(alloc)?);
-    let ended = ran(alloc, &WORDS, &mut world, &mut sink, 1000);
-    assert_eq!(rt; ended.status, SINK_FAULT);
-    assert!(rt;
-        ended
-            .calls
-            .iter()
-            .any(|answer| answer.status == Status::Success)
-    );
-    Ok(())
-}
-
-// The first wait fails. It is call 6, from 0: before it stand a serve, the clock, a receive, a word, a send, and the
-// word for a further leg.
-#[test]
-fn a_failing_wait_is_a_wait_fault(rt: HostRuntime) -> Result<(), Fail> {
-    let alloc = rt.alloc();
-    let mut world = network(alloc, Some(REPLY.as_slice()), &[6])?;
-    let mut sink = MemSink::make(Vec::new(alloc));
-    let ended = ran(alloc, &WORDS, &mut world, &mut sink, 1000);
-    assert_eq!(rt; ended.status, WAIT_FAULT);
-    assert_eq!(rt; sink.bytes(), b"adig: wait fault\n".as_slice());
-    Ok(())
-}
-
-// Without turns nothing is sent, and the request is destroyed; its callback is called all the same.
-#[test]
-fn no_turns_is_stalled(rt: HostRuntime) -> Result<(), Fail> {
-    let alloc = rt.alloc();
-    let mut world = network(alloc, Some(REPLY.as_slice()), &[])?;
-    let mut sink = MemSink::make(Vec::new(alloc));
-    let ended = ran(alloc, &WORDS, &mut world, &mut sink, 0);
-    assert_eq!(rt; ended.status, STALLED);
-    assert_eq!(rt; sink.bytes(), b"adig: stalled\n".as_slice());
-    assert!(rt; sent(alloc, &world)?.is_empty());
-    assert!(rt;
-        ended
-            .calls
-            .iter()
-            .all(|answer| answer.status == Status::Destruction)
-    );
-    assert!(rt;
-        matches!(ended.journal.entries(), [_, destroy, _] if matches!(destroy.what, What::Destroy))
-    );
-    Ok(())
-}
-
-// Words of any other form are refused, and the network isn't called.
-#[test]
-fn other_words_are_refused(rt: HostRuntime) -> Result<(), Fail> {
-    let alloc = rt.alloc();
-    let lines: [&[&str]; 10] = [
-        &[],
-        &["example.com"],
-        &["--server", "192.0.2.53", "--no-edns"],
-        &["--server", "192.0.2.53", "--no-edns", "example.com", "x"],
-        &["--no-edns", "--server", "192.0.2.53", "example.com"],
-        &["--server", "192.0.2.053", "--no-edns", "example.com"],
-        &["--server", "2001:db8::53", "--no-edns", "example.com"],
-        &["--server", "192.0.2.53", "--noedns", "example.com"],
-        &["--server", "192.0.2.53", "--no-edns", "a..b"],
-        &["--server", "192.0.2.53", "--no-edns", "x.ONION"],
-    ];
-    for words in lines {
-        let mut world = network(alloc, None, &[])?;
-        let mut sink = MemSink::make(Vec::new(alloc));
-        let ended = ran(alloc, words, &mut world, &mut sink, 1000);
-        assert_eq!(rt; ended.status, USAGE);
-        assert_eq!(rt; sink.bytes(), b"adig: usage\n".as_slice());
-        assert!(rt; ended.journal.entries().is_empty());
-        assert!(rt; world.log().calls().is_empty());
+/// The numbers of the calls that fail: the first, or none.
+fn failing(alloc: Global, fails: bool) -> Result<Vec<u64>, Fail> {
+    let mut numbers = Vec::new(alloc);
+    if fails {
+        numbers.push(0)?;
     }
-    Ok(())
+    Ok(numbers)
+}
+
+/// The files of a case.
+fn files_of(alloc: Global, case: &Scenario<'_>) -> Result<MemFiles, Fail> {
+    let mut files = BTreeMap::new(alloc);
+    if let Some(bytes) = case.resolv {
+        let path = String::from_str(alloc, "/etc/resolv.conf")?;
+        files.insert(path, Bytes::of(alloc, bytes)?)?;
+    }
+    Ok(MemFiles::make(files, failing(alloc, case.reads_fail)?))
+}
+
+/// The network of a case.
+fn world_of(alloc: Global, case: &Scenario<'_>) -> Result<ScriptWorld, Fail> {
+    let mut words = case.words.to_vec(alloc)?;
+    for _ in 0..64 {
+        words.push(0x1234)?;
+    }
+    let items = items_of(alloc, case.comings)?;
+    Ok(ScriptWorld::make(words, items, case.fails.to_vec(alloc)?))
+}
+
+/// What comes on the network from a moment on: a datagram of a server, a piece of a link, or the end of a link.
+#[derive(Clone, Copy)]
+enum Coming<'a> {
+    Datagram {
+        from: u64,
+        server: u32,
+        bytes: &'a [u8],
+    },
+    Piece {
+        from: u64,
+        link: u64,
+        bytes: &'a [u8],
+    },
+    End {
+        from: u64,
+        link: u64,
+    },
+}
+
+/// A datagram of the first server.
+fn comes(from: u64, bytes: &[u8]) -> Coming<'_> {
+    Coming::Datagram {
+        from,
+        server: 0,
+        bytes,
+    }
+}
+
+/// A datagram of this server.
+fn comes_from(server: u32, from: u64, bytes: &[u8]) -> Coming<'_> {
+    Coming::Datagram {
+        from,
+        server,
+        bytes,
+    }
+}
+
+/// A piece of the first link.
+fn piece(from: u64, bytes: &[u8]) -> Coming<'_> {
+    Coming::Piece {
+        from,
+        link: 1,
+        bytes,
+    }
+}
+
+/// The item of a network in memory; a piece without a byte is an end.
+fn item_of(alloc: Global, coming: &Coming<'_>) -> Result<Timed, NoMemory>
+    ensures { IfOk result (λ item. MayCome item.got) }
+{
+    match *coming {
+        Coming::Datagram {
+            from,
+            server,
+            bytes,
+        } => Ok(Timed {
+            from,
+            got: Got::Datagram(server, Bytes::of(alloc, bytes)?),
+        }),
+        Coming::Piece { from, link, bytes } if !bytes.is_empty() => Ok(Timed {
+            from,
+            got: Got::Piece(link, Bytes::of(alloc, bytes)?),
+        }),
+        Coming::Piece { from, link, .. } | Coming::End { from, link } => Ok(Timed {
+            from,
+            got: Got::Ended(link),
+        }),
+    }
+}
+
+/// The items of a network in memory.
+fn items_of(alloc: Global, comings: &[Coming<'_>]) -> Result<Vec<Timed>, NoMemory>
+    ensures { IfOk result (λ items. All (λ item. MayCome item.got) items.items) }
+{
+    let mut items = Vec::new(alloc);
+    for coming in comings {
+        items.push(item_of(alloc, coming)?)?;
+    }
+    Ok(items)
+}
+
+/// Whether the run left this: its exit status, and what it put.
+fn is_put(left: &Left, status: u8, text: &str) -> bool {
+    left.status == status && left.put.as_slice() == text.as_bytes()
+}
+
+/// Whether these are the run's journal and calls.
+fn is_told(left: &Left, journal: &str, calls: &str) -> bool {
+    left.journal.as_str() == journal && left.calls.as_str() == calls
 }

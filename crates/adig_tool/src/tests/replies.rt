@@ -1,187 +1,310 @@
-//! Runs over what a server may answer: messages of RFC 1035, section 4.1, and their pages.
+//! Runs over what servers answer, and when.
 
-use super::{WORDS, network, ran};
-use crate::ended::{FAILURE, SUCCESS};
-use item_list::Bytes;
-use net_world::{Got, MemSink, ScriptWorld, Timed};
-use std::alloc::{AllocError, Global};
+use super::{Coming, PLAIN, REPLY, case, comes, comes_from, is_put, is_told, piece, ran};
 use std::test::Fail;
 
-/// The question of the run: example.com, A, IN.
-const QUESTION: &[u8] = b"\x07example\x03com\x00\x00\x01\x00\x01";
+/// The query of the plain run: 29 bytes with identifier 0x1234 and RD (RFC 1035, section 4.1).
+const QUERY: &[u8] =
+    b"\x12\x34\x01\0\0\x01\0\0\0\0\0\0\x07example\x03com\0\0\x01\0\x01";
 
-/// The address 192.0.2.1 of the question's name.
-const ADDRESS: &[u8] = b"\xc0\x0c\x00\x01\x00\x01\x00\x00\x01\x2c\x00\x04\xc0\x00\x02\x01";
+/// Its page.
+const PAGE: &str = ";; example.com IN A
+;; status 0 SUCCESS
+;; id 4660 rcode 0 flags qr rd ra
+;; ANSWER
+example.com. 300 IN A 192.0.2.1
+";
 
-/// An OPT record with the upper bits 1 of a response code (RFC 6891, section 6.1.3).
-const BADVERS: &[u8] = b"\x00\x00\x29\x04\xd0\x01\x00\x00\x00\x00\x00";
-
-/// An OPT record that says nothing.
-const OPT: &[u8] = b"\x00\x00\x29\x04\xd0\x00\x00\x00\x00\x00\x00";
-
-/// A message to the run's question, with this identifier, these flags, and so many records in each section.
-fn message(
-    alloc: Global,
-    id: u16,
-    flags: u16,
-    counts: [u8; 3],
-    records: &[&[u8]],
-) -> Result<Vec<u8>, AllocError> {
-    let [answers, authorities, additionals] = counts;
-    let mut bytes = Vec::new(alloc);
-    bytes.extend_from_slice(&id.to_be_bytes())?;
-    bytes.extend_from_slice(&flags.to_be_bytes())?;
-    bytes.extend_from_slice(&[0, 1, 0, answers, 0, authorities, 0, additionals])?;
-    bytes.extend_from_slice(QUESTION)?;
-    for record in records {
-        bytes.extend_from_slice(record)?;
-    }
-    Ok(bytes)
-}
-
-/// A network as in the other runs, on which these two datagrams come at moment 1, in this order.
-fn network_of_two(alloc: Global, first: &[u8], second: &[u8]) -> Result<ScriptWorld, AllocError> {
-    let mut items = Vec::new(alloc);
-    items.push(Timed {
-        from: 1,
-        got: Got::Datagram(0, Bytes::from_vec(first.to_vec(alloc)?)),
-    })?;
-    items.push(Timed {
-        from: 1,
-        got: Got::Datagram(0, Bytes::from_vec(second.to_vec(alloc)?)),
-    })?;
-    Ok(ScriptWorld::make([0x1234].to_vec(alloc)?, items, Vec::new(alloc)))
-}
-
-/// The exit status and the page of a run over this network.
-fn ran_over(alloc: Global, world: &mut ScriptWorld) -> Result<(u8, Vec<u8>), AllocError> {
-    let mut sink = MemSink::make(Vec::new(alloc));
-    let ended = ran(alloc, &WORDS, world, &mut sink, 1000);
-    Ok((ended.status, sink.bytes().to_vec(alloc)?))
-}
-
-// The reply was cut: its bit TC is printed.
+/// The query goes out once, and the reply's address is printed.
 #[test]
-fn truncation_is_printed(rt: HostRuntime) -> Result<(), Fail> {
+fn an_address_is_printed(rt: HostRuntime) -> Result<(), Fail> {
     let alloc = rt.alloc();
-    let reply = message(alloc, 0x1234, 0x8380, [0, 0, 0], &[])?;
-    let mut world = network(alloc, Some(reply.as_slice()), &[])?;
-    let (status, page) = ran_over(alloc, &mut world)?;
-    assert_eq!(rt; status, FAILURE);
-    assert_eq!(rt;
-        page.as_slice(),
-        b";; example.com IN A\n;; status 1 ENODATA\n;; id 4660 rcode 0 flags qr tc rd ra\n".as_slice()
-    );
+    let run = ran(alloc, &case(PLAIN, &[comes(1, REPLY)]))?;
+    assert!(rt; is_put(&run, 0, PAGE));
+    assert!(rt; run.sent.as_slice() == QUERY);
+    assert_eq!(rt; run.called, 1);
+    let journal = "accept 1
+start 1 on 0 over 0 at 0
+arrive from 0 over 0
+take 1
+destroy
+";
+    assert!(rt; is_told(&run, journal, "serve 0 of 3221226037 at 53\nwait to 2000\n"));
     Ok(())
 }
 
-// An OPT record that wasn't asked for has the response code 16 (BADVERS of RFC 6891, section 9).
+/// The query with an OPT record that offers 1,232 bytes (RFC 6891, section 6.1.2).
+const QUERY_OPT: &[u8] =
+    b"\x12\x34\x01\0\0\x01\0\0\0\0\0\x01\x07example\x03com\0\0\x01\0\x01\0\0\x29\x04\xd0\0\0\0\0\0\0";
+
+/// Without `--no-edns` the query has an OPT record.
 #[test]
-fn extended_code_is_a_bad_response(rt: HostRuntime) -> Result<(), Fail> {
+fn an_opt_record_is_sent(rt: HostRuntime) -> Result<(), Fail> {
     let alloc = rt.alloc();
-    let reply = message(alloc, 0x1234, 0x8180, [0, 0, 1], &[BADVERS])?;
-    let mut world = network(alloc, Some(reply.as_slice()), &[])?;
-    let (status, page) = ran_over(alloc, &mut world)?;
-    assert_eq!(rt; status, FAILURE);
-    assert_eq!(rt;
-        page.as_slice(),
-        b";; example.com IN A\n;; status 10 EBADRESP\n;; id 4660 rcode 16 flags qr rd ra\n;; ADDITIONAL\n. OPT size 1232 ext 1 version 0 do 0 \\# 0\n".as_slice()
-    );
+    let run = ran(
+        alloc,
+        &case("--server 192.0.2.53 example.com", &[comes(1, REPLY)]),
+    )?;
+    assert!(rt; is_put(&run, 0, PAGE));
+    assert!(rt; run.sent.as_slice() == QUERY_OPT);
     Ok(())
 }
 
-// A message with two OPT records is no reply: the attempt expires.
+/// Two servers are silent: each of four attempts waits for 2 seconds, and those of the second round for twice that.
 #[test]
-fn two_opt_records_are_a_stray(rt: HostRuntime) -> Result<(), Fail> {
+fn silence_goes_round_the_servers(rt: HostRuntime) -> Result<(), Fail> {
     let alloc = rt.alloc();
-    let stray = message(alloc, 0x1234, 0x8180, [1, 0, 2], &[ADDRESS, OPT, OPT])?;
-    let mut world = network(alloc, Some(stray.as_slice()), &[])?;
-    let (status, page) = ran_over(alloc, &mut world)?;
-    assert_eq!(rt; status, FAILURE);
-    assert_eq!(rt;
-        page.as_slice(),
-        b";; example.com IN A\n;; status 12 ETIMEOUT\n".as_slice()
-    );
+    let line = "--server 192.0.2.53,192.0.2.54 --tries 2 example.com";
+    let run = ran(alloc, &case(line, &[]))?;
+    assert!(rt; is_put(&run, 1, ";; example.com IN A\n;; status 12 ETIMEOUT\n"));
+    let journal = "accept 1
+start 1 on 0 over 0 at 0
+expire 1 at 2000
+start 1 on 1 over 0 at 2000
+expire 1 at 4000
+start 1 on 0 over 0 at 4000
+expire 1 at 8000
+start 1 on 1 over 0 at 8000
+expire 1 at 12000
+take 1
+destroy
+";
+    let calls = "serve 0 of 3221226037 at 53
+serve 1 of 3221226038 at 53
+wait to 2000
+wait to 4000
+wait to 8000
+wait to 12000
+";
+    assert!(rt; is_told(&run, journal, calls));
     Ok(())
 }
 
-// The server answers with RCODE 3, 4 and 5 (RFC 1035, section 4.1.1).
+/// The right reply comes twice: the second is a stray, and the request is taken once.
 #[test]
-fn each_error_has_its_status(rt: HostRuntime) -> Result<(), Fail> {
+fn a_second_reply_is_a_stray(rt: HostRuntime) -> Result<(), Fail> {
     let alloc = rt.alloc();
-    let rows: [(u16, &[u8]); 3] = [
-        (
-            0x8183,
-            b";; example.com IN A\n;; status 4 ENOTFOUND\n;; id 4660 rcode 3 flags qr rd ra\n",
-        ),
-        (
-            0x8184,
-            b";; example.com IN A\n;; status 5 ENOTIMP\n;; id 4660 rcode 4 flags qr rd ra\n",
-        ),
-        (
-            0x8585,
-            b";; example.com IN A\n;; status 6 EREFUSED\n;; id 4660 rcode 5 flags qr aa rd ra\n",
-        ),
-    ];
-    for (flags, expected) in rows {
-        let reply = message(alloc, 0x1234, flags, [0, 0, 0], &[])?;
-        let mut world = network(alloc, Some(reply.as_slice()), &[])?;
-        let (status, page) = ran_over(alloc, &mut world)?;
-        assert_eq!(rt; status, FAILURE);
-        assert_eq!(rt; page.as_slice(), expected);
-    }
+    let run = ran(alloc, &case(PLAIN, &[comes(1, REPLY), comes(1, REPLY)]))?;
+    assert!(rt; is_put(&run, 0, PAGE));
+    let journal = "accept 1
+start 1 on 0 over 0 at 0
+arrive from 0 over 0
+arrive from 0 over 0
+take 1
+destroy
+";
+    assert!(rt; is_told(&run, journal, "serve 0 of 3221226037 at 53\nwait to 2000\n"));
+    assert_eq!(rt; run.called, 1);
     Ok(())
 }
 
-// Records of several types stand in all three sections.
+/// The reply can be received at the moment of the deadline: a turn receives before it lets expire.
 #[test]
-fn each_section_is_printed(rt: HostRuntime) -> Result<(), Fail> {
+fn a_reply_at_the_deadline_counts(rt: HostRuntime) -> Result<(), Fail> {
     let alloc = rt.alloc();
-    let records: [&[u8]; 7] = [
-        b"\xc0\x0c\x00\x05\x00\x01\x00\x00\x01\x2c\x00\x06\x03www\xc0\x0c",
-        ADDRESS,
-        b"\xc0\x0c\x00\x1c\x00\x01\x00\x00\x01\x2c\x00\x10\x20\x01\x0d\xb8\x00\x00\x00\x00\x00\x00\x00\x00\x00\x00\x00\x01",
-        b"\xc0\x0c\x00\x0f\x00\x01\x00\x00\x01\x2c\x00\x09\x00\x0a\x04mail\xc0\x0c",
-        b"\xc0\x0c\x00\x10\x00\x01\x00\x00\x01\x2c\x00\x07\x06a\"\\ \x00z",
-        b"\xc0\x0c\x00\x06\x00\x01\x00\x00\x01\x2c\x00\x21\x02ns\xc0\x0c\x05admin\xc0\x0c\x00\x00\x00\x01\x00\x00\x00\x02\x00\x00\x00\x03\x00\x00\x00\x04\x00\x00\x00\x05",
-        b"\x04mail\xc0\x0c\x00\x01\x00\x01\x00\x00\x01\x2c\x00\x04\xc0\x00\x02\x02",
-    ];
-    let reply = message(alloc, 0x1234, 0x8180, [5, 1, 1], &records)?;
-    let mut world = network(alloc, Some(reply.as_slice()), &[])?;
-    let (status, page) = ran_over(alloc, &mut world)?;
-    assert_eq!(rt; status, SUCCESS);
-    assert_eq!(rt;
-        page.as_slice(),
-        b";; example.com IN A\n;; status 0 SUCCESS\n;; id 4660 rcode 0 flags qr rd ra\n;; ANSWER\nexample.com. 300 IN CNAME www.example.com.\nexample.com. 300 IN A 192.0.2.1\nexample.com. 300 IN AAAA 2001:db8::1\nexample.com. 300 IN MX 10 mail.example.com.\nexample.com. 300 IN TXT \"a\\\"\\\\ \\000z\"\n;; AUTHORITY\nexample.com. 300 IN SOA ns.example.com. admin.example.com. 1 2 3 4 5\n;; ADDITIONAL\nmail.example.com. 300 IN A 192.0.2.2\n".as_slice()
-    );
+    let line = "--server 192.0.2.53 --no-edns --tries 1 example.com";
+    let run = ran(alloc, &case(line, &[comes(2000, REPLY)]))?;
+    assert!(rt; is_put(&run, 0, PAGE));
+    let journal = "accept 1\nstart 1 on 0 over 0 at 0\narrive from 0 over 0\ntake 1\ndestroy\n";
+    assert!(rt; is_told(&run, journal, "serve 0 of 3221226037 at 53\nwait to 2000\n"));
     Ok(())
 }
 
-/// The page of the reply with the one address.
-const PAGE: &[u8] =
-    b";; example.com IN A\n;; status 0 SUCCESS\n;; id 4660 rcode 0 flags qr rd ra\n;; ANSWER\nexample.com. 300 IN A 192.0.2.1\n";
-
-// A message with another identifier comes first: it changes nothing.
+/// A right reply from the server that wasn't asked is a stray. The run may make two turns.
 #[test]
-fn another_identifier_is_a_stray(rt: HostRuntime) -> Result<(), Fail> {
+fn another_server_answers_nothing(rt: HostRuntime) -> Result<(), Fail> {
     let alloc = rt.alloc();
-    let stray = message(alloc, 0x1235, 0x8183, [0, 0, 0], &[])?;
-    let reply = message(alloc, 0x1234, 0x8180, [1, 0, 0], &[ADDRESS])?;
-    let mut world = network_of_two(alloc, stray.as_slice(), reply.as_slice())?;
-    let (status, page) = ran_over(alloc, &mut world)?;
-    assert_eq!(rt; status, SUCCESS);
-    assert_eq!(rt; page.as_slice(), PAGE);
+    let line = "--server 192.0.2.53,192.0.2.54 --no-edns example.com";
+    let comings = [comes_from(1, 5, REPLY)];
+    let mut wanted = case(line, &comings);
+    wanted.turns = 3;
+    let run = ran(alloc, &wanted)?;
+    assert!(rt; is_put(&run, 7, "adig: stalled\n"));
+    let journal = "accept 1
+start 1 on 0 over 0 at 0
+arrive from 1 over 0
+expire 1 at 2000
+start 1 on 1 over 0 at 2000
+destroy
+take 1
+";
+    let calls = "serve 0 of 3221226037 at 53
+serve 1 of 3221226038 at 53
+wait to 2000
+wait to 2000
+wait to 4000
+";
+    assert!(rt; is_told(&run, journal, calls));
     Ok(())
 }
 
-// The reply comes twice: the second is a stray, and the page stands once.
+/// A truncated reply: TC is set (RFC 1035, section 4.1.1).
+const TRUNCATED: &[u8] =
+    b"\x12\x34\x83\x80\0\x01\0\0\0\0\0\0\x07example\x03com\0\0\x01\0\x01";
+
+/// The frame of the reply without its first byte (section 4.2.2).
+const FRAME_REST: &[u8] =
+    b"\x2d\x12\x34\x81\x80\0\x01\0\x01\0\0\0\0\x07example\x03com\0\0\x01\0\x01\xc0\x0c\0\x01\0\x01\0\0\x01\x2c\0\x04\xc0\0\x02\x01";
+
+/// A truncated reply is asked again over TCP. The reply's frame comes in two pieces, of which the first has one byte.
 #[test]
-fn second_reply_is_a_stray(rt: HostRuntime) -> Result<(), Fail> {
+fn a_truncated_reply_is_asked_over_tcp(rt: HostRuntime) -> Result<(), Fail> {
     let alloc = rt.alloc();
-    let reply = message(alloc, 0x1234, 0x8180, [1, 0, 0], &[ADDRESS])?;
-    let mut world = network_of_two(alloc, reply.as_slice(), reply.as_slice())?;
-    let (status, page) = ran_over(alloc, &mut world)?;
-    assert_eq!(rt; status, SUCCESS);
-    assert_eq!(rt; page.as_slice(), PAGE);
+    let comings = [comes(1, TRUNCATED), piece(2, b"\0"), piece(3, FRAME_REST)];
+    let run = ran(alloc, &case(PLAIN, &comings))?;
+    assert!(rt; is_put(&run, 0, PAGE));
+    let journal = "accept 1
+start 1 on 0 over 0 at 0
+arrive from 0 over 0
+start 1 on 0 over 1 at 1
+arrive from 0 over 1
+take 1
+destroy
+";
+    let calls = "serve 0 of 3221226037 at 53
+wait to 2000
+connect 0 over 1
+wait to 2001
+wait to 2001
+close 1
+";
+    assert!(rt; is_told(&run, journal, calls));
+    assert!(rt; run.sent.len() == 29 + 31);
+    Ok(())
+}
+
+/// A server that can't read the query, and one that failed: response codes 1 and 2, without an OPT record.
+const FORMERR: &[u8] =
+    b"\x12\x34\x81\x81\0\x01\0\0\0\0\0\0\x07example\x03com\0\0\x01\0\x01";
+
+const SERVFAIL: &[u8] =
+    b"\x12\x34\x81\x82\0\x01\0\0\0\0\0\0\x07example\x03com\0\0\x01\0\x01";
+
+/// A server that refuses the OPT record is asked again without one, and no attempt is spent.
+#[test]
+fn a_server_is_asked_again_without_opt(rt: HostRuntime) -> Result<(), Fail> {
+    let alloc = rt.alloc();
+    let line = "--server 192.0.2.53 --tries 1 example.com";
+    let run = ran(alloc, &case(line, &[comes(3, FORMERR), comes(4, REPLY)]))?;
+    assert!(rt; is_put(&run, 0, PAGE));
+    let journal = "accept 1
+start 1 on 0 over 0 at 0
+arrive from 0 over 0
+start 1 on 0 over 0 at 3
+arrive from 0 over 0
+take 1
+destroy
+";
+    assert!(rt; is_told(&run, journal, "serve 0 of 3221226037 at 53\nwait to 2000\nwait to 2003\n"));
+    assert!(rt; run.sent.len() == 40 + 29 && run.sent.ends_with(QUERY));
+    Ok(())
+}
+
+/// A server that failed is left for the other one in the same turn.
+#[test]
+fn the_next_server_is_asked_at_once(rt: HostRuntime) -> Result<(), Fail> {
+    let alloc = rt.alloc();
+    let line = "--server 192.0.2.53,192.0.2.54 --no-edns example.com";
+    let run = ran(
+        alloc,
+        &case(line, &[comes(1, SERVFAIL), comes_from(1, 9, REPLY)]),
+    )?;
+    assert!(rt; is_put(&run, 0, PAGE));
+    let journal = "accept 1
+start 1 on 0 over 0 at 0
+arrive from 0 over 0
+start 1 on 1 over 0 at 1
+arrive from 1 over 0
+take 1
+destroy
+";
+    let calls = "serve 0 of 3221226037 at 53\nserve 1 of 3221226038 at 53\nwait to 2000\nwait to 2001\n";
+    assert!(rt; is_told(&run, journal, calls));
+    Ok(())
+}
+
+/// Each send to the only server fails: its three attempts are spent in one turn, without a wait. The calls of the network
+/// are, by number: 0 tells the server, 1 reads the clock, 2 receives, and then a word is drawn before each send.
+#[test]
+fn sends_fail_in_one_turn(rt: HostRuntime) -> Result<(), Fail> {
+    let alloc = rt.alloc();
+    let mut wanted = case(PLAIN, &[]);
+    wanted.fails = &[4, 6, 8];
+    let run = ran(alloc, &wanted)?;
+    assert!(rt; is_put(&run, 1, ";; example.com IN A\n;; status 11 ECONNREFUSED\n"));
+    let journal = "accept 1
+start 1 on 0 over 0 at 0
+fault of 0 over 0 at 0
+start 1 on 0 over 0 at 0
+fault of 0 over 0 at 0
+start 1 on 0 over 0 at 0
+fault of 0 over 0 at 0
+take 1
+destroy
+";
+    assert!(rt; is_told(&run, journal, "serve 0 of 3221226037 at 53\n"));
+    Ok(())
+}
+
+/// The peer ends the link: the attempt fails, and the next one goes over a new link.
+#[test]
+fn an_ended_link_is_opened_again(rt: HostRuntime) -> Result<(), Fail> {
+    let alloc = rt.alloc();
+    let line = "--server 192.0.2.53 --no-edns --tcp --tries 2 example.com";
+    let run = ran(alloc, &case(line, &[Coming::End { from: 1, link: 1 }]))?;
+    assert!(rt; is_put(&run, 1, ";; example.com IN A\n;; status 12 ETIMEOUT\n"));
+    let journal = "accept 1
+start 1 on 0 over 1 at 0
+fault of 0 over 1 at 1
+start 1 on 0 over 2 at 1
+expire 1 at 4001
+take 1
+destroy
+";
+    let calls = "serve 0 of 3221226037 at 53
+connect 0 over 1
+wait to 2000
+close 1
+connect 0 over 2
+wait to 4001
+close 2
+";
+    assert!(rt; is_told(&run, journal, calls));
+    Ok(())
+}
+
+/// The query's letters are mixed by the word that is drawn next, 5: those of numbers 0 and 2 are in upper case.
+const MIXED: &[u8] =
+    b"\x12\x34\x01\0\0\x01\0\0\0\0\0\0\x07ExAmple\x03com\0\0\x01\0\x01";
+
+/// A reply that repeats them.
+const MIXED_REPLY: &[u8] =
+    b"\x12\x34\x81\x80\0\x01\0\x01\0\0\0\0\x07ExAmple\x03com\0\0\x01\0\x01\xc0\x0c\0\x01\0\x01\0\0\x01\x2c\0\x04\xc0\0\x02\x01";
+
+/// With `--mix` a reply has to repeat the letters: the first one doesn't, and is a stray.
+#[test]
+fn mixed_letters_are_repeated(rt: HostRuntime) -> Result<(), Fail> {
+    let alloc = rt.alloc();
+    let line = "--server 192.0.2.53 --no-edns --mix example.com";
+    let comings = [comes(1, REPLY), comes(2, MIXED_REPLY)];
+    let mut wanted = case(line, &comings);
+    wanted.words = &[0x1234, 5];
+    let run = ran(alloc, &wanted)?;
+    let page = ";; example.com IN A
+;; status 0 SUCCESS
+;; id 4660 rcode 0 flags qr rd ra
+;; ANSWER
+ExAmple.com. 300 IN A 192.0.2.1
+";
+    assert!(rt; is_put(&run, 0, page));
+    assert!(rt; run.sent.as_slice() == MIXED);
+    let journal = "accept 1
+start 1 on 0 over 0 at 0
+arrive from 0 over 0
+arrive from 0 over 0
+take 1
+destroy
+";
+    assert!(rt; is_told(&run, journal, "serve 0 of 3221226037 at 53\nwait to 2000\nwait to 2000\n"));
     Ok(())
 }

@@ -1,0 +1,129 @@
+-- How a run comes to its promise: by its words, and by the file that it reads.
+use Rattle.std.proofs.Common.{◌≡◌, ◌≢◌, ℕ, ◌<◌, ◌≤◌, List, [], ◌∷◌, length, refl, sym, ap, subst, ◌∙◌, inl, inr, arith, ltb-true, ltb-false}
+use Rattle.std.specs.Prelude.{Bool, Err, None, Ok, Option, Result, Some, false, nat_lt, true}
+use Rattle.std.specs.String.{string_bytes}
+use Rattle.item_list.specs.declared.no_memory.NoMemory.{NoMemory}
+use Rattle.net_world.specs.Cause.{HasCause, Rose, is_not_read}
+use Rattle.net_world.specs.Files.{IsReadOf}
+use Rattle.net_world.specs.declared.answers.FileRead.{FileRead}
+use Rattle.net_world.specs.declared.answers.FileRead.TheVariants.{Absent, Content, Failed as NotRead, Large}
+use Rattle.resolv_options.specs.Values.{OptionValues}
+use Rattle.chan_types.specs.declared.spec.Spec.{Spec}
+use Rattle.tool_line.specs.Adig.{AdigAsks, IsSaid}
+use Rattle.tool_line.specs.Files.{options_set}
+use Rattle.tool_line.specs.Lookup.{Lookup, lookup}
+use Rattle.tool_line.specs.Settings.{AreSetBy, SettingValues}
+use Rattle.tool_line.specs.Words.{Text}
+use Rattle.tool_line.specs.declared.switches.Switches.{Switches}
+use Rattle.net_addr.specs.declared.addr.Addr.{Addr}
+use Rattle.tool_line.specs.declared.adig.AdigAsk.{AdigAsk}
+use Rattle.tool_line.specs.declared.ending.Exit.TheVariants.{FileFault}
+use Rattle.tool_line.specs.declared.files.FileFault.{FileFault as FaultOfFile}
+use Rattle.tool_line.specs.declared.files.FileFault.TheVariants.{Failed, NoMemory as NoMemoryLeft, TooLarge}
+use Rattle.adig_tool.specs.Outside.{FilesTold, Outside}
+use Rattle.adig_tool.specs.Running.{Comes, EndsEarly, ForWords, IsRunFor, setting_with}
+use Rattle.adig_tool.specs.declared.ended.Ended.{Ended}
+use Rattle.adig_tool.proofs.PromiseLemmas.{promise_early}
+
+-- ---- words ask one thing
+
+some_same : {A : Type 0} (x y : A) → Some x ≡ Some y → x ≡ y
+some_same x y is = cc
+
+-- settings that are set by the same words are the same
+same_settings : (under : Lookup) (a b : SettingValues) → AreSetBy under a → AreSetBy under b → a ≡ b
+same_settings under a b x y =
+    fields a.servers b.servers a.port b.port a.timeout b.timeout a.tries b.tries a.sources b.sources a.switches b.switches
+    (some_same a.servers b.servers (sym x.servers ∙ y.servers)) (some_same a.port b.port (sym x.port ∙ y.port)) (some_same a.timeout b.timeout (sym x.timeout ∙ y.timeout))
+    (some_same a.tries b.tries (sym x.tries ∙ y.tries)) (some_same a.sources b.sources (sym x.sources ∙ y.sources)) (x.switches ∙ sym y.switches)
+  where
+    fields : (s1 s2 : Option (List Addr)) (p1 p2 t1 t2 r1 r2 : Option ℕ) (u1 u2 : Option (List Addr)) (w1 w2 : Switches) → s1 ≡ s2 → p1 ≡ p2 → t1 ≡ t2 → r1 ≡ r2 → u1 ≡ u2 → w1 ≡ w2 →
+        ◌≡◌ {A = SettingValues} (record { servers = s1; port = p1; timeout = t1; tries = r1; sources = u1; switches = w1 })
+        (record { servers = s2; port = p2; timeout = t2; tries = r2; sources = u2; switches = w2 })
+    fields s1 s2 p1 p2 t1 t2 r1 r2 u1 u2 w1 w2 a b c d e f = cc
+
+-- the same uses
+same_uses : (words : List Text) (a b : AdigAsk) (x : AdigAsks words a) (y : AdigAsks words b) → x.uses ≡ y.uses
+same_uses words a b x y = some_same x.uses y.uses (sym x.are ∙ y.are)
+
+-- a run for what is asked is one for whatever the words ask
+pub same_run : (words : List Text) (a b : AdigAsk) (turns : ℕ) (ended : Ended) (files_before files_after : FilesTold) (before after : Outside) → AdigAsks words a → AdigAsks words b →
+    IsRunFor a turns ended files_before files_after before after → IsRunFor b turns ended files_before files_after before after
+same_run words a b turns ended files_before files_after before after x y run =
+    let says : IsSaid (lookup y.uses) a = subst (λ us. IsSaid (lookup us) a) (same_uses words a b x y) x.say in
+    let path : string_bytes a.resolv ≡ string_bytes b.resolv = some_same _ _ (sym says.resolv ∙ y.say.resolv) in
+    let settings : a.settings ≡ b.settings = same_settings (lookup y.uses) a.settings b.settings says.settings y.say.settings in
+    let spec : a.spec ≡ b.spec = some_same _ _ (sym says.spec ∙ y.say.spec) in
+    record {
+      file = run.file;
+      read = subst (λ p. IsReadOf files_before.files p 65536 run.file) path run.read;
+      read_fault = run.read_fault;
+      comes = subst (λ s. Comes s turns (options_set b.settings run.file) ended before after) spec
+          (subst (λ v. Comes a.spec turns (options_set v run.file) ended before after) settings run.comes);
+    }
+
+-- ---- want of memory before there is a channel
+
+-- some answer of a read fits, which is no failure
+some_read : (files : Option (List ℕ → Option (List ℕ))) (path : List ℕ) → (file : FileRead) × IsReadOf files path 65536 file × (file ≢ NotRead)
+some_read None path = (Absent, tt, λ is. absurd (cc is))
+some_read (Some told) path = by (told path) refl
+  where
+    by : (found : Option (List ℕ)) → told path ≡ found → (file : FileRead) × IsReadOf (Some told) path 65536 file × (file ≢ NotRead)
+    by None is = (Absent, is, λ e. absurd (cc e))
+    by (Some bytes) is = sized (nat_lt 65536 (length bytes)) refl
+      where
+        sized : (large : Bool) → nat_lt 65536 (length bytes) ≡ large → (file : FileRead) × IsReadOf (Some told) path 65536 file × (file ≢ NotRead)
+        sized true more = (Large, rw is (ltb-true 65536 (length bytes) more), λ e. absurd (cc e))
+        sized false most = (Content bytes, (ltb-false 65536 (length bytes) most, is), λ e. absurd (cc e))
+
+-- with whatever options, or none
+early_comes : (spec : Spec) (turns : ℕ) (options : Result OptionValues FaultOfFile) (outside : Outside) → Comes spec turns options (record { status = 5; journal = []; calls = [] }) outside outside
+early_comes spec turns (Ok options) outside = promise_early spec (setting_with options) turns outside
+early_comes spec turns (Err fault) outside = record {
+  no_journal = refl;
+  no_calls = refl;
+  no_traffic = refl;
+  put = record { told = inr (inr (refl, refl)); counted = omega arith };
+}
+
+-- a run that wanted memory before it read the file, or behind that
+pub early_run : (ask : AdigAsk) (turns : ℕ) (files_before files_after : FilesTold) (outside : Outside) → IsRunFor ask turns (record { status = 5; journal = []; calls = [] }) files_before files_after outside outside
+early_run ask turns files_before files_after outside =
+    let found = some_read files_before.files (string_bytes ask.resolv) in
+    record {
+      file = found.0;
+      read = found.1;
+      read_fault = λ is. absurd (found.2 is);
+      comes = early_comes ask.spec turns (options_set ask.settings found.0) outside;
+    }
+
+-- a run that came to something with the options of the file that was read
+pub run_of : (ask : AdigAsk) (turns : ℕ) (ended : Ended) (files_before files_after : FilesTold) (before after : Outside) (file : FileRead) (options : Result OptionValues FaultOfFile) →
+    IsReadOf files_before.files (string_bytes ask.resolv) 65536 file → (file ≡ NotRead → Rose files_before.faults files_after.faults) → options_set ask.settings file ≡ options →
+    Comes ask.spec turns options ended before after → IsRunFor ask turns ended files_before files_after before after
+run_of ask turns ended files_before files_after before after file options read cause is comes = record {
+  file = file;
+  read = read;
+  read_fault = cause;
+  comes = subst (λ o. Comes ask.spec turns o ended before after) (sym is) comes;
+}
+
+-- what a read answered that didn't want memory
+abbrev ok_of : FileRead → Result FileRead NoMemory
+ok_of file = Ok file
+
+-- a file that can't be read ended the run
+pub fault_run : (ask : AdigAsk) (turns : ℕ) (ended : Ended) (files_before files_after : FilesTold) (before after : Outside) (path : List ℕ) (file : FileRead) (fault : FaultOfFile) →
+    path ≡ string_bytes ask.resolv → IsReadOf files_before.files path 65536 file → HasCause files_before.faults files_after.faults is_not_read (ok_of file) → options_set ask.settings file ≡ Err fault →
+    EndsEarly FileFault ended before after → IsRunFor ask turns ended files_before files_after before after
+fault_run ask turns ended files_before files_after before after path file fault same read cause is ends =
+    run_of ask turns ended files_before files_after before after file (Err fault) (subst (λ p. IsReadOf files_before.files p 65536 file) same read)
+    (λ failed. cause.cause (ap is_not_read failed)) is ends
+
+-- such a fault is no want of memory
+pub failed_apart : (fault : FaultOfFile) → fault ≡ Failed → fault ≢ NoMemoryLeft
+failed_apart fault is none = absurd (let h : Failed ≡ NoMemoryLeft = sym is ∙ none in cc)
+
+pub large_apart : (fault : FaultOfFile) → fault ≡ TooLarge → fault ≢ NoMemoryLeft
+large_apart fault is none = absurd (let h : TooLarge ≡ NoMemoryLeft = sym is ∙ none in cc)

@@ -1,0 +1,22 @@
+use Rattle.std.proofs.Common.{◌≤◌, ap, length, subst, ◌∙◌}
+use Rattle.adig_tool.proofs.PromiseLemmas.{promise_early, promise_of, session_open}
+use Rattle.adig_tool.proofs.resolving.resolve.Goals as goal
+
+pub close-requires : goal.close-requires
+close-requires g c = record {
+  undestroyed = session_open c.session-loop_end.new.alone.seen c.session-loop_end.ensures.session.plain;
+  voice = c.session-loop_end.ensures.session.voice ∙ ap (λ alone. alone.voice) c.in-Ok.ensures.1;
+}
+
+-- the channel was made
+pub returns : goal.returns
+returns g c =
+    rw c.close-2.ensures
+    (promise_of _ _ _ _ _ _ _ _ _ _ _ (ap (λ alone. alone.setting) c.in-Ok.ensures.1) c.session-loop_end.ensures.session c.close.ensures
+    (subst (λ options. 1 ≤ length options.servers) (c.told.view_is ∙ c.in-Ok.ensures.0) c.told.invariant.some_server)
+    (subst (λ options. 1 ≤ options.tries) (c.told.view_is ∙ c.in-Ok.ensures.0) c.told.invariant.some_try) _ _ _ _ _ _
+    c.end_of-end.ensures c.session-loop_end.ensures.wait_fault c.tell-status.ensures)
+
+-- memory was wanting for it
+pub returns-in_default : goal.returns-in_default
+returns-in_default g c = rw (c.early.ensures, c.number.ensures) (promise_early _ _ _ _)

@@ -1,0 +1,57 @@
+-- How a run comes to its promise: by its words, and by the resolv.conf that it reads.
+use Rattle.std.specs.Prelude.{List, Result, Ok, Err, [], ℕ, ◌≡◌, ◌≤◌}
+use Rattle.std.specs.String.{string_bytes}
+use Rattle.net_world.specs.Cause.{Rose}
+use Rattle.net_world.specs.Files.{IsReadOf}
+use Rattle.net_world.specs.declared.answers.FileRead.{FileRead}
+use Rattle.net_world.specs.declared.answers.FileRead.TheVariants.{Failed as NotRead}
+use Rattle.resolv_options.specs.Values.{OptionValues}
+use Rattle.channel_model.specs.Setting.{Setting}
+use Rattle.chan_types.specs.declared.spec.Spec.{Spec}
+use Rattle.tool_line.specs.Adig.{AdigAsks}
+use Rattle.tool_line.specs.Ending.{text_of}
+use Rattle.tool_line.specs.Files.{options_set}
+use Rattle.tool_line.specs.Words.{Text}
+use Rattle.tool_line.specs.declared.adig.AdigAsk.{AdigAsk}
+use Rattle.tool_line.specs.declared.ending.Exit.{Exit}
+use Rattle.tool_line.specs.declared.ending.Exit.TheVariants.{FileFault}
+use Rattle.tool_line.specs.declared.ending.Tool.TheVariants.{Adig}
+use Rattle.tool_line.specs.declared.files.FileFault.{FileFault as FaultOfFile}
+use Rattle.adig_tool.specs.Outside.{FilesTold, Outside}
+use Rattle.adig_tool.specs.Output.{IsPut}
+use Rattle.adig_tool.specs.Promise.{Promise}
+use Rattle.adig_tool.specs.declared.ended.Ended.{Ended}
+
+-- the words ask nothing
+abbrev pub AreRefused : List Text → Type 0
+AreRefused words = (ask : AdigAsk) → AdigAsks words ask → ⊥
+
+-- this holds of what the words ask, if they ask something
+abbrev pub ForWords : List Text → (AdigAsk → Type 0) → Type 0
+ForWords words holds = (ask : AdigAsk) → AdigAsks words ask → holds ask
+
+-- the setting of a channel with these options: it has an empty hosts file
+abbrev pub setting_with : OptionValues → Setting
+setting_with options = record { options = options; hosts = [] }
+
+-- a run that came to this end before it had a channel: nothing is in its journal, nothing of the network was called, and it put the line of that end
+pub record EndsEarly (end : Exit) (ended : Ended) (before after : Outside) : Type 0 where
+  pub no_journal : ended.journal ≡ []
+  pub no_calls : ended.calls ≡ []
+  pub no_traffic : after.network ≡ before.network
+  pub put : IsPut (text_of Adig end) end ended.status before.output after.output
+
+-- with the options of the file that was read the run keeps its promise, or the file can't be read
+abbrev pub Comes : Spec → ℕ → Result OptionValues FaultOfFile → Ended → Outside → Outside → Type 0
+Comes spec turns (Ok options) ended before after = Promise spec (setting_with options) turns ended before after
+Comes spec turns (Err fault) ended before after = EndsEarly FileFault ended before after
+
+-- a run for what is asked
+pub record IsRunFor (ask : AdigAsk) (turns : ℕ) (ended : Ended) (files_before files_after : FilesTold) (before after : Outside) : Type 0 where
+  -- resolv.conf as it was read: where files are told, its whole content of at most 65,536 bytes, or that there is none, or that it has more.
+  pub file : FileRead
+  pub read : IsReadOf files_before.files (string_bytes ask.resolv) 65536 file
+  -- A read fails only where the count of failures rose in this run.
+  pub read_fault : file ≡ NotRead → Rose files_before.faults files_after.faults
+  -- The channel's options are those of the file, and what the words set in place of them.
+  pub comes : Comes ask.spec turns (options_set ask.settings file) ended before after

@@ -1,0 +1,89 @@
+-- How one request is brought to its end: it is accepted, turns are made with waits between them, and what completes is called for.
+use Rattle.std.specs.List.{list_all}
+use Rattle.std.specs.Prelude.{Bool, Err, IsTrue, List, Ok, Option, Result, Some, [], false, map, true, ℕ, ⊤, ◌&&◌, ◌-◌, ◌==◌, ◌^◌, ◌∷◌, ◌≡◌, ◌≢◌, ◌≤◌}
+use mathlib.Core.List.{IsPrefix}
+use Rattle.item_list.specs.declared.no_memory.NoMemory.{NoMemory}
+use Rattle.net_world.specs.declared.log.WorldCall.{WorldCall}
+use Rattle.chan_types.specs.Plans.{blank}
+use Rattle.chan_types.specs.declared.answer.Answer.{Answer}
+use Rattle.chan_types.specs.declared.journal.Entry.{Entry}
+use Rattle.chan_types.specs.declared.journal.What.{What}
+use Rattle.chan_types.specs.declared.journal.What.TheVariants.{Accept, Arrive, Cancel, Destroy, Expire, Fault, Start, Take, Servers}
+use Rattle.chan_types.specs.declared.spec.Spec.{Spec}
+use Rattle.channel_model.specs.Completion.{fate, pending, ready, taken}
+use Rattle.channel_model.specs.Course.{IsCourse, IsCourseSoFar}
+use Rattle.channel_model.specs.Endings.{IsStalledBehind, LastWaitFailed}
+use Rattle.channel_model.specs.Journal.{Accepted, Past, accepted, past_of}
+use Rattle.channel_model.specs.Lawful.{IsLawful}
+use Rattle.channel_model.specs.Setting.{Setting}
+use Rattle.channel_table.specs.Calling.{Owned}
+use Rattle.event_runner.specs.UnderWay.{LogGets}
+use Rattle.adig_tool.specs.declared.session.LoopEnd.{LoopEnd}
+use Rattle.adig_tool.specs.declared.session.LoopEnd.TheVariants.{Completed, Stalled, WaitFault}
+
+-- such an event leaves the requests that are pending, and the servers, to the network and the clock
+abbrev pub leaves_running : What → Bool
+leaves_running (Accept number spec script) = true
+leaves_running Cancel = false
+leaves_running Destroy = false
+leaves_running (Take number) = true
+leaves_running (Start number leg server link id mix moment) = true
+leaves_running (Arrive server link bytes) = true
+leaves_running (Expire number leg moment) = true
+leaves_running (Fault server link moment) = true
+leaves_running (Servers list) = false
+
+-- the entry is of the channel's one seat, no callback commanded it, and it neither cancels nor destroys nor sets servers
+abbrev pub is_of_session : Entry → Bool
+is_of_session entry = (entry.seat == 0) && (entry.by == 0) && leaves_running entry.what
+
+-- a wait between two turns may last as long as nothing is due
+abbrev pub longest_slice : ℕ
+longest_slice = 2 ^ 64 - 1
+
+-- the request as it is accepted: it is the channel's first, and its callback commands nothing
+abbrev pub first_request : Spec → Accepted
+first_request spec = record { number = 1; spec = spec; script = blank 0 }
+
+-- this request alone was accepted; where memory was wanting it may be missing
+abbrev pub HasAccepted : Spec → Result LoopEnd NoMemory → List Accepted → Type 0
+HasAccepted spec (Ok end) requests = requests ≡ first_request spec ∷ []
+HasAccepted spec (Err fault) requests = IsPrefix requests (first_request spec ∷ [])
+
+-- what is left to be done, by how the turns came to their end: nothing, or a request is pending
+abbrev pub IsLeft : LoopEnd → List ℕ → Type 0
+IsLeft Completed requests = requests ≡ []
+IsLeft WaitFault requests = requests ≢ []
+IsLeft Stalled requests = requests ≢ []
+
+-- nothing is ready any more, and this is pending; where memory was wanting anything may be left
+abbrev pub LeavesPending : Setting → Result LoopEnd NoMemory → Past → Type 0
+LeavesPending setting (Ok end) past = (ready setting past ≡ []) × IsLeft end (pending setting past)
+LeavesPending setting (Err fault) past = ⊤
+
+-- how the turns came to their end shows in the calls: the last wait failed, or all turns were made, and a request was pending behind the last
+abbrev pub ShowsEnd : ℕ → LoopEnd → Owned → ℕ → List WorldCall → Type 0
+ShowsEnd turns Completed channel made calls = ⊤
+ShowsEnd turns WaitFault channel made calls = LastWaitFailed calls
+ShowsEnd turns Stalled channel made calls = (made ≡ turns) × IsStalledBehind channel.setting 0 longest_slice turns channel.seen calls
+
+-- journal and calls fall into at most so many turns, with waits between them; where memory was wanting the last turn may have been cut short, or the telling of the servers
+abbrev pub FallsIntoTurns : ℕ → Result LoopEnd NoMemory → Owned → List WorldCall → Type 0
+FallsIntoTurns turns (Ok end) channel calls =
+    (made : ℕ) × (made ≤ turns) × IsCourse channel.setting 0 longest_slice channel.seen calls made 0 × ShowsEnd turns end channel made calls
+FallsIntoTurns turns (Err fault) channel calls =
+    (made : ℕ) × (made ≤ turns) × IsCourseSoFar channel.setting 0 longest_slice channel.seen calls made 0
+
+-- one request was brought to its end, or as far as turns, waits and memory served
+pub record IsSession (spec : Spec) (turns : ℕ) (result : Result LoopEnd NoMemory) (old new : Owned) (answers : List Answer) (log_old log_new : Option (List WorldCall)) : Type 0 where
+  pub setting : new.setting ≡ old.setting
+  pub voice : new.voice ≡ old.voice
+  pub lawful : IsLawful new.setting new.seen
+  -- the journal has no other entries than the request's Accept, those of turns, and Takes
+  pub plain : IsTrue (list_all is_of_session new.seen)
+  pub accepted_is : HasAccepted spec result (accepted (past_of new.seen))
+  -- each request that was taken was called, in this order, with its fate
+  pub called : map Some answers ≡ map (λ number. fate new.setting number (past_of new.seen)) (taken (past_of new.seen))
+  pub left : LeavesPending new.setting result (past_of new.seen)
+  -- where the network tells its log
+  pub told : LogGets (FallsIntoTurns turns result new) log_old log_new
