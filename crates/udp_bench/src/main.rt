@@ -1,0 +1,44 @@
+//! What a query over a UDP socket costs through a channel and its runner, beside a bare loop that sends and receives.
+//! `serve PORT` answers what comes to this port of 127.0.0.1 until nothing comes for some seconds. `ask PORT WINDOW COUNT`
+//! sends COUNT queries there, WINDOW of them at once, by the bare loop and then through the channel.
+#![tactic(auto)]
+
+mod bare;
+mod channel;
+mod load;
+mod served;
+
+use load::{Load, number};
+use std::{env, io};
+
+// Without words it prints a line that is always the same.
+fn main(rt: HostRuntime) -> io::Result<()> {
+    let mut words = env::args(&rt)?.skip(1);
+    let task = words.next();
+    let port = number(words.next(), 0).min(65_535) as u16;
+    let load = Load {
+        port,
+        window: number(words.next(), 1).min(16_384),
+        count: number(words.next(), 0),
+    };
+    match task {
+        Some(task) if task.as_str() == "serve" => served::serve(&rt, port),
+        Some(task) if task.as_str() == "ask" => ask(rt, &load),
+        _ => println!(rt; "udp_bench serve PORT, udp_bench ask PORT WINDOW COUNT"),
+    }
+}
+
+/// Asks by the bare loop, then through the channel, and prints what a query cost.
+fn ask(rt: HostRuntime, load: &Load) -> io::Result<()> {
+    let bare = bare::ask(&rt, load)?;
+    let channel = channel::ask(rt, load)?;
+    println!(rt;
+        "window {}: the loop {} ns a query, {} lost; the channel {} ns, {} lost; {} percent",
+        load.window,
+        bare.each(load),
+        bare.lost(load),
+        channel.each(load),
+        channel.lost(load),
+        channel.each(load).saturating_mul(100) / bare.each(load).max(1)
+    )
+}
