@@ -17,14 +17,16 @@ use Rattle.channel_model.specs.Completion.{fate, occurrences, pending, ready, re
 use Rattle.channel_model.specs.Flight.{has_leg, in_flight, started}
 use Rattle.channel_model.specs.Journal.{Accepted, Past, accepted, script_of}
 use Rattle.channel_model.specs.Lawful.{IsLawfulPast}
-use Rattle.channel_model.specs.Legs.{leg_of}
+use Rattle.channel_model.specs.Legs.{leg_of, legs_of}
 use Rattle.channel_model.specs.Questions.{candidates_of, question_for}
 use Rattle.channel_model.specs.Setting.{Setting}
 use Rattle.channel_table.proofs.FreshLegs.{unstarted_stands}
 use Rattle.channel_table.proofs.RowFrames.{IsSpared, rows_spared}
 use Rattle.channel_table.proofs.TableSteps.{tickets_later}
+use Rattle.channel_table.specs.Aims.{aim_of, first_number}
 use Rattle.channel_table.specs.Places.{IsNewRow}
-use Rattle.channel_table.specs.Rows.{HasOneLeg, RowStands, TableStands, TicketStands, flown, leg_of_row, number_of, ticket_number}
+use Rattle.channel_table.specs.declared.aim.Aim.{Aim}
+use Rattle.channel_table.specs.Rows.{RowStands, TableStands, TicketStands, flown, leg_of_row, number_of, ticket_number}
 use Rattle.channel_table.specs.declared.row.Row.{Row}
 
 pub filter_true : {X : Type 0} (xs : List X) → filter (λ x. true) xs ≡ xs
@@ -89,21 +91,21 @@ module _ {T : Type 0} (plan : T → Script) (setting : Setting) (past : Past) (s
   unbegun k = started-says setting (leg_of number k) past ∙ rw (unasked_flight setting number k past lawful new, unasked_closings setting number k past lawful new) refl
 
   -- the row of a new request stands, which asks its first candidate
-  pub row_stands : (question : Question) (names : List Name) (row : Row T) → HasOneLeg spec → candidates_of setting spec ≡ question.name ∷ names → length (candidates_of setting spec) ≤ 9 → question_for spec 0 question.name ≡ question → at_once setting number spec ≡ None
-      → IsNewRow setting.options.flags number row.token question names row → plan row.token ≡ script → RowStands plan setting (Accept number spec script ∷ past) row
-  row_stands question names row one candidates few asks unanswered is scripted = record {
+  pub row_stands : (aim : Aim) (question : Question) (names : List Name) (row : Row T) → aim_of spec ≡ aim → legs_of spec 0 ≡ first_number aim ∷ [] → candidates_of setting spec ≡ question.name ∷ names → length (candidates_of setting spec) ≤ 9 → question_for spec (first_number aim) question.name ≡ question → at_once setting number spec ≡ None
+      → IsNewRow setting.options.flags number aim row.token question names row → plan row.token ≡ script → RowStands plan setting (Accept number spec script ∷ past) row
+  row_stands aim question names row aims legs candidates few asks unanswered is scripted = record {
     spec = spec;
-    one_leg = one;
+    aims = aims ∙ sym is.aims;
     passed = [];
     candidates = rw (is.asks, is.others) candidates;
     few = few;
-    legged = is.legged;
+    legged = legs ∙ ap (λ n. n ∷ []) (sym is.legged);
     came = refl;
     emptied = sym is.unpassed;
     asks = rw (is.asks, is.legged) asks;
     accepts = rw (is.numbered, scripted) (accept-request setting past number spec script new);
     undecided = subst (λ n. fate setting n (Accept number spec script ∷ past) ≡ None) (sym is.numbered) (accept-fate setting past number spec script new ∙ unanswered);
-    leg = rw (is.numbered, is.legged, is.fresh) (unstarted_stands setting (Accept number spec script ∷ past) (leg_of number 0) (unbegun 0));
-    begun = rw (is.numbered, is.legged, is.unbegun) (unbegun 0);
+    leg = rw (is.numbered, is.legged, is.fresh) (unstarted_stands setting (Accept number spec script ∷ past) (leg_of number (first_number aim)) (unbegun (first_number aim)));
+    begun = rw (is.numbered, is.legged, is.unbegun) (unbegun (first_number aim));
     later = λ k above. rw is.numbered (unbegun k);
   }

@@ -16,5 +16,5 @@ use Rattle.channel_table.specs.declared.row.Row.{Row}
 pub asked_question : {T : Type 0} (plan : T → Script) (setting : Setting) (past : Past) (row : Row T) → RowStands plan setting past row → question_of setting (leg_of_row row) past ≡ Some row.question
 asked_question plan setting past row stands =
     ap (option_and_then (λ spec. option_map (question_for spec row.leg_number) (slice_get (candidates_of setting spec) (candidate_of row.leg_number)))) (spec_of_row plan setting Cancel past row stands)
-    ∙ ap₂ (λ names n. option_map (question_for stands.spec row.leg_number) (slice_get names n)) stands.candidates (candidate_is row.leg_number (length stands.passed) stands.legged)
+    ∙ ap₂ (λ names n. option_map (question_for stands.spec row.leg_number) (slice_get names n)) stands.candidates (candidate_is stands.spec row.leg_number (length stands.passed) stands.legged)
     ∙ ap (option_map (question_for stands.spec row.leg_number)) (item_behind stands.passed row.question.name row.names) ∙ ap Some stands.asks

@@ -139,10 +139,10 @@ table_begun {T} plan setting past rows new_rows tickets index flying lawful begi
     let each = each-split (RowStands plan setting past) before row behind split.each_row in
     let apart = others_apart setting past before behind row lawful split.stand.pending_are in
     let stands = each.1 in
-    let stay = passed_stay setting row.number stands.spec stands.one_leg (start_of (leg_of_row row) flying) past 0 stands.passed stands.came in
+    let stay = passed_stay setting row.number stands.spec (start_of (leg_of_row row) flying) past 0 stands.passed stands.came in
     let stays : RowStands plan setting (start_of (leg_of_row row) flying ∷ past) (begun_row flying row) = record {
       spec = stands.spec;
-      one_leg = stands.one_leg;
+      aims = stands.aims;
       passed = stands.passed;
       candidates = stands.candidates;
       few = stands.few;

@@ -13,7 +13,6 @@ use Rattle.channel_model.specs.Setting.{Setting}
 use Rattle.resolv_options.specs.Search.{candidates, dots, may_be_asked, search_order, with_domains, without_repeats}
 use Rattle.resolv_options.specs.Values.{AreWithinLimits}
 use Rattle.resolv_options.specs.declared.options.Options.{Options}
-use Rattle.channel_table.specs.Rows.{HasOneLeg}
 
 fewer_filtered : {X : Type 0} (t : X → Bool) (xs : List X) → length (filter t xs) ≤ length xs
 fewer_filtered t [] = omega arith
@@ -57,8 +56,8 @@ names_few names text few = by_read (name_of_text text)
     by_read None = omega arith
     by_read (Some read) = few read
 
-pub few_candidates : (setting : Setting) → AreWithinLimits setting.options → (spec : Spec) → HasOneLeg spec → length (candidates_of setting spec) ≤ 9
-few_candidates setting limits (Query text kind class) one = names_few (λ read. read.name ∷ []) text (λ read. omega arith)
-few_candidates setting limits (Search text kind class) one = names_few (λ read. candidates read setting.options) text (λ read. searched_few setting.options limits.few_domains read)
-few_candidates setting limits (Address host family nosort) one = absurd one
-few_candidates setting limits (Reverse address) one = omega arith
+pub few_candidates : (setting : Setting) → AreWithinLimits setting.options → (spec : Spec) → length (candidates_of setting spec) ≤ 9
+few_candidates setting limits (Query text kind class) = names_few (λ read. read.name ∷ []) text (λ read. omega arith)
+few_candidates setting limits (Search text kind class) = names_few (λ read. candidates read setting.options) text (λ read. searched_few setting.options limits.few_domains read)
+few_candidates setting limits (Address host family nosort) = names_few (λ read. candidates read setting.options) host (λ read. searched_few setting.options limits.few_domains read)
+few_candidates setting limits (Reverse address) = omega arith

@@ -2,14 +2,13 @@
 use Rattle.std.proofs.Common.{◌≡◌, ◌∙◌, ℕ, ◌+◌, ◌<◌, suc, true, false, List, [], ◌∷◌, ◌++◌, Some, None, refl, ap, sym, subst, take, drop, set, get_or, length, arith}
 use Rattle.std.proofs.lemmas.List.{drop_more, get_or_read, set_split, take-append-drop}
 use Rattle.std.specs.Prelude.{if◌then◌else◌}
-use Rattle.chan_types.specs.declared.status.Status.{Status}
+use Rattle.chan_types.specs.declared.answer.Answer.{Answer}
 use Rattle.chan_types.specs.declared.ticket.Ticket.{Ticket}
-use Rattle.channel_model.specs.Merge.{bare}
 use Rattle.channel_model.specs.declared.judged.Judged.{Judged}
-use Rattle.query_machine.specs.Legs.{fresh_leg, leg_behind, status_in}
+use Rattle.query_machine.specs.Legs.{fresh_leg, leg_behind}
 use Rattle.query_machine.specs.declared.leg.Leg as machine
 use Rattle.resolv_options.specs.declared.flags.Flags.{Flags}
-use Rattle.channel_table.specs.After.{after_by, has_next, last_status, next_row}
+use Rattle.channel_table.specs.After.{has_next, last_status, next_row}
 use Rattle.channel_table.specs.Ends.{Becomes, EndsRow}
 use Rattle.channel_table.specs.declared.row.After.TheVariants.{Ends, Stays}
 use Rattle.channel_table.specs.declared.row.Row.{Row}
@@ -21,38 +20,36 @@ split_at xs i x inside is = sym (take-append-drop i xs) ∙ ap (λ r. take i xs 
 pub one_more : (i : ℕ) → suc i ≡ i + 1
 one_more i = omega arith
 
-module _ {T : Type 0} (flags : Flags) (judged : Judged) (reply : List ℕ) (most index : ℕ) (rows : List (Row T)) (tickets : List (Ticket T)) (row : Row T) (inside : index < length rows) (is : row ≡ get_or rows index row) where
+module _ {T : Type 0} (flags : Flags) (judged : Judged) (most index : ℕ) (rows : List (Row T)) (tickets : List (Ticket T)) (row : Row T) (inside : index < length rows) (is : row ≡ get_or rows index row) where
   changed : (new : Row T) → set rows index new ≡ take index rows ++ new ∷ drop (index + 1) rows
   changed new = set_split rows index new inside ∙ ap (λ k. take index rows ++ new ∷ drop k rows) (one_more index)
 
   -- the row goes on with another leg
-  pub goes_on_so : (leg : machine.Leg) → status_in (leg_behind judged most row.leg).phase ≡ None → leg ≡ leg_behind judged most row.leg → EndsRow flags judged reply most index rows tickets (set rows index (record row { leg = leg })) tickets
-  goes_on_so leg on same = record {
+  pub goes_on_so : (leg : machine.Leg) → leg ≡ leg_behind judged most row.leg → EndsRow flags judged None most index rows tickets (set rows index (record row { leg = leg })) tickets
+  goes_on_so leg same = record {
     row = row;
     is = λ d. sym (get_or_read rows index row inside is d);
     parts = split_at rows index row inside is;
-    becomes = rw on (changed (record row { leg = leg }) ∙ ap (λ l. take index rows ++ record row { leg = l } ∷ drop (index + 1) rows) same, refl);
+    becomes = (changed (record row { leg = leg }) ∙ ap (λ l. take index rows ++ record row { leg = l } ∷ drop (index + 1) rows) same, refl);
   }
 
   -- the row asks its next candidate
-  pub asks_so : (status : Status) (new : Row T) → status_in (leg_behind judged most row.leg).phase ≡ Some status → has_next status row ≡ true → new ≡ next_row (fresh_leg flags) status row → EndsRow flags judged reply most index rows tickets (set rows index new) tickets
-  asks_so status new ends next same = record {
+  pub asks_so : (answer : Answer) (new : Row T) → has_next answer.status row ≡ true → new ≡ next_row (fresh_leg flags) answer.status row → EndsRow flags judged (Some answer) most index rows tickets (set rows index new) tickets
+  asks_so answer new next same = record {
     row = row;
     is = λ d. sym (get_or_read rows index row inside is d);
     parts = split_at rows index row inside is;
-    becomes = subst (λ o. Becomes (take index rows) (drop (index + 1) rows) tickets (set rows index new) tickets (after_by flags judged reply most row o)) (sym ends)
-        (subst (λ b. Becomes (take index rows) (drop (index + 1) rows) tickets (set rows index new) tickets (if b then Stays (next_row (fresh_leg flags) status row) else Ends (record { token = row.token; call = bare row.number (last_status row.empty status) reply }))) (sym next)
-        (changed new ∙ ap (λ r. take index rows ++ r ∷ drop (index + 1) rows) same, refl));
+    becomes = subst (λ b. Becomes (take index rows) (drop (index + 1) rows) tickets (set rows index new) tickets (if b then Stays (next_row (fresh_leg flags) answer.status row) else Ends (record { token = row.token; call = record answer { status = last_status row.empty answer.status } }))) (sym next)
+        (changed new ∙ ap (λ r. take index rows ++ r ∷ drop (index + 1) rows) same, refl);
   }
 
   -- the row ends in a ticket
-  pub ends_so : (status : Status) (ticket : Ticket T) (new_rows : List (Row T)) → status_in (leg_behind judged most row.leg).phase ≡ Some status → has_next status row ≡ false → ticket ≡ record { token = row.token; call = bare row.number (last_status row.empty status) reply } → new_rows ≡ take index rows ++ drop (suc index) rows
-      → EndsRow flags judged reply most index rows tickets new_rows (tickets ++ ticket ∷ [])
-  ends_so status ticket new_rows ends last same left = record {
+  pub ends_so : (answer : Answer) (ticket : Ticket T) (new_rows : List (Row T)) → has_next answer.status row ≡ false → ticket ≡ record { token = row.token; call = record answer { status = last_status row.empty answer.status } } → new_rows ≡ take index rows ++ drop (suc index) rows
+      → EndsRow flags judged (Some answer) most index rows tickets new_rows (tickets ++ ticket ∷ [])
+  ends_so answer ticket new_rows last same left = record {
     row = row;
     is = λ d. sym (get_or_read rows index row inside is d);
     parts = split_at rows index row inside is;
-    becomes = subst (λ o. Becomes (take index rows) (drop (index + 1) rows) tickets new_rows (tickets ++ ticket ∷ []) (after_by flags judged reply most row o)) (sym ends)
-        (subst (λ b. Becomes (take index rows) (drop (index + 1) rows) tickets new_rows (tickets ++ ticket ∷ []) (if b then Stays (next_row (fresh_leg flags) status row) else Ends (record { token = row.token; call = bare row.number (last_status row.empty status) reply }))) (sym last)
-        (left ∙ ap (λ k. take index rows ++ drop k rows) (one_more index), ap (λ t. tickets ++ t ∷ []) same));
+    becomes = subst (λ b. Becomes (take index rows) (drop (index + 1) rows) tickets new_rows (tickets ++ ticket ∷ []) (if b then Stays (next_row (fresh_leg flags) answer.status row) else Ends (record { token = row.token; call = record answer { status = last_status row.empty answer.status } }))) (sym last)
+        (left ∙ ap (λ k. take index rows ++ drop k rows) (one_more index), ap (λ t. tickets ++ t ∷ []) same);
   }

@@ -27,7 +27,7 @@ use Rattle.item_list.specs.declared.no_memory.NoMemory.{NoMemory}
 use Rattle.query_machine.specs.Servers.{one_more, recounted}
 use Rattle.query_machine.specs.declared.leg.Flying.{Flying}
 use Rattle.resolv_options.specs.Values.{AreWithinLimits}
-use Rattle.resolv_options.specs.declared.flags.Flags.{Flags}
+use Rattle.resolv_options.specs.declared.options.Options.{Options}
 use Rattle.channel_table.proofs.Counting.{counted_kept}
 use Rattle.channel_table.proofs.FailureSteps.{counted_changed, counted_there, one_more-is}
 use Rattle.channel_table.proofs.Outcomes.{Becomes, Follows, Outcome}
@@ -35,7 +35,7 @@ use Rattle.channel_table.proofs.RowEnds.{outcome_after, row_after}
 use Rattle.channel_table.proofs.RowFrames.{row_spared, spared_follows, spared_uncompleted}
 use Rattle.channel_table.proofs.TableSteps.{Stands, table_behind}
 use Rattle.channel_table.proofs.Telling.{busy_rows}
-use Rattle.channel_table.specs.After.{after}
+use Rattle.channel_table.specs.After.{after, answer_behind}
 use Rattle.channel_table.specs.Counted.{AreCounted}
 use Rattle.channel_table.specs.Failing.{fails_at, kept_of, ticket_made}
 use Rattle.channel_table.specs.Legs.{attempt_of, flown_by}
@@ -44,27 +44,27 @@ use Rattle.channel_table.specs.declared.row.After.{After}
 use Rattle.channel_table.specs.declared.row.After.TheVariants.{Ends, Stays}
 use Rattle.channel_table.specs.declared.row.Row.{Row}
 
-module _ {T : Type 0} (flags : Flags) (server link most : ℕ) where
+module _ {T : Type 0} (options : Options) (server link most : ℕ) where
   outcomes : List (Row T) → List (Outcome (Row T) (Ticket T))
   outcomes [] = []
-  outcomes (row ∷ rows) = outcome_after row (fails_at flags server link most row) ∷ outcomes rows
+  outcomes (row ∷ rows) = outcome_after row (fails_at options server link most row) ∷ outcomes rows
 
-  becomes : (rows : List (Row T)) → Becomes (outcomes rows) rows (filter_map kept_of (map (fails_at flags server link most) rows)) (filter_map ticket_made (map (fails_at flags server link most) rows))
+  becomes : (rows : List (Row T)) → Becomes (outcomes rows) rows (filter_map kept_of (map (fails_at options server link most) rows)) (filter_map ticket_made (map (fails_at options server link most) rows))
   unfolding outcomes
   becomes [] = record { rows_before = refl; rows_behind = refl; tickets_behind = refl }
-  becomes (row ∷ rows) = by_after (fails_at flags server link most row) (becomes rows)
+  becomes (row ∷ rows) = by_after (fails_at options server link most row) (becomes rows)
     where
-      by_after : (o : After T) → Becomes (outcomes rows) rows (filter_map kept_of (map (fails_at flags server link most) rows)) (filter_map ticket_made (map (fails_at flags server link most) rows))
-          → Becomes (outcome_after row o ∷ outcomes rows) (row ∷ rows) (cons_option (kept_of o) (filter_map kept_of (map (fails_at flags server link most) rows))) (cons_option (ticket_made o) (filter_map ticket_made (map (fails_at flags server link most) rows)))
+      by_after : (o : After T) → Becomes (outcomes rows) rows (filter_map kept_of (map (fails_at options server link most) rows)) (filter_map ticket_made (map (fails_at options server link most) rows))
+          → Becomes (outcome_after row o ∷ outcomes rows) (row ∷ rows) (cons_option (kept_of o) (filter_map kept_of (map (fails_at options server link most) rows))) (cons_option (ticket_made o) (filter_map ticket_made (map (fails_at options server link most) rows)))
       by_after (Stays new) rest = record { rows_before = ap (λ rs. row ∷ rs) rest.rows_before; rows_behind = ap (λ rs. new ∷ rs) rest.rows_behind; tickets_behind = rest.tickets_behind }
       by_after (Ends ticket) rest = record { rows_before = ap (λ rs. row ∷ rs) rest.rows_before; rows_behind = rest.rows_behind; tickets_behind = ap (λ ts. ticket ∷ ts) rest.tickets_behind }
 
 module _ {T : Type 0} (plan : T → Script) (setting : Setting) (past : Past) (server link moment most : ℕ) (may : attempts setting past ≡ most) (few : most ≤ 80) where
   follow : (row : Row T) (o : Option Flying) → flying_of row ≡ o → (b : Bool) → flying_over server link o ≡ b → RowStands plan setting past row
-      → Follows number_of ticket_number flown setting (Fault server link moment) past (outcome_after row (if b then after setting.options.flags (Failed ConnRefused) [] most row else Stays row))
-      × Stands plan setting (Fault server link moment) past (outcome_after row (if b then after setting.options.flags (Failed ConnRefused) [] most row else Stays row))
+      → Follows number_of ticket_number flown setting (Fault server link moment) past (outcome_after row (if b then after setting.options.flags (Failed ConnRefused) most row (if b then answer_behind setting.options (Failed ConnRefused) [] most row else None) else Stays row))
+      × Stands plan setting (Fault server link moment) past (outcome_after row (if b then after setting.options.flags (Failed ConnRefused) most row (if b then answer_behind setting.options (Failed ConnRefused) [] most row else None) else Stays row))
   follow row None is true over stands = absurd (true≢false (sym over))
-  follow row (Some flying) is true over stands = row_after plan setting (Fault server link moment) past row flying (Failed ConnRefused) [] most stands is over refl refl refl refl may few
+  follow row (Some flying) is true over stands = row_after plan setting (Fault server link moment) past row flying (Failed ConnRefused) [] most stands is over refl refl refl refl may few (answer_behind setting.options (Failed ConnRefused) [] most row) refl
   follow row o is false over stands =
       let spared = fault_spares setting past (leg_of_row row) server link moment (subst (λ f. IfSome f (λ a. IsFalse (closes setting a (Fault server link moment) past))) (sym (ap (λ (f : LegFacts). f.flies) stands.leg.facts ∙ ap (flown_by (leg_of_row row)) is)) (not_over o over)) in
       let none = spared_uncompleted plan setting (Fault server link moment) past row refl spared stands in
@@ -74,7 +74,7 @@ module _ {T : Type 0} (plan : T → Script) (setting : Setting) (past : Past) (s
       not_over None e = tt
       not_over (Some flying) e = e
 
-  each_follows : (rows : List (Row T)) → AllByRecursion (RowStands plan setting past) rows → AllByRecursion (Follows number_of ticket_number flown setting (Fault server link moment) past) (outcomes setting.options.flags server link most rows) × AllByRecursion (Stands plan setting (Fault server link moment) past) (outcomes setting.options.flags server link most rows)
+  each_follows : (rows : List (Row T)) → AllByRecursion (RowStands plan setting past) rows → AllByRecursion (Follows number_of ticket_number flown setting (Fault server link moment) past) (outcomes setting.options server link most rows) × AllByRecursion (Stands plan setting (Fault server link moment) past) (outcomes setting.options server link most rows)
   unfolding outcomes
   each_follows [] each = (tt, tt)
   each_follows (row ∷ rows) each =
@@ -84,11 +84,11 @@ module _ {T : Type 0} (plan : T → Script) (setting : Setting) (past : Past) (s
 
   -- the attempts over the link fail
   pub table_failed : (rows : List (Row T)) (tickets : List (Ticket T)) → TableStands plan setting past rows tickets
-      → TableStands plan setting (Fault server link moment ∷ past) (filter_map kept_of (map (fails_at setting.options.flags server link most) rows)) (tickets ++ filter_map ticket_made (map (fails_at setting.options.flags server link most) rows))
+      → TableStands plan setting (Fault server link moment ∷ past) (filter_map kept_of (map (fails_at setting.options server link most) rows)) (tickets ++ filter_map ticket_made (map (fails_at setting.options server link most) rows))
   table_failed rows tickets table =
       let each = each_follows rows table.each_row in
-      table_behind plan setting (Fault server link moment) past (outcomes setting.options.flags server link most rows) rows (filter_map kept_of (map (fails_at setting.options.flags server link most) rows)) tickets (filter_map ticket_made (map (fails_at setting.options.flags server link most) rows))
-      refl refl refl (becomes setting.options.flags server link most rows) each.0 each.1 table
+      table_behind plan setting (Fault server link moment) past (outcomes setting.options server link most rows) rows (filter_map kept_of (map (fails_at setting.options server link most) rows)) tickets (filter_map ticket_made (map (fails_at setting.options server link most) rows))
+      refl refl refl (becomes setting.options server link most rows) each.0 each.1 table
 
   over_count : (rows : List (Row T)) → length (filter (λ a. went_over a server link) (flat_map flown rows)) ≡ count_by (flew_over server link) rows
   over_count [] = refl

@@ -7,6 +7,7 @@ use Rattle.std.specs.List.{AllByRecursion, list_any}
 use Rattle.std.specs.Option.{option_and_then}
 use Rattle.std.specs.Result.{IsErr}
 use Rattle.std.specs.Prelude.{IfSome, IsFalse, IsSomeAnd, IsTrue, flat_map, is_some, not, option_map, option_to_list, ◌&&◌, ◌==◌, ◌||◌}
+use Rattle.chan_types.specs.declared.answer.Answer.{Answer}
 use Rattle.chan_types.specs.declared.journal.What.{What}
 use Rattle.chan_types.specs.declared.journal.What.TheVariants.{Arrive}
 use Rattle.chan_types.specs.declared.script.Script.{Script}
@@ -37,10 +38,12 @@ use Rattle.channel_table.proofs.FailureSteps.{counted_changed}
 use Rattle.channel_table.proofs.OneRow.{each-split}
 use Rattle.channel_table.proofs.RowEnding.{IsOther, others_apart, table_row_ended}
 use Rattle.channel_table.proofs.Asking.{asked_question}
-use Rattle.channel_table.proofs.SearchSteps.{no_kind}
+use Rattle.channel_table.proofs.SearchSteps.{kind_is}
 use Rattle.channel_table.proofs.RowFrames.{IsSpared, keep_all, keep_all-becomes, keep_all-follow, keep_all-stand, spared_uncompleted, spec_of_row}
 use Rattle.channel_table.proofs.TableSteps.{table_behind}
-use Rattle.channel_table.specs.Arriving.{judged_of, lands_on, reply_for}
+use Rattle.channel_table.specs.After.{answer_behind}
+use Rattle.channel_table.specs.Aims.{is_of_addresses}
+use Rattle.channel_table.specs.Arriving.{judged_of, kind_wanted, lands_on, reply_for}
 use Rattle.channel_table.specs.Counted.{AreCounted}
 use Rattle.channel_table.specs.Ends.{EndsRow}
 use Rattle.channel_table.specs.Legs.{attempt_of, flown_by}
@@ -74,7 +77,7 @@ module _ {T : Type 0} (plan : T → Script) (setting : Setting) (past : Past) (s
   closes_row : (row : Row T) (flying : Flying) → flying_of row ≡ Some flying → RowStands plan setting past row → closes setting (attempt_of (leg_of_row row) flying) (Arrive server link bytes) past ≡ lands_on setting.options.flags server link bytes row
   closes_row row flying is stands =
       ap₂ (λ b o. b && is_some o) (ap (flying_over server link) (sym is)) (reply_of_row row flying is stands)
-      ∙ some_if (flew_over server link row) (reply_for bytes row.question (flying_of row)) (verdict_of setting.options.flags (not (link == 0)) row.leg.has_opt None)
+      ∙ some_if (flew_over server link row) (reply_for bytes row.question (flying_of row)) (verdict_of setting.options.flags (not (link == 0)) row.leg.has_opt (kind_wanted row))
 
   flight_by : (row : Row T) (o : Option Flying) → flying_of row ≡ o → RowStands plan setting past row → flight setting (leg_of_row row) past ≡ flown_by (leg_of_row row) o
   flight_by row o is stands = ap (λ (f : LegFacts). f.flies) stands.leg.facts ∙ ap (flown_by (leg_of_row row)) is
@@ -107,7 +110,7 @@ module _ {T : Type 0} (plan : T → Script) (setting : Setting) (past : Past) (s
           → list_any (λ a. closes setting a (Arrive server link bytes) past) (flown row ++ flat_map flown rows) ≡ (lands_on setting.options.flags server link bytes row || list_any (lands_on setting.options.flags server link bytes) rows)
       by_attempt None is rest =
           ap (λ f. list_any (λ a. closes setting a (Arrive server link bytes) past) (option_to_list (flown_by (leg_of_row row) f) ++ flat_map flown rows)) is ∙ rest
-          ∙ ap (λ f. is_some (cond (flying_over server link f) (option_map (verdict_of setting.options.flags (not (link == 0)) row.leg.has_opt None) (reply_for bytes row.question f)) None) || list_any (lands_on setting.options.flags server link bytes) rows) (sym is)
+          ∙ ap (λ f. is_some (cond (flying_over server link f) (option_map (verdict_of setting.options.flags (not (link == 0)) row.leg.has_opt (kind_wanted row)) (reply_for bytes row.question f)) None) || list_any (lands_on setting.options.flags server link bytes) rows) (sym is)
       by_attempt (Some flying) is rest =
           ap (λ f. list_any (λ a. closes setting a (Arrive server link bytes) past) (option_to_list (flown_by (leg_of_row row) f) ++ flat_map flown rows)) is
           ∙ ap₂ (λ b c. b || c) (closes_row row flying is each.0) rest
@@ -145,15 +148,15 @@ pub record HasLanded {T : Type 0} (setting : Setting) (server link : ℕ) (bytes
   pub same_link : flying.link ≡ link
   pub reply : Reply
   pub found : reply_for bytes row.question (Some flying) ≡ Some reply
-  pub means : judged ≡ verdict_of setting.options.flags (not (link == 0)) row.leg.has_opt None reply
+  pub means : judged ≡ verdict_of setting.options.flags (not (link == 0)) row.leg.has_opt (kind_wanted row) reply
 
 has_landed : {T : Type 0} (setting : Setting) (server link : ℕ) (bytes : List ℕ) (row : Row T) (judged : Judged) (o : Option Flying) → flying_of row ≡ o
-    → cond (flying_over server link o) (option_map (verdict_of setting.options.flags (not (link == 0)) row.leg.has_opt None) (reply_for bytes row.question o)) None ≡ Some judged → HasLanded setting server link bytes row judged
+    → cond (flying_over server link o) (option_map (verdict_of setting.options.flags (not (link == 0)) row.leg.has_opt (kind_wanted row)) (reply_for bytes row.question o)) None ≡ Some judged → HasLanded setting server link bytes row judged
 has_landed setting server link bytes row judged None is e = absurd cc
 has_landed setting server link bytes row judged (Some flying) is e = by_test (flying_over server link (Some flying)) (reply_for bytes row.question (Some flying)) refl refl e
   where
     by_test : (b : Bool) (r : Option Reply) → flying_over server link (Some flying) ≡ b → reply_for bytes row.question (Some flying) ≡ r
-        → cond b (option_map (verdict_of setting.options.flags (not (link == 0)) row.leg.has_opt None) r) None ≡ Some judged → HasLanded setting server link bytes row judged
+        → cond b (option_map (verdict_of setting.options.flags (not (link == 0)) row.leg.has_opt (kind_wanted row)) r) None ≡ Some judged → HasLanded setting server link bytes row judged
     by_test false r over found e = absurd cc
     by_test true None over found e = absurd cc
     by_test true (Some reply) over found e =
@@ -196,7 +199,7 @@ module _ {T : Type 0} (plan : T → Script) (setting : Setting) (past : Past) (s
     where
       lands : lands_on setting.options.flags server link bytes row ≡ true
       lands =
-          ap (λ f. is_some (cond (flying_over server link f) (option_map (verdict_of setting.options.flags (not (link == 0)) row.leg.has_opt None) (reply_for bytes row.question f)) None)) landed.flies
+          ap (λ f. is_some (cond (flying_over server link f) (option_map (verdict_of setting.options.flags (not (link == 0)) row.leg.has_opt (kind_wanted row)) (reply_for bytes row.question f)) None)) landed.flies
           ∙ rw (landed.same_server, landed.same_link, eq-eqb server server refl, eq-eqb link link refl, landed.found) refl
 
   -- it closes no other attempt
@@ -220,7 +223,7 @@ module _ {T : Type 0} (plan : T → Script) (setting : Setting) (past : Past) (s
   misses_other other others apart = false_from_ne_true (lands_on setting.options.flags server link bytes other) (λ lands. by_attempt (flying_of other) refl lands)
     where
       by_attempt : (o : Option Flying) → flying_of other ≡ o → lands_on setting.options.flags server link bytes other ≡ true → ⊥
-      by_attempt None is lands = true≢false (sym lands ∙ ap (λ f. is_some (cond (flying_over server link f) (option_map (verdict_of setting.options.flags (not (link == 0)) other.leg.has_opt None) (reply_for bytes other.question f)) None)) is)
+      by_attempt None is lands = true≢false (sym lands ∙ ap (λ f. is_some (cond (flying_over server link f) (option_map (verdict_of setting.options.flags (not (link == 0)) other.leg.has_opt (kind_wanted other)) (reply_for bytes other.question f)) None)) is)
       by_attempt (Some flying) is lands =
           let same = only_one (attempt_of (leg_of_row other) flying) (flight_by plan setting past server link bytes other (Some flying) is others) (closes_row plan setting past server link bytes other flying is others ∙ lands) in
           let leg : leg_of_row other ≡ leg_of_row row = ap (λ (a : Attempt). a.leg) same in
@@ -243,7 +246,7 @@ module _ {T : Type 0} (plan : T → Script) (setting : Setting) (past : Past) (s
       ap (option_map (λ (r : Reply). verdict_of flags (not (landed.flying.link == 0)) (has_opt setting (closings setting (leg_of_row row) past)) (wanted_kind (spec_of row.number past) row.leg_number) r)) found
       ∙ ap₂ (λ l o. Some (verdict_of flags (not (l == 0)) o (wanted_kind (spec_of row.number past) row.leg_number) landed.reply)) landed.same_link opt
       ∙ ap (λ s. Some (verdict_of flags (not (link == 0)) row.leg.has_opt (wanted_kind s row.leg_number) landed.reply)) (spec_of_row plan setting (Arrive server link bytes) past row stands)
-      ∙ ap (λ k. Some (verdict_of flags (not (link == 0)) row.leg.has_opt k landed.reply)) (no_kind stands.spec row.leg_number stands.one_leg)
+      ∙ ap (λ k. Some (verdict_of flags (not (link == 0)) row.leg.has_opt k landed.reply)) (kind_is stands.spec row.leg_number row.question.name row.question stands.asks ∙ ap (λ a. cond (is_of_addresses a) (Some row.question.kind) None) stands.aims)
       ∙ ap Some (sym landed.means)
 
   -- it changes the count of its server by that
@@ -257,18 +260,18 @@ module _ {T : Type 0} (plan : T → Script) (setting : Setting) (past : Past) (s
       by_same b is = (ap (λ (a : Attempt). a.server) is ∙ landed.same_server, ap (λ (a : Attempt). outcome_of setting a (Arrive server link bytes) past (closings setting a.leg past)) is ∙ means_so)
 
 -- the attempt on which it landed ends
-pub table_landed : {T : Type 0} (plan : T → Script) (setting : Setting) (past : Past) (server link : ℕ) (bytes : List ℕ) (judged : Judged) (most index : ℕ) (rows new_rows : List (Row T)) (tickets new_tickets : List (Ticket T)) → IsLawfulPast setting past
-    → (ends : EndsRow setting.options.flags judged bytes most index rows tickets new_rows new_tickets) → judged_of setting.options.flags server link bytes ends.row ≡ Some judged → attempts setting past ≡ most → most ≤ 80
+pub table_landed : {T : Type 0} (plan : T → Script) (setting : Setting) (past : Past) (server link : ℕ) (bytes : List ℕ) (judged : Judged) (answer : Option Answer) (most index : ℕ) (rows new_rows : List (Row T)) (tickets new_tickets : List (Ticket T)) → IsLawfulPast setting past
+    → (ends : EndsRow setting.options.flags judged answer most index rows tickets new_rows new_tickets) → judged_of setting.options.flags server link bytes ends.row ≡ Some judged → attempts setting past ≡ most → most ≤ 80 → answer ≡ answer_behind setting.options judged bytes most ends.row
     → TableStands plan setting past rows tickets → TableStands plan setting (Arrive server link bytes ∷ past) new_rows new_tickets
-table_landed plan setting past server link bytes judged most index rows new_rows tickets new_tickets lawful ends lands may few table =
+table_landed plan setting past server link bytes judged answer most index rows new_rows tickets new_tickets lawful ends lands may few answers table =
     let parts = each-split (RowStands plan setting past) (take index rows) ends.row (drop (index + 1) rows) (subst (AllByRecursion (RowStands plan setting past)) ends.parts table.each_row) in
     let apart = others_apart setting past (take index rows) (drop (index + 1) rows) ends.row lawful (table.stand.pending_are ∙ ap (map number_of) ends.parts) in
     let landed = landed_says setting server link bytes ends.row judged lands in
-    table_row_ended plan setting (Arrive server link bytes) past judged bytes most index rows new_rows tickets new_tickets ends table refl refl refl
+    table_row_ended plan setting (Arrive server link bytes) past judged bytes answer most index rows new_rows tickets new_tickets ends table refl refl refl
     (spared_others plan setting past server link bytes lawful ends.row judged parts.1 landed (take index rows) parts.0 apart.0)
     (spared_others plan setting past server link bytes lawful ends.row judged parts.1 landed (drop (index + 1) rows) parts.2 apart.1)
     landed.flying landed.flies (landed_closes plan setting past server link bytes lawful ends.row judged parts.1 landed) refl
-    (means_so plan setting past server link bytes lawful ends.row judged parts.1 landed) refl may few
+    (means_so plan setting past server link bytes lawful ends.row judged parts.1 landed) refl may few answers
 
 -- an arrival that found no memory
 pub arrives_failed : (server link : ℕ) (bytes : List ℕ) (result : Result Landed NoMemory) (setting : Setting) (past : Past) → IsErr result → Arrives server link bytes result setting past None

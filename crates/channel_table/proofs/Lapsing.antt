@@ -3,6 +3,7 @@ use Rattle.std.proofs.Common.{◌≡◌, ◌∙◌, ℕ, ◌+◌, ◌≤◌, Lis
 use Rattle.std.specs.List.{AllByRecursion}
 use Rattle.std.specs.Prelude.{IsSomeAnd, option_map}
 use Rattle.std.specs.Result.{IsErr}
+use Rattle.chan_types.specs.declared.answer.Answer.{Answer}
 use Rattle.chan_types.specs.declared.journal.What.TheVariants.{Expire}
 use Rattle.chan_types.specs.declared.script.Script.{Script}
 use Rattle.chan_types.specs.declared.status.Status.TheVariants.{TimedOut}
@@ -21,6 +22,7 @@ use Rattle.query_machine.specs.declared.leg.Flying.{Flying}
 use Rattle.channel_table.proofs.OneRow.{each-split}
 use Rattle.channel_table.proofs.RowEnding.{IsOther, other_leg, others_apart, table_row_ended}
 use Rattle.channel_table.proofs.RowFrames.{IsSpared, spared_uncompleted}
+use Rattle.channel_table.specs.After.{answer_behind}
 use Rattle.channel_table.specs.Ends.{EndsRow}
 use Rattle.channel_table.specs.Rows.{RowStands, TableStands, flying_of, leg_of_row, number_of}
 use Rattle.channel_table.specs.Soonest.{due_of_row, due_of_soonest}
@@ -48,17 +50,17 @@ module _ {T : Type 0} (plan : T → Script) (setting : Setting) (past : Past) (n
       (record { spared = spared; others = λ k. tt; uncompleted = spared_uncompleted plan setting (Expire number leg at) past row refl spared each.0 }, spared_all rows apart.1 each.1)
 
 -- the attempt that was found expires
-pub table_expired : {T : Type 0} (plan : T → Script) (setting : Setting) (past : Past) (found : Soonest) (at most : ℕ) (rows new_rows : List (Row T)) (tickets new_tickets : List (Ticket T)) → IsLawfulPast setting past
-    → (ends : EndsRow setting.options.flags (Failed TimedOut) [] most found.index rows tickets new_rows new_tickets) → due_of_row ends.row ≡ Some (due_of_soonest found) → attempts setting past ≡ most → most ≤ 80
+pub table_expired : {T : Type 0} (plan : T → Script) (setting : Setting) (past : Past) (found : Soonest) (at most : ℕ) (answer : Option Answer) (rows new_rows : List (Row T)) (tickets new_tickets : List (Ticket T)) → IsLawfulPast setting past
+    → (ends : EndsRow setting.options.flags (Failed TimedOut) answer most found.index rows tickets new_rows new_tickets) → due_of_row ends.row ≡ Some (due_of_soonest found) → attempts setting past ≡ most → most ≤ 80 → answer ≡ answer_behind setting.options (Failed TimedOut) [] most ends.row
     → TableStands plan setting past rows tickets → TableStands plan setting (Expire found.number found.leg_number at ∷ past) new_rows new_tickets
-table_expired plan setting past found at most rows new_rows tickets new_tickets lawful ends due may few table =
+table_expired plan setting past found at most answer rows new_rows tickets new_tickets lawful ends due may few answers table =
     let is = found_says ends.row found (flying_of ends.row) refl due in
     let parts = each-split (RowStands plan setting past) (take found.index rows) ends.row (drop (found.index + 1) rows) (subst (AllByRecursion (RowStands plan setting past)) ends.parts table.each_row) in
     let apart = others_apart setting past (take found.index rows) (drop (found.index + 1) rows) ends.row lawful (table.stand.pending_are ∙ ap (map number_of) ends.parts) in
     subst (λ (l : Leg). TableStands plan setting (Expire l.request l.number at ∷ past) new_rows new_tickets) (sym is.own)
-    (table_row_ended plan setting (Expire ends.row.number ends.row.leg_number at) past (Failed TimedOut) [] most found.index rows new_rows tickets new_tickets ends table refl refl refl
+    (table_row_ended plan setting (Expire ends.row.number ends.row.leg_number at) past (Failed TimedOut) [] answer most found.index rows new_rows tickets new_tickets ends table refl refl refl
     (spared_all plan setting past ends.row.number ends.row.leg_number at (take found.index rows) apart.0 parts.0) (spared_all plan setting past ends.row.number ends.row.leg_number at (drop (found.index + 1) rows) apart.1 parts.2)
-    is.flying is.flies (is_leg-itself (leg_of_row ends.row)) refl refl refl may few)
+    is.flying is.flies (is_leg-itself (leg_of_row ends.row)) refl refl refl may few answers)
 
 -- an expiry that found no memory had one that was due
 pub expires_failed : (at : ℕ) (result : Result Lapse NoMemory) (setting : Setting) (past : Past) → IsErr result → IsSomeAnd (first_due setting past) (λ due. due.at ≤ at) → Expires at result setting past None

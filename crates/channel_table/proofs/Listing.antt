@@ -99,10 +99,10 @@ module _ {T : Type 0} (plan : T → Script) (setting : Setting) (past : Past) (l
 
   row_stands_set : (row : Row T) → RowStands plan setting past row → RowStands plan setting (Servers list ∷ past) (row_set list row)
   row_stands_set row stands =
-      let stay = passed_stay setting row.number stands.spec stands.one_leg (Servers list) past 0 stands.passed stands.came in
+      let stay = passed_stay setting row.number stands.spec (Servers list) past 0 stands.passed stands.came in
       record {
         spec = stands.spec;
-        one_leg = stands.one_leg;
+        aims = stands.aims;
         passed = stands.passed;
         candidates = stands.candidates;
         few = stands.few;

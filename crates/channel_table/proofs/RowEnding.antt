@@ -1,8 +1,9 @@
 -- How a table follows the end of one row's attempt.
-use Rattle.std.proofs.Common.{◌≡◌, ◌∙◌, ℕ, ◌+◌, ◌≤◌, Bool, true, false, List, [], ◌∷◌, ◌++◌, Some, None, refl, ap, subst, map, cond, arith, take, drop, eq-eqb}
+use Rattle.std.proofs.Common.{◌≡◌, ◌∙◌, ℕ, ◌+◌, ◌≤◌, Bool, true, false, List, [], ◌∷◌, ◌++◌, Some, None, refl, ap, subst, map, cond, arith, take, drop, eq-eqb, Option}
 use Rattle.std.proofs.lemmas.List.{map-append}
 use Rattle.std.specs.List.{AllByRecursion}
 use Rattle.std.specs.Prelude.{◌&&◌, ◌==◌}
+use Rattle.chan_types.specs.declared.answer.Answer.{Answer}
 use Rattle.chan_types.specs.declared.journal.What.{What}
 use Rattle.chan_types.specs.declared.script.Script.{Script}
 use Rattle.chan_types.specs.declared.ticket.Ticket.{Ticket}
@@ -22,7 +23,7 @@ use Rattle.channel_table.proofs.Outcomes.{Follows}
 use Rattle.channel_table.proofs.RowEnds.{outcome_after, row_after}
 use Rattle.channel_table.proofs.RowFrames.{IsSpared}
 use Rattle.channel_table.proofs.TableSteps.{Stands}
-use Rattle.channel_table.specs.After.{after}
+use Rattle.channel_table.specs.After.{after, answer_behind}
 use Rattle.channel_table.specs.Ends.{Becomes, EndsRow}
 use Rattle.channel_table.specs.Rows.{RowStands, TableStands, flown, flying_of, leg_of_row, number_of, ticket_number}
 use Rattle.query_machine.specs.declared.leg.Flying.{Flying}
@@ -59,8 +60,8 @@ module _ {T : Type 0} where
       let own : occurrences row.number (row.number ∷ map number_of behind) ≡ occurrences row.number (map number_of behind) + 1 = rw (eq-eqb row.number row.number refl) refl in
       (other_rows row.number before (omega (arith, few, parts, own)), other_rows row.number behind (omega (arith, few, parts, own)))
 
-module _ {T : Type 0} (plan : T → Script) (setting : Setting) (what : What) (past : Past) (judged : Judged) (reply : List ℕ) (most index : ℕ)
-    (rows new_rows : List (Row T)) (tickets new_tickets : List (Ticket T)) (ends : EndsRow setting.options.flags judged reply most index rows tickets new_rows new_tickets) (table : TableStands plan setting past rows tickets)
+module _ {T : Type 0} (plan : T → Script) (setting : Setting) (what : What) (past : Past) (judged : Judged) (reply : List ℕ) (answer : Option Answer) (most index : ℕ)
+    (rows new_rows : List (Row T)) (tickets new_tickets : List (Ticket T)) (ends : EndsRow setting.options.flags judged answer most index rows tickets new_rows new_tickets) (table : TableStands plan setting past rows tickets)
     (accepts : accepted_by what ≡ None) (begins : begun_by what ≡ None) (takes : taken_by what ≡ None)
     (spared_before : AllByRecursion (IsSpared plan setting what past) (take index rows)) (spared_behind : AllByRecursion (IsSpared plan setting what past) (drop (index + 1) rows)) where
   split : TableStands plan setting past (take index rows ++ ends.row ∷ drop (index + 1) rows) tickets
@@ -76,8 +77,8 @@ module _ {T : Type 0} (plan : T → Script) (setting : Setting) (what : What) (p
   -- the table follows the entry that closes the attempt of the row, and concerns no other
   pub table_row_ended : (flying : Flying) → flying_of ends.row ≡ Some flying → closes setting (attempt_of (leg_of_row ends.row) flying) what past ≡ true
       → completed_by setting ends.row.number what past ≡ search_answer setting ends.row.number (what ∷ past)
-      → outcome_of setting (attempt_of (leg_of_row ends.row) flying) what past (closings setting (leg_of_row ends.row) past) ≡ Some judged → bytes_of what ≡ reply → attempts setting past ≡ most → most ≤ 80
+      → outcome_of setting (attempt_of (leg_of_row ends.row) flying) what past (closings setting (leg_of_row ends.row) past) ≡ Some judged → bytes_of what ≡ reply → attempts setting past ≡ most → most ≤ 80 → answer ≡ answer_behind setting.options judged reply most ends.row
       → TableStands plan setting (what ∷ past) new_rows new_tickets
-  table_row_ended flying flies closed by_search means brings may few =
+  table_row_ended flying flies closed by_search means brings may few answers =
       let stands = (each-split (RowStands plan setting past) (take index rows) ends.row (drop (index + 1) rows) split.each_row).1 in
-      by_after (after setting.options.flags judged reply most ends.row) (row_after plan setting what past ends.row flying judged reply most stands flies closed begins by_search means brings may few) ends.becomes
+      by_after (after setting.options.flags judged most ends.row answer) (row_after plan setting what past ends.row flying judged reply most stands flies closed begins by_search means brings may few answer answers) ends.becomes

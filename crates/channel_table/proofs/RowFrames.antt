@@ -55,10 +55,10 @@ module _ {T : Type 0} (plan : T → Script) (setting : Setting) (what : What) (p
   -- a row that an entry doesn't concern and doesn't complete stands as before
   pub row_spared : (row : Row T) → Spares setting what past (leg_of_row row) → BeginsOther row.number → completed_by setting row.number what past ≡ None → RowStands plan setting past row → RowStands plan setting (what ∷ past) row
   row_spared row spared others completes stands =
-      let stay = passed_stay setting row.number stands.spec stands.one_leg what past 0 stands.passed stands.came in
+      let stay = passed_stay setting row.number stands.spec what past 0 stands.passed stands.came in
       record {
         spec = stands.spec;
-        one_leg = stands.one_leg;
+        aims = stands.aims;
         passed = stands.passed;
         candidates = stands.candidates;
         few = stands.few;
@@ -77,8 +77,8 @@ module _ {T : Type 0} (plan : T → Script) (setting : Setting) (what : What) (p
   pub spared_uncompleted : (row : Row T) → completed_by setting row.number what past ≡ search_answer setting row.number (what ∷ past) → Spares setting what past (leg_of_row row) → RowStands plan setting past row
       → completed_by setting row.number what past ≡ None
   spared_uncompleted row by_search spared stands =
-      let stay = passed_stay setting row.number stands.spec stands.one_leg what past 0 stands.passed stands.came in
-      by_search ∙ no_answer setting row.number stands.spec (what ∷ past) stands.passed row.question.name row.names (spec_of-later row.number what past stands.spec (spec_of_row row stands)) stands.one_leg stands.candidates
+      let stay = passed_stay setting row.number stands.spec what past 0 stands.passed stands.came in
+      by_search ∙ no_answer setting row.number stands.spec (what ∷ past) stands.passed row.question.name row.names (spec_of-later row.number what past stands.spec (spec_of_row row stands)) stands.candidates
       stay.0 row.leg_number stands.legged (spared-end setting what past (leg_of_row row) spared ∙ stands.leg.open')
 
   -- what an entry leaves of an attempt, if there is one

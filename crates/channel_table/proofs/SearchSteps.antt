@@ -1,7 +1,7 @@
 -- How far a search has come behind one entry more, and with which answer it is over.
-use Rattle.std.proofs.Common.{◌≡◌, ◌∙◌, ℕ, suc, ◌+◌, ◌*◌, ◌/◌, Bool, true, false, List, [], ◌∷◌, ◌++◌, Option, Some, None, refl, ap, ap₂, sym, map, cond, arith, length}
+use Rattle.std.proofs.Common.{◌≡◌, ◌∙◌, ℕ, suc, ◌+◌, ◌*◌, ◌/◌, ◌%◌, ◌≤◌, Bool, true, false, List, [], ◌∷◌, ◌++◌, Option, Some, None, refl, ap, ap₂, sym, map, cond, arith, length}
 use Rattle.std.proofs.lemmas.Bool.{and_parts}
-use Rattle.std.specs.Prelude.{option_and_then, option_map, slice_get, unwrap_or, ◌&&◌, ◌||◌}
+use Rattle.std.specs.Prelude.{option_and_then, option_map, slice_get, unwrap_or, ◌==◌, ◌&&◌, ◌||◌}
 use Rattle.chan_types.specs.declared.answer.Answer.{Answer}
 use Rattle.chan_types.specs.declared.journal.What.{What}
 use Rattle.chan_types.specs.declared.spec.Spec.{Spec}
@@ -15,15 +15,20 @@ use Rattle.channel_model.specs.Completion.{current_legs, legs_at}
 use Rattle.channel_model.specs.Flight.{Attempt, closes, flight}
 use Rattle.channel_model.specs.Journal.{Past, spec_of}
 use Rattle.channel_model.specs.LegEnd.{LegEnd, end_of, leg_end}
-use Rattle.channel_model.specs.Legs.{Leg, candidate_of, first_leg, leg_of, legs_of}
-use Rattle.channel_model.specs.Merge.{bare, same_status}
+use Rattle.channel_model.specs.Legs.{Leg, candidate_of, leg_of, legs_of}
+use Rattle.channel_model.specs.Merge.{addresses_v4, addresses_v6, bare, merged, merged_one, same_status}
 use Rattle.channel_model.specs.Past.{closing_of, closings, with_closing}
 use Rattle.channel_model.specs.Questions.{candidates_of, question_for, wanted_kind}
 use Rattle.channel_model.specs.Search.{Stand, answer_at, answer_of_search, any_empty, asking, behind_candidate, candidate_answer, goes_on, is_empty, last_answer, over, search_answer, stand_at, stand_of}
 use Rattle.channel_model.specs.Setting.{Setting}
 use Rattle.channel_table.specs.After.{last_status}
-use Rattle.channel_table.specs.Rows.{HasOneLeg}
+use Rattle.channel_table.specs.Aims.{aim_of, answer_of_ends, is_of_addresses}
 use Rattle.channel_table.specs.Searching.{are_passed, gives_way}
+use Rattle.channel_table.specs.declared.aim.Aim.{Aim}
+use Rattle.channel_table.specs.declared.aim.Aim.TheVariants.{Addresses, Reply}
+use Rattle.resolv_options.specs.declared.options.Options.{Options}
+use Rattle.net_addr.specs.declared.addr.Family.{Family}
+use Rattle.dns_message.specs.Numbers.{class_in, kind_a, kind_aaaa}
 
 plus_none : (n : ℕ) → n + 0 ≡ n
 plus_none n = omega arith
@@ -50,63 +55,109 @@ ended_stays setting what past leg end is = by_flight (flight setting leg past)
     by_flight None = is
     by_flight (Some a) = by_test a (closes setting a what past)
 
--- the leg of a candidate
-pub one_leg_of : (spec : Spec) (c : ℕ) → HasOneLeg spec → legs_of spec c ≡ first_leg c ∷ []
-one_leg_of (Query text kind class) c one = refl
-one_leg_of (Search text kind class) c one = refl
-one_leg_of (Address host family nosort) c one = absurd one
-one_leg_of (Reverse address) c one = refl
+-- the number of a leg of the next candidate
+doubled : (c n k m : ℕ) → n ≡ c + 1 → m ≡ k + 2 → 2 * c ≡ k → 2 * n ≡ m
+doubled c n k m next more same = omega (arith, next, more, same)
 
--- whose question is the same whatever its number
-pub next_question : (spec : Spec) (k j : ℕ) (name next : Name) (question : Question) → HasOneLeg spec → question_for spec k name ≡ question → question_for spec j next ≡ record question { name = next }
-next_question spec k j name next question one is = by_spec spec one ∙ ap (λ (q : Question). record q { name = next }) is
-  where
-    by_spec : (s : Spec) → HasOneLeg s → question_for s j next ≡ record (question_for s k name) { name = next }
-    by_spec (Query text kind class) one = refl
-    by_spec (Search text kind class) one = refl
-    by_spec (Address host family nosort) one = absurd one
-    by_spec (Reverse address) one = refl
+doubled_on : (c n k m : ℕ) → n ≡ c + 1 → m ≡ k + 2 → 2 * c + 1 ≡ k → 2 * n + 1 ≡ m
+doubled_on c n k m next more same = omega (arith, next, more, same)
 
--- and which wants no certain kind
-pub no_kind : (spec : Spec) (k : ℕ) → HasOneLeg spec → wanted_kind (Some spec) k ≡ None
-no_kind (Query text kind class) k one = refl
-no_kind (Search text kind class) k one = refl
-no_kind (Address host family nosort) k one = absurd one
-no_kind (Reverse address) k one = refl
+one_number : (x k : ℕ) → ◌≡◌ {A = List ℕ} (x ∷ []) (k ∷ []) → x ≡ k
+one_number x k same = cc
 
-half : (n : ℕ) → (2 * n) / 2 ≡ n
-half n = omega arith
+-- where a candidate has one leg, so has the next one
+pub next_leg : (spec : Spec) (c n k m : ℕ) → n ≡ c + 1 → m ≡ k + 2 → legs_of spec c ≡ k ∷ [] → legs_of spec n ≡ m ∷ []
+next_leg (Query text kind class) c n k m next more legs = ap (λ x. x ∷ []) (doubled c n k m next more (one_number (2 * c) k legs))
+next_leg (Search text kind class) c n k m next more legs = ap (λ x. x ∷ []) (doubled c n k m next more (one_number (2 * c) k legs))
+next_leg (Address host Family.Any nosort) c n k m next more legs = absurd cc
+next_leg (Address host Family.V4 nosort) c n k m next more legs = ap (λ x. x ∷ []) (doubled c n k m next more (one_number (2 * c) k legs))
+next_leg (Address host Family.V6 nosort) c n k m next more legs = ap (λ x. x ∷ []) (doubled_on c n k m next more (one_number (2 * c + 1) k legs))
+next_leg (Reverse address) c n k m next more legs = ap (λ x. x ∷ []) (doubled c n k m next more (one_number (2 * c) k legs))
+
+-- its number is one of two
+pub leg_within : (spec : Spec) (c k : ℕ) → legs_of spec c ≡ k ∷ [] → (2 * c ≤ k) × (k ≤ 2 * c + 1)
+leg_within (Query text kind class) c k legs = let same = one_number (2 * c) k legs in (omega (arith, same), omega (arith, same))
+leg_within (Search text kind class) c k legs = let same = one_number (2 * c) k legs in (omega (arith, same), omega (arith, same))
+leg_within (Address host Family.Any nosort) c k legs = absurd cc
+leg_within (Address host Family.V4 nosort) c k legs = let same = one_number (2 * c) k legs in (omega (arith, same), omega (arith, same))
+leg_within (Address host Family.V6 nosort) c k legs = let same = one_number (2 * c + 1) k legs in (omega (arith, same), omega (arith, same))
+leg_within (Reverse address) c k legs = let same = one_number (2 * c) k legs in (omega (arith, same), omega (arith, same))
 
 -- a leg belongs to its candidate
-pub candidate_is : (k n : ℕ) → k ≡ first_leg n → candidate_of k ≡ n
-candidate_is k n is = ap candidate_of is ∙ half n
+pub candidate_is : (spec : Spec) (k n : ℕ) → legs_of spec n ≡ k ∷ [] → candidate_of k ≡ n
+candidate_is spec k n legs = let within = leg_within spec n k legs in omega (arith, within.0, within.1)
+
+same_half : (k m : ℕ) → m ≡ k + 2 → m % 2 ≡ k % 2
+same_half k m more = omega (arith, more)
+
+-- whose question has the same kind two numbers on
+pub next_question : (spec : Spec) (k m : ℕ) (name next : Name) (question : Question) → m ≡ k + 2 → question_for spec k name ≡ question → question_for spec m next ≡ record question { name = next }
+next_question spec k m name next question more is = by_spec spec ∙ ap (λ (q : Question). record q { name = next }) is
+  where
+    by_spec : (s : Spec) → question_for s m next ≡ record (question_for s k name) { name = next }
+    by_spec (Query text kind class) = refl
+    by_spec (Search text kind class) = refl
+    by_spec (Address host family nosort) = ap (λ (r : ℕ). record { name = next; kind = cond (r == 1) kind_aaaa kind_a; class = class_in }) (same_half k m more)
+    by_spec (Reverse address) = refl
+
+-- the kind of which an answer is wanted, by what the answer is made of
+pub kind_is : (spec : Spec) (k : ℕ) (name : Name) (question : Question) → question_for spec k name ≡ question → wanted_kind (Some spec) k ≡ cond (is_of_addresses (aim_of spec)) (Some question.kind) None
+kind_is (Query text kind class) k name question is = refl
+kind_is (Search text kind class) k name question is = refl
+kind_is (Address host family nosort) k name question is = ap (λ (q : Question). Some q.kind) is
+kind_is (Reverse address) k name question is = refl
 
 pub item_behind : {X : Type 0} (xs : List X) (y : X) (zs : List X) → slice_get (xs ++ y ∷ zs) (length xs) ≡ Some y
 item_behind [] y zs = refl
 item_behind (x ∷ xs) y zs = item_behind xs y zs
 
--- the answer of a candidate whose leg ended so
-abbrev pub answer_for : ℕ → Option LegEnd → Option Answer
-answer_for request end = option_map (λ (e : LegEnd). bare request e.status e.reply) end
+-- the answer of a candidate of which no leg has ended
+pub no_end : (options : Options) (request : ℕ) (aim : Aim) (name : Name) → answer_of_ends options request aim name None None ≡ None
+no_end options request Reply name = refl
+no_end options request (Addresses Family.Any nosort) name = refl
+no_end options request (Addresses Family.V4 nosort) name = refl
+no_end options request (Addresses Family.V6 nosort) name = refl
 
-pub leg_answers : (setting : Setting) (request : ℕ) (past : Past) (spec : Spec) (c : ℕ) (name : Name) → HasOneLeg spec → candidate_answer setting request spec c name past ≡ answer_for request (leg_end setting (leg_of request (first_leg c)) past)
-leg_answers setting request past (Query text kind class) c name one = refl
-leg_answers setting request past (Search text kind class) c name one = refl
-leg_answers setting request past (Address host family nosort) c name one = absurd one
-leg_answers setting request past (Reverse address) c name one = refl
+-- the answer of a candidate with one leg, by how that ended
+pub leg_answers : (setting : Setting) (request : ℕ) (past : Past) (spec : Spec) (c k : ℕ) (name : Name) → legs_of spec c ≡ k ∷ []
+    → candidate_answer setting request spec c name past ≡ answer_of_ends setting.options request (aim_of spec) name (leg_end setting (leg_of request k) past) None
+leg_answers setting request past (Query text kind class) c k name legs =
+    ap (λ n. option_map (λ (e : LegEnd). bare request e.status e.reply) (leg_end setting (leg_of request n) past)) (one_number (2 * c) k legs)
+leg_answers setting request past (Search text kind class) c k name legs =
+    ap (λ n. option_map (λ (e : LegEnd). bare request e.status e.reply) (leg_end setting (leg_of request n) past)) (one_number (2 * c) k legs)
+leg_answers setting request past (Address host Family.Any nosort) c k name legs = absurd cc
+leg_answers setting request past (Address host Family.V4 nosort) c k name legs =
+    ap (λ n. option_map (merged_one setting request nosort name addresses_v4) (leg_end setting (leg_of request n) past)) (one_number (2 * c) k legs)
+leg_answers setting request past (Address host Family.V6 nosort) c k name legs =
+    ap (λ n. option_map (merged_one setting request nosort name addresses_v6) (leg_end setting (leg_of request n) past)) (one_number (2 * c + 1) k legs)
+leg_answers setting request past (Reverse address) c k name legs =
+    ap (λ n. option_map (λ (e : LegEnd). bare request e.status e.reply) (leg_end setting (leg_of request n) past)) (one_number (2 * c) k legs)
 
-module _ (setting : Setting) (request : ℕ) (spec : Spec) (one : HasOneLeg spec) (what : What) (past : Past) where
+module _ (setting : Setting) (request : ℕ) (spec : Spec) (what : What) (past : Past) where
+  one_stays : (f : LegEnd → Answer) (leg : Leg) (o : Option LegEnd) → leg_end setting leg past ≡ o → gives_way (option_map f o) ≡ true
+      → option_map f (leg_end setting leg (what ∷ past)) ≡ option_map f (leg_end setting leg past)
+  one_stays f leg None is gives = absurd cc
+  one_stays f leg (Some e) is gives = ap (option_map f) (ended_stays setting what past leg e is ∙ sym is)
+
+  both_stay : (f : LegEnd → LegEnd → Answer) (left right : Leg) (o p : Option LegEnd) → leg_end setting left past ≡ o → leg_end setting right past ≡ p → gives_way (option_and_then (λ e. option_map (f e) p) o) ≡ true
+      → option_and_then (λ e. option_map (f e) (leg_end setting right (what ∷ past))) (leg_end setting left (what ∷ past)) ≡ option_and_then (λ e. option_map (f e) (leg_end setting right past)) (leg_end setting left past)
+  both_stay f left right None p is are gives = absurd cc
+  both_stay f left right (Some d) None is are gives = absurd cc
+  both_stay f left right (Some d) (Some e) is are gives =
+      ap₂ (λ (o p : Option LegEnd). option_and_then (λ e. option_map (f e) p) o) (ended_stays setting what past left d is ∙ sym is) (ended_stays setting what past right e are ∙ sym are)
+
   -- a candidate that has given way stays so
   answer_stays : (c : ℕ) (name : Name) → gives_way (candidate_answer setting request spec c name past) ≡ true → candidate_answer setting request spec c name (what ∷ past) ≡ candidate_answer setting request spec c name past
-  answer_stays c name gives =
-      leg_answers setting request (what ∷ past) spec c name one
-      ∙ by_end (leg_end setting (leg_of request (first_leg c)) past) refl (sym (ap gives_way (leg_answers setting request past spec c name one)) ∙ gives)
-      ∙ sym (leg_answers setting request past spec c name one)
+  answer_stays c name = by_spec spec
     where
-      by_end : (o : Option LegEnd) → leg_end setting (leg_of request (first_leg c)) past ≡ o → gives_way (answer_for request o) ≡ true
-          → answer_for request (leg_end setting (leg_of request (first_leg c)) (what ∷ past)) ≡ answer_for request (leg_end setting (leg_of request (first_leg c)) past)
-      by_end None is gives = absurd cc
-      by_end (Some e) is gives = ap (answer_for request) (ended_stays setting what past (leg_of request (first_leg c)) e is ∙ sym is)
+      by_spec : (s : Spec) → gives_way (candidate_answer setting request s c name past) ≡ true → candidate_answer setting request s c name (what ∷ past) ≡ candidate_answer setting request s c name past
+      by_spec (Query text kind class) gives = one_stays (λ (e : LegEnd). bare request e.status e.reply) (leg_of request (2 * c)) (leg_end setting (leg_of request (2 * c)) past) refl gives
+      by_spec (Search text kind class) gives = one_stays (λ (e : LegEnd). bare request e.status e.reply) (leg_of request (2 * c)) (leg_end setting (leg_of request (2 * c)) past) refl gives
+      by_spec (Address host Family.Any nosort) gives =
+          both_stay (merged setting request nosort name) (leg_of request (2 * c)) (leg_of request (2 * c + 1)) (leg_end setting (leg_of request (2 * c)) past) (leg_end setting (leg_of request (2 * c + 1)) past) refl refl gives
+      by_spec (Address host Family.V4 nosort) gives = one_stays (merged_one setting request nosort name addresses_v4) (leg_of request (2 * c)) (leg_end setting (leg_of request (2 * c)) past) refl gives
+      by_spec (Address host Family.V6 nosort) gives = one_stays (merged_one setting request nosort name addresses_v6) (leg_of request (2 * c + 1)) (leg_end setting (leg_of request (2 * c + 1)) past) refl gives
+      by_spec (Reverse address) gives = one_stays (λ (e : LegEnd). bare request e.status e.reply) (leg_of request (2 * c)) (leg_end setting (leg_of request (2 * c)) past) refl gives
 
   -- candidates that are passed stay so, and so does whether one of them ended without data
   pub passed_stay : (c : ℕ) (names : List Name) → are_passed setting request spec past c names ≡ true
@@ -149,17 +200,19 @@ module _ (setting : Setting) (request : ℕ) (spec : Spec) (past : Past) where
       ap (λ b. is_empty (candidate_answer setting request spec c x past) || b) (empty_append (c + 1) k xs rest (is ∙ sym (one_on c (length xs))))
       ∙ or_assoc (is_empty (candidate_answer setting request spec c x past)) (any_empty setting request spec past (c + 1) xs) (any_empty setting request spec past k rest)
 
-  module _ (passed : List Name) (name : Name) (names : List Name) (asks : spec_of request past ≡ Some spec) (one : HasOneLeg spec) (candidates : candidates_of setting spec ≡ passed ++ name ∷ names)
-      (came : are_passed setting request spec past 0 passed ≡ true) (k : ℕ) (legged : k ≡ first_leg (length passed)) where
+  module _ (passed : List Name) (name : Name) (names : List Name) (asks : spec_of request past ≡ Some spec) (candidates : candidates_of setting spec ≡ passed ++ name ∷ names)
+      (came : are_passed setting request spec past 0 passed ≡ true) (k : ℕ) (legged : legs_of spec (length passed) ≡ k ∷ []) where
     here : stand_of setting request spec past ≡ stand_at setting request spec past (length passed) (name ∷ names)
     here = ap (stand_at setting request spec past 0) candidates ∙ stand_behind 0 passed name names came ∙ ap (λ n. stand_at setting request spec past n (name ∷ names)) (none_plus (length passed))
 
-    answers_so : (end : Option LegEnd) → leg_end setting (leg_of request k) past ≡ end → candidate_answer setting request spec (length passed) name past ≡ answer_for request end
-    answers_so end is = leg_answers setting request past spec (length passed) name one ∙ ap (λ n. answer_for request (leg_end setting (leg_of request n) past)) (sym legged) ∙ ap (answer_for request) is
+    -- the answer of the current candidate, by how its leg ended
+    pub answers_so : (end : Option LegEnd) → leg_end setting (leg_of request k) past ≡ end → candidate_answer setting request spec (length passed) name past ≡ answer_of_ends setting.options request (aim_of spec) name end None
+    answers_so end is = leg_answers setting request past spec (length passed) k name legged ∙ ap (λ e. answer_of_ends setting.options request (aim_of spec) name e None) is
 
-    -- the current candidate is asked while its leg hasn't ended
+    -- it is asked while its leg hasn't ended
     pub still_asks : leg_end setting (leg_of request k) past ≡ None → stand_of setting request spec past ≡ asking (length passed)
-    still_asks is = here ∙ ap (λ o. behind_candidate (length passed) names o (stand_at setting request spec past (length passed + 1) names)) (answers_so None is) ∙ by_names names
+    still_asks is =
+        here ∙ ap (λ o. behind_candidate (length passed) names o (stand_at setting request spec past (length passed + 1) names)) (answers_so None is ∙ no_end setting.options request (aim_of spec) name) ∙ by_names names
       where
         by_names : (ns : List Name) → behind_candidate (length passed) ns None (stand_at setting request spec past (length passed + 1) ns) ≡ asking (length passed)
         by_names [] = refl
@@ -172,32 +225,29 @@ module _ (setting : Setting) (request : ℕ) (spec : Spec) (past : Past) where
     pub current_leg : leg_end setting (leg_of request k) past ≡ None → current_legs setting past request ≡ leg_of request k ∷ []
     current_leg is =
         ap (λ o. unwrap_or (option_map (λ s. legs_at setting request s (stand_of setting request s past)) o) []) asks
-        ∙ ap (legs_at setting request spec) (still_asks is) ∙ ap (map (leg_of request)) (one_leg_of spec (length passed) one) ∙ ap (λ n. leg_of request n ∷ []) (sym legged)
+        ∙ ap (legs_at setting request spec) (still_asks is) ∙ ap (map (leg_of request)) legged
 
-    -- where it has ended, the search is over if there is no next candidate that becomes current
-    module _ (status : Status) (reply : List ℕ) (is : leg_end setting (leg_of request k) past ≡ Some (record { status = status; reply = reply })) where
-      pub its_answer : candidate_answer setting request spec (length passed) name past ≡ Some (bare request status reply)
-      its_answer = answers_so (Some (record { status = status; reply = reply })) is
-
+    -- where it has an answer, the search is over if there is no next candidate that becomes current
+    module _ (answer : Answer) (is : candidate_answer setting request spec (length passed) name past ≡ Some answer) where
       -- the candidate gives way, if its status is one that goes on
-      pub gave_way : goes_on status ≡ true → gives_way (candidate_answer setting request spec (length passed) name past) ≡ true
-      gave_way goes = ap gives_way its_answer ∙ goes
+      pub gave_way : goes_on answer.status ≡ true → gives_way (candidate_answer setting request spec (length passed) name past) ≡ true
+      gave_way goes = ap gives_way is ∙ goes
 
-      empty_is : any_empty setting request spec past 0 (candidates_of setting spec) ≡ (any_empty setting request spec past 0 passed || (same_status status NoData || any_empty setting request spec past (length passed + 1) names))
+      empty_is : any_empty setting request spec past 0 (candidates_of setting spec) ≡ (any_empty setting request spec past 0 passed || (same_status answer.status NoData || any_empty setting request spec past (length passed + 1) names))
       empty_is =
           ap (any_empty setting request spec past 0) candidates ∙ empty_append 0 (length passed) passed (name ∷ names) (sym (none_plus (length passed)))
-          ∙ ap (λ o. any_empty setting request spec past 0 passed || (is_empty o || any_empty setting request spec past (length passed + 1) names)) its_answer
+          ∙ ap (λ o. any_empty setting request spec past 0 passed || (is_empty o || any_empty setting request spec past (length passed + 1) names)) is
 
-      stops : (ns : List Name) → (goes_on status ≡ true → ns ≡ []) → behind_candidate (length passed) ns (Some (bare request status reply)) (stand_at setting request spec past (length passed + 1) ns) ≡ over (bare request status reply)
+      stops : (ns : List Name) → (goes_on answer.status ≡ true → ns ≡ []) → behind_candidate (length passed) ns (Some answer) (stand_at setting request spec past (length passed + 1) ns) ≡ over answer
       stops [] last = refl
-      stops (n ∷ ns) last = by_test (goes_on status) refl
+      stops (n ∷ ns) last = by_test (goes_on answer.status) refl
         where
-          by_test : (b : Bool) → goes_on status ≡ b → cond b (stand_at setting request spec past (length passed + 1) (n ∷ ns)) (over (bare request status reply)) ≡ over (bare request status reply)
+          by_test : (b : Bool) → goes_on answer.status ≡ b → cond b (stand_at setting request spec past (length passed + 1) (n ∷ ns)) (over answer) ≡ over answer
           by_test true goes = let none = last goes in absurd cc
           by_test false goes = refl
 
-      -- its status alone, or NoData
-      last_alone : (s : Status) (empty : Bool) → last_answer (empty || (same_status s NoData || false)) (bare request s reply) ≡ bare request (last_status empty s) reply
+      -- its status alone changes, or not
+      last_alone : (s : Status) (empty : Bool) → last_answer (empty || (same_status s NoData || false)) (record answer { status = s }) ≡ record answer { status = last_status empty s }
       last_alone Success empty = refl
       last_alone NoData true = refl
       last_alone NoData false = refl
@@ -215,21 +265,22 @@ module _ (setting : Setting) (request : ℕ) (spec : Spec) (past : Past) where
       last_alone Destruction empty = refl
       last_alone Cancelled empty = refl
 
-      last_is : (empty all : Bool) (ns : List Name) → (goes_on status ≡ true → ns ≡ []) → all ≡ (empty || (same_status status NoData || any_empty setting request spec past (length passed + 1) ns)) → last_answer all (bare request status reply) ≡ bare request (last_status empty status) reply
-      last_is empty all ns last are = by_test (goes_on status) refl
+      last_is : (empty all : Bool) (ns : List Name) → (goes_on answer.status ≡ true → ns ≡ []) → all ≡ (empty || (same_status answer.status NoData || any_empty setting request spec past (length passed + 1) ns))
+          → last_answer all answer ≡ record answer { status = last_status empty answer.status }
+      last_is empty all ns last are = by_test (goes_on answer.status) refl
         where
-          by_test : (b : Bool) → goes_on status ≡ b → last_answer all (bare request status reply) ≡ bare request (last_status empty status) reply
+          by_test : (b : Bool) → goes_on answer.status ≡ b → last_answer all answer ≡ record answer { status = last_status empty answer.status }
           by_test true goes =
               let none = last goes in
-              ap (λ a. last_answer a (bare request status reply)) (are ∙ ap (λ xs. empty || (same_status status NoData || any_empty setting request spec past (length passed + 1) xs)) none) ∙ last_alone status empty
+              ap (λ a. last_answer a answer) (are ∙ ap (λ xs. empty || (same_status answer.status NoData || any_empty setting request spec past (length passed + 1) xs)) none) ∙ last_alone answer.status empty
           by_test false goes =
-              ap (λ b. cond (b && all) (record (bare request status reply) { status = NoData }) (bare request status reply)) goes
-              ∙ sym (ap (λ b. bare request (cond (b && empty) NoData status) reply) goes)
+              ap (λ b. cond (b && all) (record answer { status = NoData }) answer) goes
+              ∙ sym (ap (λ b. record answer { status = cond (b && empty) NoData answer.status }) goes)
 
-      pub search_over : (empty : Bool) → any_empty setting request spec past 0 passed ≡ empty → (goes_on status ≡ true → names ≡ []) → search_answer setting request past ≡ Some (bare request (last_status empty status) reply)
+      pub search_over : (empty : Bool) → any_empty setting request spec past 0 passed ≡ empty → (goes_on answer.status ≡ true → names ≡ []) → search_answer setting request past ≡ Some (record answer { status = last_status empty answer.status })
       search_over empty emptied last =
-          let stands : stand_of setting request spec past ≡ over (bare request status reply) =
-          here ∙ ap (λ o. behind_candidate (length passed) names o (stand_at setting request spec past (length passed + 1) names)) its_answer ∙ stops names last in
+          let stands : stand_of setting request spec past ≡ over answer =
+          here ∙ ap (λ o. behind_candidate (length passed) names o (stand_at setting request spec past (length passed + 1) names)) is ∙ stops names last in
           ap (option_and_then (answer_of_search setting request past)) asks
           ∙ ap (λ s. option_map (last_answer (any_empty setting request spec past 0 (candidates_of setting spec))) (answer_at s)) stands
-          ∙ ap Some (last_is empty (any_empty setting request spec past 0 (candidates_of setting spec)) names last (empty_is ∙ ap (λ b. b || (same_status status NoData || any_empty setting request spec past (length passed + 1) names)) emptied))
+          ∙ ap Some (last_is empty (any_empty setting request spec past 0 (candidates_of setting spec)) names last (empty_is ∙ ap (λ b. b || (same_status answer.status NoData || any_empty setting request spec past (length passed + 1) names)) emptied))

@@ -25,11 +25,11 @@ module _ {T : Type 0} (plan : T → Script) (setting : Setting) (past : Past) wh
   -- the leg of a row waits where it has no attempt in flight
   waiting_by : (row : Row T) (o : Option Flying) → flying_of row ≡ o → RowStands plan setting past row → waiting_of setting past row.number ≡ waits_of row
   waiting_by row None is stands =
-      let current = current_leg setting row.number stands.spec past stands.passed row.question.name row.names (ap (option_map (λ (r : Accepted). r.spec)) stands.accepts) stands.one_leg stands.candidates stands.came row.leg_number stands.legged stands.leg.open' in
+      let current = current_leg setting row.number stands.spec past stands.passed row.question.name row.names (ap (option_map (λ (r : Accepted). r.spec)) stands.accepts) stands.candidates stands.came row.leg_number stands.legged stands.leg.open' in
       let idle : flight setting (leg_of_row row) past ≡ None = ap (λ (f : LegFacts). f.flies) stands.leg.facts ∙ ap (flown_by (leg_of_row row)) is in
       ap (filter (is_idle setting past)) current ∙ rw (idle, stands.leg.open', is) refl
   waiting_by row (Some flying) is stands =
-      let current = current_leg setting row.number stands.spec past stands.passed row.question.name row.names (ap (option_map (λ (r : Accepted). r.spec)) stands.accepts) stands.one_leg stands.candidates stands.came row.leg_number stands.legged stands.leg.open' in
+      let current = current_leg setting row.number stands.spec past stands.passed row.question.name row.names (ap (option_map (λ (r : Accepted). r.spec)) stands.accepts) stands.candidates stands.came row.leg_number stands.legged stands.leg.open' in
       let flies : flight setting (leg_of_row row) past ≡ Some (attempt_of (leg_of_row row) flying) = ap (λ (f : LegFacts). f.flies) stands.leg.facts ∙ ap (flown_by (leg_of_row row)) is in
       ap (filter (is_idle setting past)) current ∙ rw (flies, is) refl
 

@@ -11,6 +11,7 @@ use Rattle.dns_message.specs.declared.message.Question.{Question}
 use Rattle.query_machine.specs.Servers.{one_more}
 use Rattle.query_machine.specs.declared.leg.Flying.{Flying}
 use Rattle.resolv_options.specs.declared.flags.Flags.{Flags}
+use Rattle.channel_table.specs.Aims.{is_of_addresses}
 use Rattle.channel_table.specs.Rows.{flew_over, flying_of, leg_of_row}
 use Rattle.channel_table.specs.declared.row.Row.{Row}
 use Rattle.channel_table.specs.declared.table.landing.Landing.{Landing}
@@ -20,10 +21,14 @@ abbrev pub reply_for : List ℕ → Question → Option Flying → Option Reply
 reply_for bytes question None = None
 reply_for bytes question (Some flying) = answer_to flying.id (is_some flying.mix) (Some (asked_with flying.mix question)) bytes
 
+-- the kind of which an answer is wanted: for addresses that of the question, else any
+abbrev pub kind_wanted : {T : Type 0} → Row T → Option ℕ
+kind_wanted row = if is_of_addresses row.aim then Some row.question.kind else None
+
 -- what a message from this server over this link means for a row, where it answers the row's attempt
 abbrev pub judged_of : {T : Type 0} → Flags → ℕ → ℕ → List ℕ → Row T → Option Judged
 judged_of flags server link bytes row =
-    if flew_over server link row then option_map (verdict_of flags (not (link == 0)) row.leg.has_opt None) (reply_for bytes row.question (flying_of row)) else None
+    if flew_over server link row then option_map (verdict_of flags (not (link == 0)) row.leg.has_opt (kind_wanted row)) (reply_for bytes row.question (flying_of row)) else None
 
 -- it answers the row's attempt
 abbrev pub lands_on : {T : Type 0} → Flags → ℕ → ℕ → List ℕ → Row T → Bool

@@ -1,5 +1,6 @@
 -- How rows and tickets follow the end of one row's attempt.
 use Rattle.std.specs.Prelude.{List, None, Option, Some, [], drop, get_or, if◌then◌else◌, length, take, ℕ, ◌*◌, ◌++◌, ◌+◌, ◌∷◌, ◌≡◌}
+use Rattle.chan_types.specs.declared.answer.Answer.{Answer}
 use Rattle.chan_types.specs.declared.server_key.ServerKey.{ServerKey}
 use Rattle.chan_types.specs.declared.ticket.Ticket.{Ticket}
 use Rattle.channel_model.specs.declared.judged.Judged.{Judged}
@@ -35,9 +36,9 @@ abbrev pub Becomes : {T : Type 0} → List (Row T) → List (Row T) → List (Ti
 Becomes before behind tickets new_rows new_tickets (Stays row) = (new_rows ≡ before ++ row ∷ behind) × (new_tickets ≡ tickets)
 Becomes before behind tickets new_rows new_tickets (Ends ticket) = (new_rows ≡ before ++ behind) × (new_tickets ≡ tickets ++ ticket ∷ [])
 
--- the attempt of the row at this index has come to its end, which meant this and came with this reply
-pub record EndsRow {T : Type 0} (flags : Flags) (judged : Judged) (reply : List ℕ) (most index : ℕ) (rows : List (Row T)) (tickets : List (Ticket T)) (new_rows : List (Row T)) (new_tickets : List (Ticket T)) : Type 0 where
+-- the attempt of the row at this index has come to its end, which meant this, and with which its current candidate has this answer, if it has one
+pub record EndsRow {T : Type 0} (flags : Flags) (judged : Judged) (answer : Option Answer) (most index : ℕ) (rows : List (Row T)) (tickets : List (Ticket T)) (new_rows : List (Row T)) (new_tickets : List (Ticket T)) : Type 0 where
   pub row : Row T
   pub is : (d : Row T) → get_or rows index d ≡ row
   pub parts : rows ≡ take index rows ++ row ∷ drop (index + 1) rows
-  pub becomes : Becomes (take index rows) (drop (index + 1) rows) tickets new_rows new_tickets (after flags judged reply most row)
+  pub becomes : Becomes (take index rows) (drop (index + 1) rows) tickets new_rows new_tickets (after flags judged most row answer)

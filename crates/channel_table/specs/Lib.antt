@@ -1,3 +1,4 @@
+pub mod Aims
 pub mod Legs
 pub mod Searching
 pub mod Rows

@@ -3,14 +3,13 @@ use Rattle.std.specs.List.{AllByRecursion}
 use Rattle.std.specs.Prelude.{Bool, List, None, Option, Some, [], false, flat_map, if◌then◌else◌, is_some, length, map, option_to_list, true, ℕ, ⊤, ◌&&◌, ◌++◌, ◌<◌, ◌==◌, ◌∷◌, ◌≡◌, ◌≤◌}
 use Rattle.chan_types.specs.declared.script.Script.{Script}
 use Rattle.chan_types.specs.declared.spec.Spec.{Spec}
-use Rattle.chan_types.specs.declared.spec.Spec.TheVariants.{Address, Query, Reverse, Search}
 use Rattle.chan_types.specs.declared.status.Status.{Status}
 use Rattle.chan_types.specs.declared.ticket.Ticket.{Ticket}
 use Rattle.channel_model.specs.AsMany.{HaveAsMany}
 use Rattle.channel_model.specs.Completion.{fate, pending, ready}
 use Rattle.channel_model.specs.Flight.{Attempt, has_leg, in_flight, started}
 use Rattle.channel_model.specs.Journal.{Past, request_of, script_of}
-use Rattle.channel_model.specs.Legs.{Leg, first_leg, leg_of}
+use Rattle.channel_model.specs.Legs.{Leg, leg_of, legs_of}
 use Rattle.channel_model.specs.Merge.{bare}
 use Rattle.channel_model.specs.Questions.{candidates_of, question_for}
 use Rattle.channel_model.specs.Search.{any_empty}
@@ -18,16 +17,10 @@ use Rattle.channel_model.specs.Setting.{Setting}
 use Rattle.dns_message.specs.declared.name.Name.{Name}
 use Rattle.query_machine.specs.Legs.{flying_in}
 use Rattle.query_machine.specs.declared.leg.Flying.{Flying}
+use Rattle.channel_table.specs.Aims.{aim_of}
 use Rattle.channel_table.specs.Legs.{LegStands, flown_by}
 use Rattle.channel_table.specs.Searching.{are_passed}
 use Rattle.channel_table.specs.declared.row.Row.{Row}
-
--- each candidate of the request has one leg
-abbrev pub HasOneLeg : Spec → Type 0
-HasOneLeg (Query name kind class) = ⊤
-HasOneLeg (Search name kind class) = ⊤
-HasOneLeg (Address host family nosort) = ⊥
-HasOneLeg (Reverse address) = ⊤
 
 -- the number of a row's request
 abbrev pub number_of : {T : Type 0} → Row T → ℕ
@@ -66,14 +59,14 @@ waits_of row = if is_some (flying_of row) then [] else leg_of_row row ∷ []
 abbrev pub ticket_number : {T : Type 0} → Ticket T → ℕ
 ticket_number ticket = ticket.call.number
 
--- the past says of a row's request what the row has: it was accepted for this token, its search has passed some candidates and come to the one of this question, with these behind it; the leg of that one stands so, and no later leg has had an attempt
+-- the past says of a row's request what the row has: it was accepted for this token, its search has passed some candidates and come to the one of this question, with these behind it; that one has one leg, which stands so, and no later leg has had an attempt
 pub record RowStands {T : Type 0} (plan : T → Script) (setting : Setting) (past : Past) (row : Row T) : Type 0 where
   pub spec : Spec
-  pub one_leg : HasOneLeg spec
+  pub aims : aim_of spec ≡ row.aim
   pub passed : List Name
   pub candidates : candidates_of setting spec ≡ passed ++ row.question.name ∷ row.names
   pub few : length (candidates_of setting spec) ≤ 9
-  pub legged : row.leg_number ≡ first_leg (length passed)
+  pub legged : legs_of spec (length passed) ≡ row.leg_number ∷ []
   pub came : are_passed setting row.number spec past 0 passed ≡ true
   pub emptied : any_empty setting row.number spec past 0 passed ≡ row.empty
   pub asks : question_for spec row.leg_number row.question.name ≡ row.question

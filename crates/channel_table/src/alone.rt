@@ -1,8 +1,7 @@
 //! A channel with one owner.
 
-ghost use Rattle.std.specs.Prelude.{◌≡◌, [], IfOk, IsTrue};
+ghost use Rattle.std.specs.Prelude.{◌≡◌, [], IfOk};
 ghost use Rattle.channel_table.specs.Calling.{known_by_owner};
-ghost use Rattle.channel_table.specs.Rows.{HasOneLeg};
 
 use crate::table::Table;
 use chan_types::{Journal, NoMemory, Spec, Ticket, Token};
@@ -64,13 +63,9 @@ impl<T: Token> Desk for Alone<T> {
 
     ghost known = { known_by_owner };
 
-    /// Accepts a request. One for addresses is refused as for want of memory, until the table has its two legs.
+    /// Accepts a request. One for addresses of both families is refused as for want of memory, until the table has two legs.
     fn accept(&mut self, spec: Spec, token: T) -> Result<u64, Refused<T>> {
-        if has_one_leg(&spec) {
-            self.table.accept(0, self.voice, spec, token)
-        } else {
-            self.table.refuse(0, self.voice, spec, token)
-        }
+        self.table.accept(0, self.voice, spec, token)
     }
 
     fn cancel(&mut self) -> u64 {
@@ -115,15 +110,5 @@ impl<T: Token> Desk for Alone<T> {
 
     fn set_servers(&mut self, servers: &[ServerAddr]) -> Result<u64, SetFault> {
         self.table.set_servers(0, servers)
-    }
-}
-
-/// Each candidate of the request has one leg.
-fn has_one_leg(spec: &Spec) -> bool
-    ensures { IsTrue result → HasOneLeg spec.now }
-{
-    match spec {
-        Spec::Query { .. } | Spec::Search { .. } | Spec::Reverse { .. } => true,
-        Spec::Address { .. } => false,
     }
 }

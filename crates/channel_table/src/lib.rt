@@ -1,10 +1,12 @@
 //! The table of a channel: its requests, and the journal of what happened.
 #![tactic(auto)]
 
+mod aim;
 mod alone;
 mod row;
 mod table;
 
+pub use aim::Aim;
 pub use alone::Alone;
 pub use row::Row;
 pub use table::Table;

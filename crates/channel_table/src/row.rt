@@ -1,16 +1,16 @@
 //! A request that isn't completed.
 
-ghost use Rattle.std.specs.Prelude.{◌≡◌, IsTrue};
+ghost use Rattle.std.specs.Prelude.{◌≡◌, IfOk, IsTrue};
 ghost use Rattle.chan_types.specs.declared.status.Status.TheVariants as statuses;
 ghost use Rattle.channel_model.specs.Merge.{bare, same_status};
 ghost use Rattle.channel_model.specs.Search.{goes_on};
 ghost use Rattle.query_machine.specs.Legs.{IsInFlight};
-ghost use Rattle.channel_table.specs.After.{after, after_end, has_next, last_status, next_row};
+ghost use Rattle.channel_table.specs.After.{after, after_answer, answer_behind, has_next, last_status, next_row};
 
-use chan_types::{Answer, Bytes, Call, Status, Ticket, Token};
+use crate::aim::{Aim, answer_of, bare_answer};
+use chan_types::{Answer, Bytes, Call, NoMemory, Status, Ticket, Token};
 use channel_model::Judged;
-use dns_message::{Name, NameList, Question};
-use net_addr::AddrList;
+use dns_message::{NameList, Question};
 use query_machine::Leg;
 use resolv_options::Options;
 use std::alloc::Global;
@@ -20,6 +20,8 @@ use std::mem;
 #[derive(Drop)]
 pub struct Row<T: Token> {
     pub number: u64,
+    /// What its answer is made of.
+    pub aim: Aim,
     /// The number of the current candidate's leg.
     pub leg_number: u8,
     pub question: Question,
@@ -44,51 +46,83 @@ pub enum After<T: Token> {
 }
 
 impl<T: Token> Row<T> {
-    /// The request behind the end of its attempt, which meant this and came with this reply or none, where a leg may
-    /// spend so many attempts. It takes no memory.
+    /// The answer that the current candidate has behind the end of its attempt, which meant this and came with these bytes
+    /// or none, where a leg may spend so many attempts; or none, where it goes on.
+    pub fn answer_behind(
+        &self,
+        alloc: Global,
+        options: &Options,
+        judged: Judged,
+        bytes: &[u8],
+        most: u32,
+    ) -> Result<Option<Answer>, NoMemory>
+        requires flies { IsInFlight self.now.leg.phase }
+        ensures { IfOk result (λ answer. answer ≡ answer_behind options.now judged bytes.now most self.now) }
+    {
+        let mut leg = self.leg;
+        leg.reply(judged, most);
+        match leg.ended() {
+            None => Ok(None),
+            Some(status) => answer_of(
+                alloc,
+                options,
+                self.number,
+                self.aim,
+                &self.question.name,
+                status,
+                bytes,
+            ),
+        }
+    }
+
+    /// The request behind the end of its attempt, which meant this, where a leg may spend so many attempts, and this is then
+    /// the answer of its current candidate, if it has one. It takes no memory.
     pub fn end_attempt(
         self,
         alloc: Global,
         options: &Options,
         judged: Judged,
-        reply: Bytes,
         most: u32,
+        answer: Option<Answer>,
     ) -> After<T>
         requires flies { IsInFlight self.leg.phase }
-        ensures { result ≡ after options.now.flags judged reply most self }
+        ensures { result ≡ after options.now.flags judged most self answer }
     {
-        let mut row = self;
-        row.leg.reply(judged, most);
-        match row.leg.ended() {
-            None => After::Stays(row),
-            Some(status) => row.end_candidate(alloc, options, status, reply),
+        match answer {
+            None => {
+                let mut row = self;
+                row.leg.reply(judged, most);
+                After::Stays(row)
+            }
+            Some(answer) => self.end_candidate(alloc, options, answer),
         }
     }
 
-    /// The request behind the end of its current candidate, which ended with this status and this reply or none.
-    fn end_candidate(
-        self,
-        alloc: Global,
-        options: &Options,
-        status: Status,
-        reply: Bytes,
-    ) -> After<T>
-        ensures { result ≡ after_end options.now.flags reply status self }
+    /// The request with this answer of its current candidate. It takes no memory.
+    fn end_candidate(self, alloc: Global, options: &Options, answer: Answer) -> After<T>
+        ensures { result ≡ after_answer options.now.flags answer self }
     {
-        if self.has_next(status) {
+        if self.has_next(answer.status) {
             let mut row = self;
-            row.ask_next(alloc, status, Leg::new(options));
+            row.ask_next(alloc, answer.status, Leg::new(options));
             return After::Stays(row);
         }
+        After::Ends(self.into_ticket(answer))
+    }
+
+    /// The ticket of the request, whose last candidate has this answer. It takes no memory.
+    pub fn into_ticket(self, answer: Answer) -> Ticket<T>
+        ensures { result ≡ record { token = self.token; call = record answer { status = last_status self.empty answer.status } } }
+    {
         let Row {
-            number,
             empty,
             token,
             call,
             ..
         } = self;
-        let status = last_status(empty, status);
-        After::Ends(ticket_of(alloc, number, status, reply, token, call))
+        let mut answer = answer;
+        answer.status = last_status(empty, answer.status);
+        ticket_with(answer, token, call)
     }
 
     /// Whether the next candidate is asked, where the current one has ended with this status.
@@ -154,7 +188,7 @@ fn has_no_data(status: Status) -> bool
 }
 
 /// The status of a request whose last candidate ended with this one, and another before it without data or not.
-pub fn last_status(empty: bool, status: Status) -> Status
+fn last_status(empty: bool, status: Status) -> Status
     ensures { result ≡ last_status empty status }
 {
     if goes_on(status) && empty {
@@ -175,13 +209,14 @@ pub fn ticket_of<T: Token>(
 ) -> Ticket<T>
     ensures { result ≡ record { token = token; call = bare number status reply } }
 {
+    ticket_with(bare_answer(alloc, number, status, reply), token, call)
+}
+
+/// The ticket with this answer. It takes no memory.
+pub fn ticket_with<T: Token>(answer: Answer, token: T, call: Call) -> Ticket<T>
+    ensures { result ≡ record { token = token; call = answer } }
+{
     let mut call = call;
-    call.fill(Answer {
-        number,
-        status,
-        message: reply,
-        addresses: AddrList::new(alloc),
-        canonical: Name::root(alloc),
-    });
+    call.fill(answer);
     Ticket::of(token, call)
 }

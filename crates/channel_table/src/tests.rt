@@ -1,7 +1,9 @@
 //! Examples from outside, and each call that may take memory with ample memory.
 //! Calls stand in small functions, whose results are plain values.
 
+mod addresses;
 mod asking;
+mod families;
 mod ending;
 mod owning;
 mod searching;

@@ -1,21 +1,24 @@
 //! Accepting a request: what it comes to, and the room that its later entries need.
 
-ghost use Rattle.std.specs.Prelude.{◌≡◌, ◌≢◌, ◌+◌, ◌*◌, ◌≤◌, [], ◌∷◌, IfOk, OnOk, vec_len, vec_capacity};
+ghost use Rattle.std.specs.Prelude.{◌≡◌, ◌≢◌, ◌+◌, ◌*◌, ◌≤◌, [], ◌∷◌, IfOk, OnOk, Ok, vec_len, vec_capacity};
 ghost use Rattle.channel_model.specs.Meanings.{Accepts};
-ghost use Rattle.channel_table.specs.Opening.{AreAsked, Opens, OpensName, OpensText, itself, searched};
+ghost use Rattle.channel_table.specs.Opening.{AreAsked, Opens, OpensHost, OpensName, OpensText, itself, searched};
 ghost use Rattle.channel_table.specs.Places.{Places};
-ghost use Rattle.channel_table.specs.Rows.{HasOneLeg};
+ghost use Rattle.addr_lookup.specs.Channels.{set_to};
 ghost use Rattle.channel_model.specs.Seen.{Happens};
 
 use super::Table;
-use crate::row::{Row, ticket_of};
+use crate::aim::Aim;
+use crate::row::{Row, ticket_of, ticket_with};
+use addr_lookup::at_once;
 use chan_types::{
-    Bytes, Call, Entry, NoMemory, Refusal, Script, Spec, Status, Ticket, Token, What,
+    Answer, Bytes, Call, Entry, NoMemory, Refusal, Script, Spec, Status, Ticket, Token, What,
 };
 use channel_model::Refused;
-use dns_message::numbers::{CLASS_IN, KIND_PTR};
+use dns_message::numbers::{CLASS_IN, KIND_A, KIND_AAAA, KIND_PTR};
 use dns_message::{Name, NameFault, NameList, NameText, Question};
-use net_addr::reverse_name;
+use hosts_file::Hosts;
+use net_addr::{Family, reverse_name};
 use query_machine::Leg;
 use resolv_options::{Options, candidates};
 use std::alloc::Global;
@@ -23,12 +26,13 @@ use std::alloc::Global;
 /// The last label of the names that aren't asked (RFC 7686, section 2).
 const ONION: &[u8] = b"onion";
 
-/// What a request comes to at its Accept: the question of its first candidate and the names of the others, or its status
-/// at once.
+/// What a request comes to at its Accept: the question of its first candidate and the names of the others; or at once its
+/// status; or at once its answer.
 #[derive(Drop)]
 pub enum Opening {
     Asks(Question, NameList),
     Ends(Status),
+    Answered(Answer),
 }
 
 /// What an accept needs, made before anything changes.
@@ -40,9 +44,10 @@ struct Prepared {
 }
 
 impl<T: Token> Table<T> {
-    /// Accepts a request, and answers its number. A text that can't be asked is accepted too, and completes at once.
+    /// Accepts a request, and answers its number. A text that can't be asked is accepted too, and completes at once. A
+    /// request for addresses of both families that isn't answered at once is refused as for want of memory, until rows have
+    /// two legs.
     pub fn accept(&mut self, seat: u64, by: u64, spec: Spec, token: T) -> Result<u64, Refused<T>>
-        requires { HasOneLeg spec }
         ensures { Happens (Accepts T.plan spec token result) seat by self.old self.new }
     {
         if self.closed {
@@ -52,13 +57,15 @@ impl<T: Token> Table<T> {
                 token,
             });
         }
+        let number = self.accepted + 1;
+        let aim = Aim::of(&spec);
+        let opening = opening_of(self.alloc, &self.options, &self.hosts, number, &spec);
         match prepare(
             self.alloc,
-            &self.options,
+            opening,
             &mut self.entries,
             &mut self.rows,
             &mut self.ready,
-            &spec,
             &token,
         ) {
             Ok(prepared) => {
@@ -67,7 +74,6 @@ impl<T: Token> Table<T> {
                     script,
                     call,
                 } = prepared;
-                let number = self.accepted + 1;
                 self.entries.push_reserved(Entry {
                     seat,
                     by,
@@ -85,6 +91,7 @@ impl<T: Token> Table<T> {
                     &mut self.ready,
                     opening,
                     number,
+                    aim,
                     token,
                     call,
                 );
@@ -97,40 +104,20 @@ impl<T: Token> Table<T> {
             }),
         }
     }
-
-    /// Refuses a request: as closed where the channel was destroyed, and else as for want of memory.
-    pub(crate) fn refuse(
-        &mut self,
-        seat: u64,
-        by: u64,
-        spec: Spec,
-        token: T,
-    ) -> Result<u64, Refused<T>>
-        ensures { Happens (Accepts T.plan spec token result) seat by self.old self.new }
-    {
-        let closed = self.closed;
-        let why = if closed {
-            Refusal::Closed
-        } else {
-            Refusal::NoMemory
-        };
-        Err(Refused { why, spec, token })
-    }
 }
 
-/// What an accept needs, and room for its entry, for those that its request may need, and for its row or its ticket.
+/// What an accept of a request that comes to this needs, if memory was found for it: room for its entry, for those that
+/// its request may need, and for its row or its ticket.
 fn prepare<T: Token>(
     alloc: Global,
-    options: &Options,
+    opening: Result<Opening, NoMemory>,
     entries: &mut Vec<Entry>,
     rows: &mut Vec<Row<T>>,
     ready: &mut Vec<Ticket<T>>,
-    spec: &Spec,
     token: &T,
 ) -> Result<Prepared, NoMemory>
-    requires one_leg { HasOneLeg spec.now }
     requires room { 2 * vec_len rows.old + vec_len ready.old ≤ vec_capacity entries.old }
-    ensures opening { IfOk result (λ prepared. Opens options.now spec.now prepared.opening) }
+    ensures opening { IfOk result (λ prepared. opening ≡ Ok prepared.opening) }
     ensures script { IfOk result (λ prepared. prepared.script ≡ T.plan token.now) }
     ensures room { OnOk result (vec_len entries.new + 2 * vec_len rows.new + vec_len ready.new + 4 ≤ vec_capacity entries.new) }
     ensures room_rows { OnOk result (vec_len rows.new + 1 ≤ vec_capacity rows.new) }
@@ -142,7 +129,7 @@ fn prepare<T: Token>(
     ensures capacities { (vec_capacity entries.old ≤ vec_capacity entries.new)
         × (vec_capacity ready.old ≤ vec_capacity ready.new) }
 {
-    let opening = opening_of(alloc, options, spec)?;
+    let opening = opening?;
     let script = token.script().copy(alloc)?;
     let call = Call::make(alloc)?;
     rows.reserve(1)?;
@@ -155,7 +142,7 @@ fn prepare<T: Token>(
     })
 }
 
-/// Puts the request of this number among the pending ones, or among the ready ones. It takes no memory.
+/// Puts the request of this number, whose answer is made of this, among the pending ones, or among the ready ones. It takes no memory.
 fn place<T: Token>(
     alloc: Global,
     options: &Options,
@@ -163,12 +150,13 @@ fn place<T: Token>(
     ready: &mut Vec<Ticket<T>>,
     opening: Opening,
     number: u64,
+    aim: Aim,
     token: T,
     call: Call,
 )
     requires room_rows { vec_len rows.old + 1 ≤ vec_capacity rows.old }
     requires room_ready { vec_len rows.old + vec_len ready.old + 1 ≤ vec_capacity ready.old }
-    ensures places { Places options.now.flags number token rows.old.items rows.new.items ready.old.items ready.new.items opening }
+    ensures places { Places options.now.flags number aim token rows.old.items rows.new.items ready.old.items ready.new.items opening }
     ensures most { vec_len rows.new ≤ vec_len rows.old + 1 }
     ensures len { vec_len rows.new + vec_len ready.new ≡ vec_len rows.old + vec_len ready.old + 1 }
     ensures capacity { vec_capacity ready.new ≡ vec_capacity ready.old }
@@ -177,7 +165,8 @@ fn place<T: Token>(
     match opening {
         Opening::Asks(question, names) => rows.push_reserved(Row {
             number,
-            leg_number: 0,
+            aim,
+            leg_number: aim.first_number(),
             question,
             names,
             empty: false,
@@ -189,13 +178,19 @@ fn place<T: Token>(
         Opening::Ends(status) => {
             ready.push_reserved(ticket_of(alloc, number, status, Bytes::new(alloc), token, call));
         }
+        Opening::Answered(answer) => ready.push_reserved(ticket_with(answer, token, call)),
     }
 }
 
-/// What a request whose candidates have one leg asks, or how it ends at once.
-fn opening_of(alloc: Global, options: &Options, spec: &Spec) -> Result<Opening, NoMemory>
-    requires { HasOneLeg spec.now }
-    ensures { IfOk result (Opens options.now spec.now) }
+/// What a request of this number asks, or how it ends at once.
+fn opening_of(
+    alloc: Global,
+    options: &Options,
+    hosts: &Hosts,
+    number: u64,
+    spec: &Spec,
+) -> Result<Opening, NoMemory>
+    ensures { IfOk result (Opens (set_to options.now hosts.now) number spec.now) }
 {
     match spec {
         Spec::Query { name, kind, class } => question_of(alloc, name.as_slice(), *kind, *class),
@@ -210,7 +205,26 @@ fn opening_of(alloc: Global, options: &Options, spec: &Spec) -> Result<Opening, 
             },
             NameList::new(alloc),
         )),
-        Spec::Address { .. } => Err(NoMemory),
+        Spec::Address { host, family, .. } => match at_once(alloc, spec, number, options, hosts)? {
+            Some(answer) => Ok(Opening::Answered(answer)),
+            None => addresses_of(alloc, options, host.as_slice(), *family),
+        },
+    }
+}
+
+/// What the name of a host comes to whose addresses of this family are asked for.
+fn addresses_of(
+    alloc: Global,
+    options: &Options,
+    host: &[u8],
+    family: Family,
+) -> Result<Opening, NoMemory>
+    ensures { IfOk result (OpensHost options.now host.now family) }
+{
+    match family {
+        Family::Any => Err(NoMemory),
+        Family::V4 => search_of(alloc, options, host, KIND_A, CLASS_IN),
+        Family::V6 => search_of(alloc, options, host, KIND_AAAA, CLASS_IN),
     }
 }
 

@@ -7,8 +7,8 @@ ghost use Rattle.channel_table.specs.Rows.{ended_with};
 ghost use Rattle.channel_model.specs.Seen.{Happens};
 
 use super::Table;
-use crate::row::{Row, last_status, ticket_of};
-use chan_types::{Bytes, Entry, Status, Ticket, Token, What};
+use crate::row::{Row, ticket_of};
+use chan_types::{Answer, Bytes, Entry, Status, Ticket, Token, What};
 use channel_model::Judged;
 use query_machine::Leg;
 use resolv_options::Options;
@@ -94,8 +94,8 @@ fn ended<T: Token>(alloc: Global, row: Row<T>, status: Status) -> Ticket<T>
     ticket_of(alloc, number, status, Bytes::new(alloc), token, call)
 }
 
-/// Ends the attempt of the row at this index, which meant this and came with this reply or none, where a leg may spend
-/// so many attempts. It takes no memory.
+/// Ends the attempt of the row at this index, which meant this, where a leg may spend so many attempts, and this is then the
+/// answer of its current candidate, if it has one. It takes no memory.
 pub fn end_row<T: Token>(
     alloc: Global,
     options: &Options,
@@ -103,34 +103,28 @@ pub fn end_row<T: Token>(
     ready: &mut Vec<Ticket<T>>,
     index: usize,
     judged: Judged,
-    reply: Bytes,
     most: u32,
+    answer: Option<Answer>,
 )
     requires inside { index < vec_len rows.old }
     requires flies { FliesAt index rows.old.items }
     requires room { vec_len rows.old + vec_len ready.old ≤ vec_capacity ready.old }
-    ensures ends { EndsRow options.now.flags judged reply most index rows.old.items ready.old.items rows.new.items ready.new.items }
+    ensures ends { EndsRow options.now.flags judged answer most index rows.old.items ready.old.items rows.new.items ready.new.items }
     ensures fewer { vec_len rows.new ≤ vec_len rows.old }
     ensures len { vec_len rows.new + vec_len ready.new ≡ vec_len rows.old + vec_len ready.old }
     ensures capacity { vec_capacity ready.new ≡ vec_capacity ready.old }
 {
-    let mut leg = rows[index].leg;
-    leg.reply(judged, most);
-    match leg.ended() {
-        None => rows[index].leg = leg,
-        Some(status) => {
-            if rows[index].has_next(status) {
-                rows[index].ask_next(alloc, status, Leg::new(options));
+    match answer {
+        None => {
+            let mut leg = rows[index].leg;
+            leg.reply(judged, most);
+            rows[index].leg = leg;
+        }
+        Some(answer) => {
+            if rows[index].has_next(answer.status) {
+                rows[index].ask_next(alloc, answer.status, Leg::new(options));
             } else {
-                let Row {
-                    number,
-                    empty,
-                    token,
-                    call,
-                    ..
-                } = rows.remove(index);
-                let status = last_status(empty, status);
-                ready.push_reserved(ticket_of(alloc, number, status, reply, token, call));
+                ready.push_reserved(rows.remove(index).into_ticket(answer));
             }
         }
     }

@@ -1,14 +1,14 @@
 //! A fault of a link: every attempt over it fails.
 
 ghost use Rattle.std.specs.List.{list_any};
-ghost use Rattle.std.specs.Prelude.{◌≡◌, ◌≢◌, ◌≤◌, ◌+◌, ◌==◌, ◌++◌, if◌then◌else◌, IsTrue, count_by, filter_map, map, vec_len, vec_capacity};
+ghost use Rattle.std.specs.Prelude.{◌≡◌, ◌≢◌, ◌≤◌, ◌+◌, ◌==◌, ◌++◌, if◌then◌else◌, IfOk, IsTrue, count_by, filter_map, map, vec_len, vec_capacity};
 ghost use Rattle.query_machine.specs.Servers.{one_more, recounted};
-ghost use Rattle.channel_table.specs.Failing.{fails_at, kept_of, ticket_made};
+ghost use Rattle.channel_table.specs.Failing.{answer_over, fails_at, fails_with, kept_of, ticket_made};
 ghost use Rattle.channel_table.specs.Rows.{flew_over};
 
 use super::seeking::flew_over;
 use crate::row::{After, Row};
-use chan_types::{Bytes, Status, Ticket, Token};
+use chan_types::{Answer, NoMemory, Status, Ticket, Token};
 use channel_model::Judged;
 use query_machine::Servers;
 use resolv_options::Options;
@@ -28,13 +28,57 @@ pub fn count_over<T: Token>(rows: &[Row<T>], server: u32, link: u64) -> u64
     count
 }
 
-/// Fails the attempts that went to this server over this link, where a leg may spend so many attempts: the rows that go on
-/// are kept in order, and the others get ready. It takes no memory.
+/// The answers that the current candidates of the rows have where the attempts fail that went to this server over this
+/// link, and a leg may spend so many attempts: none for a row that isn't concerned or goes on.
+pub fn answers_over<T: Token>(
+    alloc: Global,
+    options: &Options,
+    rows: &[Row<T>],
+    server: u32,
+    link: u64,
+    most: u32,
+) -> Result<Vec<Option<Answer>>, NoMemory>
+    ensures { IfOk result (λ answers. answers.items ≡ map (answer_over options.now server link most) rows.now) }
+{
+    let mut answers = Vec::with_capacity(alloc, rows.len())?;
+    for index in 0..rows.len() {
+        let answer = answer_over(alloc, options, &rows[index], server, link, most)?;
+        answers.push(answer)?;
+    }
+    Ok(answers)
+}
+
+/// The answer that the current candidate of a row then has, or none.
+fn answer_over<T: Token>(
+    alloc: Global,
+    options: &Options,
+    row: &Row<T>,
+    server: u32,
+    link: u64,
+    most: u32,
+) -> Result<Option<Answer>, NoMemory>
+    ensures { IfOk result (λ answer. answer ≡ answer_over options.now server link most row.now) }
+{
+    if !flew_over(row, server, link) {
+        return Ok(None);
+    }
+    row.answer_behind(
+        alloc,
+        options,
+        Judged::Failed(Status::ConnRefused),
+        &[],
+        most,
+    )
+}
+
+/// Fails the attempts that went to this server over this link, where a leg may spend so many attempts and the rows' current
+/// candidates then have these answers: the rows that go on are kept in order, and the others get ready. It takes no memory.
 pub fn fail_all<T: Token>(
     alloc: Global,
     options: &Options,
     rows: &mut Vec<Row<T>>,
     kept: Vec<Row<T>>,
+    answers: Vec<Option<Answer>>,
     ready: &mut Vec<Ticket<T>>,
     server: u32,
     link: u64,
@@ -42,16 +86,19 @@ pub fn fail_all<T: Token>(
 )
     requires empty { vec_len kept ≡ 0 }
     requires room_kept { vec_len rows.old ≤ vec_capacity kept }
+    requires answers { answers.items ≡ map (answer_over options.now server link most) rows.old.items }
     requires room { vec_len rows.old + vec_len ready.old ≤ vec_capacity ready.old }
-    ensures rows { rows.new.items ≡ filter_map kept_of (map (fails_at options.now.flags server link most) rows.old.items) }
-    ensures tickets { ready.new.items ≡ ready.old.items ++ filter_map ticket_made (map (fails_at options.now.flags server link most) rows.old.items) }
+    ensures rows { rows.new.items ≡ filter_map kept_of (map (fails_at options.now server link most) rows.old.items) }
+    ensures tickets { ready.new.items ≡ ready.old.items ++ filter_map ticket_made (map (fails_at options.now server link most) rows.old.items) }
     ensures fewer { vec_len rows.new ≤ vec_len rows.old }
     ensures len { vec_len rows.new + vec_len ready.new ≡ vec_len rows.old + vec_len ready.old }
     ensures capacity { vec_capacity ready.new ≡ vec_capacity ready.old }
 {
     let mut kept = kept;
+    let mut answers = answers;
     for row in mem::replace(rows, Vec::new(alloc)) {
-        match fail_one(alloc, options, row, server, link, most) {
+        let answer = answers.remove(0);
+        match fail_one(alloc, options, row, server, link, most, answer) {
             After::Stays(row) => kept.push_reserved(row),
             After::Ends(ticket) => ready.push_reserved(ticket),
         }
@@ -59,7 +106,7 @@ pub fn fail_all<T: Token>(
     *rows = kept;
 }
 
-/// What a fault of this server's link makes of a row.
+/// What a fault of this server's link makes of a row, whose current candidate then has this answer, if it has one.
 fn fail_one<T: Token>(
     alloc: Global,
     options: &Options,
@@ -67,8 +114,9 @@ fn fail_one<T: Token>(
     server: u32,
     link: u64,
     most: u32,
+    answer: Option<Answer>,
 ) -> After<T>
-    ensures { result ≡ fails_at options.now.flags server link most row }
+    ensures { result ≡ fails_with options.now.flags server link most answer row }
 {
     if !flew_over(&row, server, link) {
         return After::Stays(row);
@@ -77,8 +125,8 @@ fn fail_one<T: Token>(
         alloc,
         options,
         Judged::Failed(Status::ConnRefused),
-        Bytes::new(alloc),
         most,
+        answer,
     )
 }
 

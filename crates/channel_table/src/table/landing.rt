@@ -73,7 +73,7 @@ fn judged_of<T: Token>(
             row.leg.has_opt,
             flags,
             row.question.kind,
-            false,
+            row.aim.is_of_addresses(),
         ))),
         None => Ok(None),
     }

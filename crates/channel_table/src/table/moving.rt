@@ -2,6 +2,7 @@
 
 ghost use Rattle.std.specs.List.{list_any};
 ghost use Rattle.std.specs.Prelude.{◌≡◌, ◌≤◌, ◌+◌, ◌*◌, ◌==◌, IsTrue, OnOk, length, vec_len, vec_capacity};
+ghost use Rattle.chan_types.specs.declared.journal.What.TheVariants.{Arrive};
 ghost use Rattle.channel_model.specs.Meanings.{Arrives, Expires, Fails};
 ghost use Rattle.channel_model.specs.Seen.{Happens};
 ghost use Rattle.query_machine.specs.Servers.{recounted};
@@ -10,7 +11,7 @@ ghost use Rattle.channel_table.specs.Ends.{attempts_with, server_of};
 
 use super::Table;
 use super::ending::end_row;
-use super::failing::{count_fault, count_over, fail_all};
+use super::failing::{answers_over, count_fault, count_over, fail_all};
 use super::landing::find_landing;
 use super::seeking::find_soonest;
 use chan_types::{Bytes, Entry, KeyList, NoMemory, Status, Token, What};
@@ -37,22 +38,23 @@ impl<T: Token> Table<T> {
             link,
             bytes,
         )?;
-        let reply = Bytes::of(self.alloc, bytes)?;
         let kept = Bytes::of(self.alloc, bytes)?;
-        let most = most_attempts(&self.options, &self.list);
         make_room(&mut self.entries, self.rows.len(), self.ready.len())?;
-        self.entries.push_reserved(Entry {
-            seat,
-            by: 0,
-            what: What::Arrive {
-                server,
-                link,
-                bytes: kept,
-            },
-        });
         match found {
-            None => Ok(Landed::Stray),
+            None => {
+                self.entries.push_reserved(arrival(seat, server, link, kept));
+                Ok(Landed::Stray)
+            }
             Some(landing) => {
+                let most = most_attempts(&self.options, &self.list);
+                let answer = self.rows[landing.index].answer_behind(
+                    self.alloc,
+                    &self.options,
+                    landing.judged,
+                    bytes,
+                    most,
+                )?;
+                self.entries.push_reserved(arrival(seat, server, link, kept));
                 count_end(&mut self.servers, server, landing.judged);
                 end_row(
                     self.alloc,
@@ -61,8 +63,8 @@ impl<T: Token> Table<T> {
                     &mut self.ready,
                     landing.index,
                     landing.judged,
-                    reply,
                     most,
+                    answer,
                 );
                 Ok(Landed::Matched {
                     number: landing.number,
@@ -81,6 +83,13 @@ impl<T: Token> Table<T> {
                 let most = most_attempts(&self.options, &self.list);
                 let server = server_of(&self.rows[first.index].leg);
                 make_room(&mut self.entries, self.rows.len(), self.ready.len())?;
+                let answer = self.rows[first.index].answer_behind(
+                    self.alloc,
+                    &self.options,
+                    Judged::Failed(Status::TimedOut),
+                    &[],
+                    most,
+                )?;
                 self.entries.push_reserved(Entry {
                     seat,
                     by: 0,
@@ -98,8 +107,8 @@ impl<T: Token> Table<T> {
                     &mut self.ready,
                     first.index,
                     Judged::Failed(Status::TimedOut),
-                    Bytes::new(self.alloc),
                     most,
+                    answer,
                 );
                 Ok(Lapse::Expired {
                     number: first.number,
@@ -119,6 +128,14 @@ impl<T: Token> Table<T> {
         let most = most_attempts(&self.options, &self.list);
         let kept = Vec::with_capacity(self.alloc, self.rows.len())?;
         make_room(&mut self.entries, self.rows.len(), self.ready.len())?;
+        let answers = answers_over(
+            self.alloc,
+            &self.options,
+            self.rows.as_slice(),
+            server,
+            link,
+            most,
+        )?;
         self.entries.push_reserved(Entry {
             seat,
             by: 0,
@@ -134,12 +151,28 @@ impl<T: Token> Table<T> {
             &self.options,
             &mut self.rows,
             kept,
+            answers,
             &mut self.ready,
             server,
             link,
             most,
         );
         Ok(count)
+    }
+}
+
+/// The entry of a message that came.
+fn arrival(seat: u64, server: u32, link: u64, bytes: Bytes) -> Entry
+    ensures { result ≡ record { seat = seat; by = 0; what = Arrive server link bytes } }
+{
+    Entry {
+        seat,
+        by: 0,
+        what: What::Arrive {
+            server,
+            link,
+            bytes,
+        },
     }
 }
 

@@ -1,4 +1,5 @@
-use Rattle.std.proofs.Common.{refl, sym, arith, ◌≡◌, ◌∙◌, ◌+◌, Ok, [], ◌∷◌, ◌++◌, length}
+use Rattle.std.proofs.Common.{refl, sym, subst, arith, ◌≡◌, ◌∙◌, ◌+◌, Ok, Result, [], ◌∷◌, ◌++◌, length}
+use Rattle.std.specs.Prelude.{IfOk}
 use Rattle.chan_types.specs.declared.journal.Entry.{Entry}
 use Rattle.chan_types.specs.declared.journal.What.TheVariants.{Accept}
 use Rattle.channel_model.specs.Journal.{Past, accepted, past_of}
@@ -6,6 +7,9 @@ use Rattle.channel_table.proofs.Counting.{counted_kept}
 use Rattle.channel_table.proofs.Keeping.{happens_one, kept_more, one_more_accepted}
 use Rattle.channel_table.proofs.Opening.{placed}
 use Rattle.channel_table.specs.Kept.{setting_of}
+use Rattle.channel_table.specs.Opening.{Opens}
+use Rattle.channel_table.specs.declared.table.accepting.Opening.{Opening}
+use Rattle.item_list.specs.declared.no_memory.NoMemory.{NoMemory}
 use Rattle.channel_model.specs.Meanings.{Accepts}
 use Rattle.channel_table.proofs.table.Table.accept.Goals as goal
 
@@ -14,10 +18,12 @@ invariant_of-self g c =
     let past : Past = past_of c.self.inside.entries.items in
     let next : c.self.inside.accepted + 1 ≡ length (accepted past) + 1 = omega (arith, c.self.invariant.accepts) in
     let p = c.in-Ok.ensures in
+    let opens : Opens (setting_of c.self.inside) (c.self.inside.accepted + 1) c.args.spec c.in-Ok.prepared.opening =
+    subst (λ (r : Result Opening NoMemory). IfOk r (Opens (setting_of c.self.inside) (c.self.inside.accepted + 1) c.args.spec)) p.opening c.opening_of-opening.ensures in
     let entry : Entry = record { seat = c.args.seat; by = c.args.by; what = Accept (c.self.inside.accepted + 1) c.args.spec (g.T.Token.plan c.args.token) } in
     kept_more g.T.Token.plan c.self.inside _ entry refl (rw (c.push_reserved.ensures.items, p.same.0, p.script) refl) c.self.invariant (c.self.invariant.destroyed ∙ c.if-self.false, next)
     (placed g.T.Token.plan (setting_of c.self.inside) past c.args.spec c.args.token (c.self.inside.accepted + 1) c.self.invariant.limits c.self.invariant.lawful.allowed next c.self.inside.rows.items c.self.inside.ready.items c.in-Ok.prepared.opening
-    c.place.new.rows.items c.place.new.ready.items p.opening (rw (p.same.1, p.same.2) at c.place.ensures.places) c.self.invariant.stands)
+    c.place.new.rows.items c.place.new.ready.items opens (rw (c.of-aim.ensures, p.same.1, p.same.2) at c.place.ensures.places) c.self.invariant.stands)
     (counted_kept (setting_of c.self.inside) (Accept (c.self.inside.accepted + 1) c.args.spec (g.T.Token.plan c.args.token)) past c.self.inside.list c.self.inside.servers c.self.inside.greatest_key c.self.inside.greatest_link c.self.inside.started c.self.invariant.counted refl refl (λ a flies. refl))
     (one_more_accepted (c.self.inside.accepted + 1) c.args.spec (g.T.Token.plan c.args.token) past ∙ sym next)
     c.self.invariant.destroyed

@@ -18,6 +18,9 @@ use Rattle.channel_table.proofs.Keeping.{few_closed, happens_nothing, happens_on
 use Rattle.channel_table.proofs.Lapsing.{expires_failed, found_says, table_expired}
 use Rattle.channel_table.proofs.RowAt.{counted_at_row, flight_at, in_flight_of}
 use Rattle.channel_table.proofs.Telling.{first_due_rows}
+use Rattle.chan_types.specs.declared.status.Status.TheVariants.{TimedOut}
+use Rattle.channel_model.specs.declared.judged.Judged.TheVariants.{Failed}
+use Rattle.channel_table.specs.After.{answer_behind}
 use Rattle.channel_table.specs.Counted.{AreCounted}
 use Rattle.channel_table.specs.Ends.{server_in}
 use Rattle.channel_table.specs.Kept.{setting_of}
@@ -73,7 +76,8 @@ invariant_of-self-then-first-at g c =
     let server = c.server_of-server.ensures ∙ ap server_in is.flies in
     let told = first_due_rows g.T.Token.plan setting past c.self.inside.rows.items c.self.inside.ready.items c.self.invariant.stands in
     let may : MayExpire setting past (leg_of c.in-Some.first.number c.in-Some.first.leg_number) c.args.at = record { due_at = c.in-Some.first.at; first = told ∙ found.1; due = c.if-first-at.true } in
-    let ends = rw c.new.ensures at c.end_row.ensures.ends in
+    let ends = c.end_row.ensures.ends in
+    let answers = c.in_ok-answer-in-Some.ensures ∙ ap (λ (r : Row g.row.T.Denot). answer_behind setting.options (Failed TimedOut) [] c.most_attempts-most.result r) (get_or_read c.self.inside.rows.items c.in-Some.first.index c.index-in-Some.result.now found.0.inside c.index-in-Some.ensures ends.row ∙ ends.is ends.row) in
     let due = ap due_of_row (sym (ends.is ends.row)) ∙ found.0.is_due ends.row in
     let room = c.in_ok-make_room-in-Some.ensures in
     let entry : Entry = record { seat = c.args.seat; by = 0; what = Expire c.in-Some.first.number c.in-Some.first.leg_number c.args.at } in
@@ -83,8 +87,8 @@ invariant_of-self-then-first-at g c =
     (ap (λ (l : Leg). flight setting l past) is.own ∙ flies) (sym is.own) c.self.invariant.counted in
     let may_spend = attempts_are setting past c.self.inside.list c.self.inside.servers c.self.inside.greatest_key c.self.inside.greatest_link c.self.inside.started c.self.invariant.counted c.self.invariant.limits c.self.invariant.lawful.allowed ∙ sym c.most_attempts-most.ensures.value in
     kept_more g.T.Token.plan c.self.inside _ entry refl (c.push_reserved.ensures.items ∙ ap (λ es. es ++ entry ∷ []) c.make_room.ensures.items) c.self.invariant may
-    (table_expired g.T.Token.plan setting past c.in-Some.first c.args.at c.most_attempts-most.result c.self.inside.rows.items c.end_row.new.rows.items c.self.inside.ready.items c.end_row.new.ready.items
-    c.self.invariant.lawful.allowed ends due may_spend c.most_attempts-most.ensures.few c.self.invariant.stands)
+    (table_expired g.T.Token.plan setting past c.in-Some.first c.args.at c.most_attempts-most.result c.in_ok-answer-in-Some.answer c.self.inside.rows.items c.end_row.new.rows.items c.self.inside.ready.items c.end_row.new.ready.items
+    c.self.invariant.lawful.allowed ends due may_spend c.most_attempts-most.ensures.few answers c.self.invariant.stands)
     (subst (λ (s : List Failing). AreCounted setting (Expire c.in-Some.first.number c.in-Some.first.leg_number c.args.at ∷ past) c.self.inside.list s c.self.inside.greatest_key c.self.inside.greatest_link c.self.inside.started)
     (sym (c.failed.ensures ∙ ap (λ (k : ℕ). recounted k one_more c.self.inside.servers) server)) counted)
     (no_more (Expire c.in-Some.first.number c.in-Some.first.leg_number c.args.at) past refl ∙ c.self.invariant.accepts) c.self.invariant.destroyed
@@ -92,8 +96,15 @@ invariant_of-self-then-first-at g c =
     (omega (arith, room.room, c.len.ensures, c.len-in-Some.ensures, c.make_room.ensures.len, c.push_reserved.ensures.len, c.push_reserved.ensures.capacity, c.end_row.ensures.fewer, c.end_row.ensures.len, few_closed c.self.inside.closed))
     (omega (arith, c.self.invariant.room_ready, c.end_row.ensures.len, c.end_row.ensures.capacity))
 
-pub returns-in_ok-make_room-in-Some : goal.returns-in_ok-make_room-in-Some
-returns-in_ok-make_room-in-Some g c =
+pub returns-in_err-answer-in-Some : goal.returns-in_err-answer-in-Some
+returns-in_err-answer-in-Some g c =
+    let told = first_due_rows g.T.Token.plan (setting_of c.self.inside) (past_of c.self.inside.entries.items) c.self.inside.rows.items c.self.inside.ready.items c.self.invariant.stands in
+    let is = told ∙ (rw c.as_slice.ensures.value at c.in-Some.ensures).1 in
+    rw (← c.self.view_is) (happens_same g.T.Token.plan (Expires c.args.at c.from_residual-in_err-answer-in-Some.result) c.self.inside c.make_room.new.entries.items c.args.seat 0 c.make_room.ensures.items c.self.invariant
+    (expires_failed c.args.at c.from_residual-in_err-answer-in-Some.result (setting_of c.self.inside) (past_of c.self.inside.entries.items) c.from_residual-in_err-answer-in-Some.ensures.0 (rw is c.if-first-at.true)))
+
+pub returns-in_ok-answer-in-Some : goal.returns-in_ok-answer-in-Some
+returns-in_ok-answer-in-Some g c =
     let past : Past = past_of c.self.inside.entries.items in
     let setting : Setting = setting_of c.self.inside in
     let found = rw c.as_slice.ensures.value at c.in-Some.ensures in

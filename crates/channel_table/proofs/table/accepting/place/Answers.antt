@@ -6,7 +6,8 @@ returns-in-Asks-clause-places g c =
     rw c.in-Asks.is (
       record {
         number = c.args.number;
-        leg_number = 0;
+        aim = c.args.aim;
+        leg_number = c.first_number.result;
         question = c.in-Asks.question;
         names = c.in-Asks.names;
         empty = false;
@@ -15,7 +16,7 @@ returns-in-Asks-clause-places g c =
         token = c.args.token;
         call = c.args.call;
       },
-      record { numbered = refl; legged = refl; asks = refl; others = refl; unpassed = refl; fresh = c.new-leg.ensures; unbegun = refl; for' = refl },
+      record { numbered = refl; aims = refl; legged = c.first_number.ensures; asks = refl; others = refl; unpassed = refl; fresh = c.new-leg.ensures; unbegun = refl; for' = refl },
       c.push_reserved.ensures.items,
       refl,
     )

@@ -1,9 +1,8 @@
 use Rattle.std.proofs.Common.{sym, ap, arith, ◌∙◌, ◌<◌, length, subst}
 use Rattle.std.proofs.lemmas.List.{get_or_read}
-use Rattle.query_machine.specs.Legs.{IsInFlight, leg_behind, status_in}
+use Rattle.query_machine.specs.Legs.{IsInFlight, leg_behind}
 use Rattle.query_machine.specs.declared.leg.Leg as machine
 use Rattle.channel_table.proofs.Ending.{asks_so, ends_so, goes_on_so}
-use Rattle.channel_model.specs.Merge.{bare}
 use Rattle.channel_table.specs.After.{has_next, next_row}
 use Rattle.channel_table.specs.declared.row.Row.{Row}
 use Rattle.channel_table.proofs.table.ending.end_row.Goals as goal
@@ -19,8 +18,7 @@ returns-in-None-clause-ends g c =
     let inside : c.args.index < length c.args.rows.now.items = omega (arith, c.requires.inside) in
     let same = get_or_read c.args.rows.now.items c.args.index c.index.result.now inside c.index.ensures c.index_mut.result.now ∙ sym c.index_mut.ensures.value in
     let leg = c.reply.ensures ∙ ap (λ (r : Row g.row.T.Denot). leg_behind c.args.judged c.args.most r.leg) same in
-    let on = ap (λ (l : machine.Leg). status_in l.phase) (sym leg) ∙ sym c.in-None.ensures in
-    goes_on_so c.args.options.now.flags c.args.judged c.args.reply c.args.most c.args.index c.args.rows.now.items c.args.ready.now.items c.index_mut.result.now inside c.index_mut.ensures.value c.reply.new.self on leg
+    rw c.in-None.is (goes_on_so c.args.options.now.flags c.args.judged c.args.most c.args.index c.args.rows.now.items c.args.ready.now.items c.index_mut.result.now inside c.index_mut.ensures.value c.reply.new.self leg)
 
 pub returns-then-has_next-clause-ends : goal.returns-then-has_next-clause-ends
 returns-then-has_next-clause-ends g c =
@@ -28,25 +26,18 @@ returns-then-has_next-clause-ends g c =
     let row : Row g.row.T.Denot = c.index_mut-then-has_next.result.now in
     let inside : c.args.index < length c.args.rows.now.items = omega (arith, c.requires.inside) in
     let here = c.index_mut-then-has_next.ensures.value in
-    let same = get_or_read rows c.args.index c.index.result.now inside c.index.ensures row ∙ sym here in
     let tested = get_or_read rows c.args.index c.index-in-Some.result.now inside c.index-in-Some.ensures row ∙ sym here in
-    let leg = c.reply.ensures ∙ ap (λ (r : Row g.row.T.Denot). leg_behind c.args.judged c.args.most r.leg) same in
-    let ends = ap (λ (l : machine.Leg). status_in l.phase) (sym leg) ∙ sym c.in-Some.ensures in
-    let next = ap (λ (r : Row g.row.T.Denot). has_next c.in-Some.status r) (sym tested) ∙ sym c.has_next.ensures ∙ c.if-has_next.true in
-    asks_so c.args.options.now.flags c.args.judged c.args.reply c.args.most c.args.index rows c.args.ready.now.items row inside here c.in-Some.status c.ask_next.new.self ends next
-    (c.ask_next.ensures ∙ ap (λ (l : machine.Leg). next_row l c.in-Some.status row) c.new.ensures)
+    let next = ap (λ (r : Row g.row.T.Denot). has_next c.in-Some.answer.status r) (sym tested) ∙ sym c.has_next.ensures ∙ c.if-has_next.true in
+    rw c.in-Some.is (asks_so c.args.options.now.flags c.args.judged c.args.most c.args.index rows c.args.ready.now.items row inside here c.in-Some.answer c.ask_next.new.self next
+    (c.ask_next.ensures ∙ ap (λ (l : machine.Leg). next_row l c.in-Some.answer.status row) c.new.ensures))
 
 pub returns-else-has_next-clause-ends : goal.returns-else-has_next-clause-ends
 returns-else-has_next-clause-ends g c =
     let rows = c.args.rows.now.items in
-    let row : Row g.row.T.Denot = c.remove-number.result in
+    let row : Row g.row.T.Denot = c.remove.result in
     let inside : c.args.index < length c.args.rows.now.items = omega (arith, c.requires.inside) in
-    let here = c.remove-number.ensures.value in
-    let same = get_or_read rows c.args.index c.index.result.now inside c.index.ensures row ∙ sym here in
+    let here = c.remove.ensures.value in
     let tested = get_or_read rows c.args.index c.index-in-Some.result.now inside c.index-in-Some.ensures row ∙ sym here in
-    let leg = c.reply.ensures ∙ ap (λ (r : Row g.row.T.Denot). leg_behind c.args.judged c.args.most r.leg) same in
-    let ends = ap (λ (l : machine.Leg). status_in l.phase) (sym leg) ∙ sym c.in-Some.ensures in
-    let last = ap (λ (r : Row g.row.T.Denot). has_next c.in-Some.status r) (sym tested) ∙ sym c.has_next.ensures ∙ c.if-has_next.false in
-    let ticket = c.ticket_of.ensures ∙ ap (λ s. record { token = row.token; call = bare row.number s c.args.reply }) c.last_status-status.ensures in
-    rw c.push_reserved.ensures.items
-    (ends_so c.args.options.now.flags c.args.judged c.args.reply c.args.most c.args.index rows c.args.ready.now.items row inside here c.in-Some.status c.ticket_of.result c.remove-number.new.self.items ends last ticket c.remove-number.ensures.items)
+    let last = ap (λ (r : Row g.row.T.Denot). has_next c.in-Some.answer.status r) (sym tested) ∙ sym c.has_next.ensures ∙ c.if-has_next.false in
+    rw (c.in-Some.is, c.push_reserved.ensures.items)
+    (ends_so c.args.options.now.flags c.args.judged c.args.most c.args.index rows c.args.ready.now.items row inside here c.in-Some.answer c.into_ticket.result c.remove.new.self.items last c.into_ticket.ensures c.remove.ensures.items)

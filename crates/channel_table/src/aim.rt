@@ -1,0 +1,174 @@
+//! What the answer of a request is made of.
+
+ghost use Rattle.std.specs.Prelude.{◌≡◌, All, Some, None, IfOk};
+ghost use Rattle.addr_lookup.specs.Ends.{AreWellFormed, IsEnd};
+ghost use Rattle.channel_model.specs.Merge.{answers_of, bare, same_status};
+ghost use Rattle.chan_types.specs.declared.status.Status.TheVariants as statuses;
+ghost use Rattle.dns_message.specs.Validity.{IsValid, IsWellFormed};
+ghost use Rattle.edns_opt.specs.Reading.{opt_of};
+ghost use Rattle.channel_table.specs.Aims.{aim_of, answer_of_ends, first_number, is_of_addresses};
+ghost use Rattle.channel_table.specs.Aims.{answers_with};
+ghost use Rattle.channel_table.specs.declared.aim.Aim.TheVariants.{Addresses};
+
+use addr_lookup::{LegEnd, merge};
+use chan_types::{Answer, Bytes, NoMemory, Spec, Status};
+use dns_message::{Message, MessageFault, Name, RecordList, decode};
+use edns_opt::{EdnsFault, find};
+use net_addr::{AddrList, Family};
+use resolv_options::Options;
+use std::alloc::Global;
+
+/// What the answer of a request is made of.
+#[derive(Clone, Copy, Debug, PartialEq, Eq)]
+pub enum Aim {
+    /// The reply that ended its leg.
+    Reply,
+    /// The addresses of this family that the replies have, as they stood if the second is set, or sorted.
+    Addresses(Family, bool),
+}
+
+impl Aim {
+    /// What the answer of a request is made of that asks this.
+    pub fn of(spec: &Spec) -> Aim
+        ensures { result ≡ aim_of spec.now }
+    {
+        match spec {
+            Spec::Query { .. } | Spec::Search { .. } | Spec::Reverse { .. } => Aim::Reply,
+            Spec::Address { family, nosort, .. } => Aim::Addresses(*family, *nosort),
+        }
+    }
+
+    /// It is made of addresses.
+    pub fn is_of_addresses(self) -> bool
+        ensures { result ≡ is_of_addresses self }
+    {
+        match self {
+            Aim::Reply => false,
+            Aim::Addresses(_, _) => true,
+        }
+    }
+
+    /// The number of the first leg of a request's first candidate.
+    pub fn first_number(self) -> u8
+        ensures { result ≡ first_number self }
+    {
+        match self {
+            Aim::Reply | Aim::Addresses(Family::Any | Family::V4, _) => 0,
+            Aim::Addresses(Family::V6, _) => 1,
+        }
+    }
+}
+
+/// The answer of a candidate of a request of this number, whose one leg ended with this status and these bytes.
+pub fn answer_of(
+    alloc: Global,
+    options: &Options,
+    number: u64,
+    aim: Aim,
+    name: &Name,
+    status: Status,
+    bytes: &[u8],
+) -> Result<Option<Answer>, NoMemory>
+    ensures { IfOk result (λ answer. answer
+        ≡ answer_of_ends options.now number aim name.now (Some (record { status = status; reply = bytes.now })) None) }
+{
+    match aim {
+        Aim::Reply => Ok(Some(bare_answer(
+            alloc,
+            number,
+            status,
+            Bytes::of(alloc, bytes)?,
+        ))),
+        Aim::Addresses(family, nosort) => {
+            addresses_answer(alloc, options, number, family, nosort, name, status, bytes)
+        }
+    }
+}
+
+/// The same, where the answer is made of addresses: of a request of this number, for those of this family, as they stood
+/// or sorted.
+fn addresses_answer(
+    alloc: Global,
+    options: &Options,
+    number: u64,
+    family: Family,
+    nosort: bool,
+    name: &Name,
+    status: Status,
+    bytes: &[u8],
+) -> Result<Option<Answer>, NoMemory>
+    ensures { IfOk result (λ answer. answer
+        ≡ answer_of_ends options.now number (Addresses family nosort) name.now (Some (record { status = status; reply = bytes.now })) None) }
+{
+    match family {
+        Family::Any => Ok(None),
+        Family::V4 => {
+            let end = end_of(alloc, status, bytes)?;
+            let answer = merge(alloc, number, &end, &LegEnd::Unused, name, options, nosort)?;
+            Ok(Some(answer))
+        }
+        Family::V6 => {
+            let end = end_of(alloc, status, bytes)?;
+            let answer = merge(alloc, number, &LegEnd::Unused, &end, name, options, nosort)?;
+            Ok(Some(answer))
+        }
+    }
+}
+
+/// An answer with a status and a message alone. It takes no memory.
+pub fn bare_answer(alloc: Global, number: u64, status: Status, message: Bytes) -> Answer
+    ensures { result ≡ bare number status message }
+{
+    Answer {
+        number,
+        status,
+        message,
+        addresses: AddrList::new(alloc),
+        canonical: Name::root(alloc),
+    }
+}
+
+/// The end of a leg with this status, which a reply of these bytes ended.
+fn end_of(alloc: Global, status: Status, bytes: &[u8]) -> Result<LegEnd, NoMemory>
+    ensures is { IfOk result (λ end. IsEnd end (record { status = status; reply = bytes.now })) }
+    ensures formed { IfOk result AreWellFormed }
+{
+    let records = if is_success(status) {
+        answers_in(alloc, bytes)?
+    } else {
+        RecordList::new(alloc)
+    };
+    Ok(LegEnd::Ended(status, records))
+}
+
+/// The status is that of an answer.
+fn is_success(status: Status) -> bool
+    ensures { result ≡ same_status status statuses.Success }
+{
+    status.code() == Status::Success.code()
+}
+
+/// The answers of a reply.
+fn answers_in(alloc: Global, bytes: &[u8]) -> Result<RecordList, NoMemory>
+    ensures are { IfOk result (λ records. records ≡ answers_of bytes.now) }
+    ensures formed { IfOk result (All IsWellFormed) }
+{
+    match decode(alloc, bytes) {
+        Ok(message) => answers_with_opt(alloc, message),
+        Err(MessageFault::NoMemory) => Err(NoMemory),
+        Err(_) => Ok(RecordList::new(alloc)),
+    }
+}
+
+/// The answers of a message whose OPT record, if it has one, can be read, or none.
+fn answers_with_opt(alloc: Global, message: Message) -> Result<RecordList, NoMemory>
+    requires { IsValid message }
+    ensures are { IfOk result (λ records. records ≡ answers_with message (opt_of message)) }
+    ensures formed { IfOk result (All IsWellFormed) }
+{
+    match find(alloc, &message) {
+        Ok(_) => Ok(message.answers),
+        Err(EdnsFault::NoMemory) => Err(NoMemory),
+        Err(EdnsFault::DoubleOpt | EdnsFault::BadOptions(_)) => Ok(RecordList::new(alloc)),
+    }
+}
