@@ -86,7 +86,6 @@ pub record Promise (spec : Spec) (setting : Setting) (turns : ℕ) (ended : Ende
   -- How the run came to its end, before its text was put: the text is chosen by that, and the exit status.
   pub end : Exit
   pub ends : IsRunEnd end
-
   -- One journal orders what happened: each of its entries may stand where it stands.
   pub lawful : IsLawful setting ended.journal
   -- All entries are of the channel's one seat; no callback commanded one, none cancels, and none sets other servers.
@@ -102,7 +101,6 @@ pub record Promise (spec : Spec) (setting : Setting) (turns : ℕ) (ended : Ende
   pub all_taken : IsOver setting (past_of ended.journal)
   -- A channel that was made was destroyed once, and behind that nothing stands but Takes.
   pub destroyed : ended.journal ≢ [] → IsClosed ended.journal
-
   -- The request ended well, or otherwise.
   pub success : end ≡ Success → AreGood ended.calls
   pub failure : end ≡ Failure → ¬ AreGood ended.calls
@@ -112,7 +110,6 @@ pub record Promise (spec : Spec) (setting : Setting) (turns : ℕ) (ended : Ende
   pub wait_fault : end ≡ WaitFault → Rose before.network.wait_faults after.network.wait_faults
   -- It ends as stalled only where a request was pending at the closing Destroy, and all turns were made, which the network's calls tell.
   pub stalled : end ≡ Stalled → pending setting (past_at ended.journal (closing_position ended.journal)) ≢ []
-
   -- Where the network tells its calls, those of this run are its servers, turns and waits, and the journal notes what they tell.
   pub traffic : LogGets (IsTraffic setting turns end ended.journal) before.network.log after.network.log
   -- A run that is given time comes to its page, where the output doesn't fail in it, unless memory is wanting.

@@ -73,7 +73,14 @@ fn ran(alloc: Global, case: &Scenario<'_>) -> Result<Left, Fail> {
     let mut files = files_of(alloc, case)?;
     let mut world = world_of(alloc, case)?;
     let mut sink = MemSink::make(failing(alloc, case.puts_fail)?);
-    let ended = run(alloc, words.as_slice(), &mut files, &mut world, &mut sink, case.turns);
+    let ended = run(
+        alloc,
+        words.as_slice(),
+        &mut files,
+        &mut world,
+        &mut sink,
+        case.turns,
+    );
     Ok(Left {
         status: ended.status,
         put: sink.bytes().to_vec(alloc)?,

@@ -121,7 +121,7 @@ module _ {T : Type 0} (plan : T → Script) (setting : Setting) (what : What) (p
   asks_later = spec_of-later row.number what past stands.spec (spec_of_row plan setting what past row stands)
 
   stay : (are_passed setting row.number stands.spec (what ∷ past) 0 stands.passed ≡ true) × (any_empty setting row.number stands.spec (what ∷ past) 0 stands.passed ≡ any_empty setting row.number stands.spec past 0 stands.passed)
-  stay = passed_stay setting row.number stands.spec  what past 0 stands.passed stands.came
+  stay = passed_stay setting row.number stands.spec what past 0 stands.passed stands.came
 
   leaves_none : filter (λ a. not (closes setting a what past)) (flown row) ≡ []
   leaves_none = left_one plan setting what past (flown_by (leg_of_row row) (flying_of row)) ∙ ap (λ o. option_to_list (unless_closed setting what past (flown_by (leg_of_row row) o))) flies ∙ rw closed refl

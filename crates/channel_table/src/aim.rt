@@ -73,12 +73,7 @@ pub fn answer_of(
         ≡ answer_of_ends options.now number aim name.now (Some (record { status = status; reply = bytes.now })) None) }
 {
     match aim {
-        Aim::Reply => Ok(Some(bare_answer(
-            alloc,
-            number,
-            status,
-            Bytes::of(alloc, bytes)?,
-        ))),
+        Aim::Reply => Ok(Some(bare_answer(alloc, number, status, Bytes::of(alloc, bytes)?))),
         Aim::Addresses(family, nosort) => {
             addresses_answer(alloc, options, number, family, nosort, name, status, bytes)
         }

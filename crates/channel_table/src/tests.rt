@@ -3,8 +3,8 @@
 
 mod addresses;
 mod asking;
-mod families;
 mod ending;
+mod families;
 mod owning;
 mod searching;
 

@@ -6,12 +6,7 @@ use std::test::Fail;
 
 /// A message to the plain run's question, with these flags, so many records in each section, and these records (RFC 1035,
 /// section 4.1).
-fn message(
-    alloc: Global,
-    flags: u16,
-    counts: [u8; 3],
-    records: &[&[u8]],
-) -> Result<Vec<u8>, Fail> {
+fn message(alloc: Global, flags: u16, counts: [u8; 3], records: &[&[u8]]) -> Result<Vec<u8>, Fail> {
     let [answers, authorities, additionals] = counts;
     let mut bytes = Vec::new(alloc);
     bytes.extend_from_slice(b"\x12\x34")?;
@@ -25,12 +20,7 @@ fn message(
 }
 
 /// Whether a run that gets this message ends with this status and this page.
-fn is_page(
-    alloc: Global,
-    message: &[u8],
-    status: u8,
-    page: &str,
-) -> Result<bool, Fail> {
+fn is_page(alloc: Global, message: &[u8], status: u8, page: &str) -> Result<bool, Fail> {
     let run = ran(alloc, &case(PLAIN, &[comes(1, message)]))?;
     Ok(is_put(&run, status, page))
 }
@@ -92,7 +82,10 @@ fn an_extended_code_is_printed(rt: HostRuntime) -> Result<(), Fail> {
 const CODES: [(u16, &str); 3] = [
     (0x8180, "1 ENODATA\n;; id 4660 rcode 0 flags qr rd ra\n"),
     (0x8181, "2 EFORMERR\n;; id 4660 rcode 1 flags qr rd ra\n"),
-    (0x8583, "4 ENOTFOUND\n;; id 4660 rcode 3 flags qr aa rd ra\n"),
+    (
+        0x8583,
+        "4 ENOTFOUND\n;; id 4660 rcode 3 flags qr aa rd ra\n",
+    ),
 ];
 
 /// Whether a run that gets a message with these flags prints a page that ends so.

@@ -4,8 +4,7 @@ use super::{Coming, PLAIN, REPLY, case, comes, comes_from, is_put, is_told, piec
 use std::test::Fail;
 
 /// The query of the plain run: 29 bytes with identifier 0x1234 and RD (RFC 1035, section 4.1).
-const QUERY: &[u8] =
-    b"\x12\x34\x01\0\0\x01\0\0\0\0\0\0\x07example\x03com\0\0\x01\0\x01";
+const QUERY: &[u8] = b"\x12\x34\x01\0\0\x01\0\0\0\0\0\0\x07example\x03com\0\0\x01\0\x01";
 
 /// Its page.
 const PAGE: &str = ";; example.com IN A
@@ -139,8 +138,7 @@ wait to 4000
 }
 
 /// A truncated reply: TC is set (RFC 1035, section 4.1.1).
-const TRUNCATED: &[u8] =
-    b"\x12\x34\x83\x80\0\x01\0\0\0\0\0\0\x07example\x03com\0\0\x01\0\x01";
+const TRUNCATED: &[u8] = b"\x12\x34\x83\x80\0\x01\0\0\0\0\0\0\x07example\x03com\0\0\x01\0\x01";
 
 /// The frame of the reply without its first byte (section 4.2.2).
 const FRAME_REST: &[u8] =
@@ -174,11 +172,9 @@ close 1
 }
 
 /// A server that can't read the query, and one that failed: response codes 1 and 2, without an OPT record.
-const FORMERR: &[u8] =
-    b"\x12\x34\x81\x81\0\x01\0\0\0\0\0\0\x07example\x03com\0\0\x01\0\x01";
+const FORMERR: &[u8] = b"\x12\x34\x81\x81\0\x01\0\0\0\0\0\0\x07example\x03com\0\0\x01\0\x01";
 
-const SERVFAIL: &[u8] =
-    b"\x12\x34\x81\x82\0\x01\0\0\0\0\0\0\x07example\x03com\0\0\x01\0\x01";
+const SERVFAIL: &[u8] = b"\x12\x34\x81\x82\0\x01\0\0\0\0\0\0\x07example\x03com\0\0\x01\0\x01";
 
 /// A server that refuses the OPT record is asked again without one, and no attempt is spent.
 #[test]
@@ -195,7 +191,13 @@ arrive from 0 over 0
 take 1
 destroy
 ";
-    assert!(rt; is_told(&run, journal, "serve 0 of 3221226037 at 53\nwait to 2000\nwait to 2003\n"));
+    assert!(rt;
+        is_told(
+            &run,
+            journal,
+            "serve 0 of 3221226037 at 53\nwait to 2000\nwait to 2003\n"
+        )
+    );
     assert!(rt; run.sent.len() == 40 + 29 && run.sent.ends_with(QUERY));
     Ok(())
 }
@@ -218,7 +220,8 @@ arrive from 1 over 0
 take 1
 destroy
 ";
-    let calls = "serve 0 of 3221226037 at 53\nserve 1 of 3221226038 at 53\nwait to 2000\nwait to 2001\n";
+    let calls =
+        "serve 0 of 3221226037 at 53\nserve 1 of 3221226038 at 53\nwait to 2000\nwait to 2001\n";
     assert!(rt; is_told(&run, journal, calls));
     Ok(())
 }
@@ -274,8 +277,7 @@ close 2
 }
 
 /// The query's letters are mixed by the word that is drawn next, 5: those of numbers 0 and 2 are in upper case.
-const MIXED: &[u8] =
-    b"\x12\x34\x01\0\0\x01\0\0\0\0\0\0\x07ExAmple\x03com\0\0\x01\0\x01";
+const MIXED: &[u8] = b"\x12\x34\x01\0\0\x01\0\0\0\0\0\0\x07ExAmple\x03com\0\0\x01\0\x01";
 
 /// A reply that repeats them.
 const MIXED_REPLY: &[u8] =
@@ -305,6 +307,12 @@ arrive from 0 over 0
 take 1
 destroy
 ";
-    assert!(rt; is_told(&run, journal, "serve 0 of 3221226037 at 53\nwait to 2000\nwait to 2000\n"));
+    assert!(rt;
+        is_told(
+            &run,
+            journal,
+            "serve 0 of 3221226037 at 53\nwait to 2000\nwait to 2000\n"
+        )
+    );
     Ok(())
 }

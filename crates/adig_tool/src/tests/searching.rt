@@ -7,10 +7,10 @@ use std::test::Fail;
 const DOMAINS: &[u8] = b"nameserver 192.0.2.53\nsearch a.test b.test\n";
 
 /// What three names are answered, each with response code 3, 0 without a record, and 3 (RFC 1035, section 4.1.1).
-const NO_FIRST: &[u8] =
-    b"\x12\x34\x81\x83\0\x01\0\0\0\0\0\0\x03www\x01a\x04test\0\0\x01\0\x01";
-const EMPTY_SECOND: &[u8] =
-    b"\x12\x34\x81\x80\0\x01\0\0\0\0\0\0\x03www\x01b\x04test\0\0\x01\0\x01";
+const NO_FIRST: &[u8] = b"\x12\x34\x81\x83\0\x01\0\0\0\0\0\0\x03www\x01a\x04test\0\0\x01\0\x01";
+
+const EMPTY_SECOND: &[u8] = b"\x12\x34\x81\x80\0\x01\0\0\0\0\0\0\x03www\x01b\x04test\0\0\x01\0\x01";
+
 const NO_THIRD: &[u8] = b"\x12\x34\x81\x83\0\x01\0\0\0\0\0\0\x03www\0\0\x01\0\x01";
 
 /// The queries for them.
@@ -22,7 +22,11 @@ const QUERIES: &[u8] =
 #[test]
 fn a_search_goes_through_the_domains(rt: HostRuntime) -> Result<(), Fail> {
     let alloc = rt.alloc();
-    let comings = [comes(1, NO_FIRST), comes(2, EMPTY_SECOND), comes(3, NO_THIRD)];
+    let comings = [
+        comes(1, NO_FIRST),
+        comes(2, EMPTY_SECOND),
+        comes(3, NO_THIRD),
+    ];
     let mut wanted = case("--search --no-edns www", &comings);
     wanted.resolv = Some(DOMAINS);
     let run = ran(alloc, &wanted)?;
@@ -81,10 +85,12 @@ fn an_address_is_asked_backwards(rt: HostRuntime) -> Result<(), Fail> {
 1.2.0.192.in-addr.arpa. 60 IN PTR host.test.
 ";
     assert!(rt; is_put(&run, 0, page));
-    assert!(rt; is_told(
-        &run,
-        "accept 1\nstart 1 on 0 over 0 at 0\narrive from 0 over 0\ntake 1\ndestroy\n",
-        "serve 0 of 3221226037 at 53\nwait to 2000\n"
-    ));
+    assert!(rt;
+        is_told(
+            &run,
+            "accept 1\nstart 1 on 0 over 0 at 0\narrive from 0 over 0\ntake 1\ndestroy\n",
+            "serve 0 of 3221226037 at 53\nwait to 2000\n"
+        )
+    );
     Ok(())
 }

@@ -20,7 +20,9 @@ options ndots:99 timeout:0 attempts:77 rotate
 
 /// How many lines of the text begin so.
 fn lines_with(text: &str, front: &str) -> usize {
-    text.split('\n').filter(|line| line.starts_with(front)).count()
+    text.split('\n')
+        .filter(|line| line.starts_with(front))
+        .count()
 }
 
 #[test]
@@ -33,7 +35,11 @@ fn a_file_is_kept_within_the_limits(rt: HostRuntime) -> Result<(), Fail> {
     assert_eq!(rt; lines_with(run.calls.as_str(), "serve "), 8);
     assert_eq!(rt; lines_with(run.journal.as_str(), "start 1 on 7 "), 10);
     assert_eq!(rt; lines_with(run.journal.as_str(), "start "), 80);
-    assert!(rt; run.journal.as_str().starts_with("accept 1\nstart 1 on 0 over 0 at 0\nexpire 1 at 2000\n"));
+    assert!(rt;
+        run.journal
+            .as_str()
+            .starts_with("accept 1\nstart 1 on 0 over 0 at 0\nexpire 1 at 2000\n")
+    );
     Ok(())
 }
 
@@ -120,13 +126,22 @@ fn words_set_the_query(rt: HostRuntime) -> Result<(), Fail> {
 
 /// A truncated reply, and that of a server that failed (RFC 1035, section 4.1.1).
 const TRUNCATED: &[u8] = b"\x12\x34\x83\x80\0\x01\0\0\0\0\0\0\x01x\0\0\x01\0\x01";
+
 const SERVFAIL: &[u8] = b"\x12\x34\x81\x82\0\x01\0\0\0\0\0\0\x01x\0\0\x01\0\x01";
 
 /// Words, what comes at moment 1, and the page's status: a truncated reply may count, and a failed server's too; with
 /// `--primary` the second server isn't asked.
 const COUNTS: [(&str, &[u8], &str); 3] = [
-    ("--no-edns --ignore-tc x", TRUNCATED, ";; x IN A\n;; status 1 ENODATA\n"),
-    ("--no-edns --no-check x", SERVFAIL, ";; x IN A\n;; status 3 ESERVFAIL\n"),
+    (
+        "--no-edns --ignore-tc x",
+        TRUNCATED,
+        ";; x IN A\n;; status 1 ENODATA\n",
+    ),
+    (
+        "--no-edns --no-check x",
+        SERVFAIL,
+        ";; x IN A\n;; status 3 ESERVFAIL\n",
+    ),
     (
         "--no-edns --primary --tries 1 --server 192.0.2.1,192.0.2.2 x",
         SERVFAIL,

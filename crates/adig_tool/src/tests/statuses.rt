@@ -1,6 +1,6 @@
 //! Each exit status, by its number, with the text that is put; 5 is want of memory, which these runs don't meet.
 
-use super::{Scenario, PLAIN, REPLY, case, comes, is_put, is_told, ran};
+use super::{PLAIN, REPLY, Scenario, case, comes, is_put, is_told, ran};
 use std::test::Fail;
 
 /// No words: nothing is called, and nothing is in the journal.
@@ -86,7 +86,13 @@ fn no_turns_is_stalled(rt: HostRuntime) -> Result<(), Fail> {
     wanted.turns = 0;
     let run = ran(alloc, &wanted)?;
     assert!(rt; is_put(&run, 7, "adig: stalled\n"));
-    assert!(rt; is_told(&run, "accept 1\ndestroy\ntake 1\n", "serve 0 of 3221226037 at 53\n"));
+    assert!(rt;
+        is_told(
+            &run,
+            "accept 1\ndestroy\ntake 1\n",
+            "serve 0 of 3221226037 at 53\n"
+        )
+    );
     assert_eq!(rt; run.called, 1);
     Ok(())
 }
@@ -99,7 +105,13 @@ fn onion_is_not_found_without_turns(rt: HostRuntime) -> Result<(), Fail> {
     wanted.turns = 0;
     let run = ran(alloc, &wanted)?;
     assert!(rt; is_put(&run, 1, ";; x.onion IN A\n;; status 4 ENOTFOUND\n"));
-    assert!(rt; is_told(&run, "accept 1\ntake 1\ndestroy\n", "serve 0 of 3221226037 at 53\n"));
+    assert!(rt;
+        is_told(
+            &run,
+            "accept 1\ntake 1\ndestroy\n",
+            "serve 0 of 3221226037 at 53\n"
+        )
+    );
     Ok(())
 }
 
@@ -120,11 +132,19 @@ fn a_label_has_63_bytes(rt: HostRuntime) -> Result<(), Fail> {
     let alloc = rt.alloc();
     let name = "aaaaaaaaaaaaaaaaaaaaaaaaaaaaaaaaaaaaaaaaaaaaaaaaaaaaaaaaaaaaaaaa";
     let run = ran(alloc, &case(name, &[]))?;
-    let page = ";; aaaaaaaaaaaaaaaaaaaaaaaaaaaaaaaaaaaaaaaaaaaaaaaaaaaaaaaaaaaaaaaa IN A\n;; status 8 EBADNAME\n";
+    let page =
+        ";; aaaaaaaaaaaaaaaaaaaaaaaaaaaaaaaaaaaaaaaaaaaaaaaaaaaaaaaaaaaaaaaa IN A\n;; status 8 EBADNAME\n";
     assert!(rt; is_put(&run, 1, page));
-    assert!(rt; is_told(&run, "accept 1\ntake 1\ndestroy\n", "serve 0 of 2130706433 at 53\n"));
+    assert!(rt;
+        is_told(
+            &run,
+            "accept 1\ntake 1\ndestroy\n",
+            "serve 0 of 2130706433 at 53\n"
+        )
+    );
     let run = ran(alloc, &case(&name[1..], &[]))?;
-    let page = ";; aaaaaaaaaaaaaaaaaaaaaaaaaaaaaaaaaaaaaaaaaaaaaaaaaaaaaaaaaaaaaaa IN A\n;; status 12 ETIMEOUT\n";
+    let page =
+        ";; aaaaaaaaaaaaaaaaaaaaaaaaaaaaaaaaaaaaaaaaaaaaaaaaaaaaaaaaaaaaaaa IN A\n;; status 12 ETIMEOUT\n";
     assert!(rt; is_put(&run, 1, page));
     assert!(rt; run.sent.len() == 3 * (12 + 65 + 4 + 11));
     Ok(())

@@ -42,7 +42,8 @@ impl<T: Token> Table<T> {
         make_room(&mut self.entries, self.rows.len(), self.ready.len())?;
         match found {
             None => {
-                self.entries.push_reserved(arrival(seat, server, link, kept));
+                self.entries
+                    .push_reserved(arrival(seat, server, link, kept));
                 Ok(Landed::Stray)
             }
             Some(landing) => {
@@ -54,7 +55,8 @@ impl<T: Token> Table<T> {
                     bytes,
                     most,
                 )?;
-                self.entries.push_reserved(arrival(seat, server, link, kept));
+                self.entries
+                    .push_reserved(arrival(seat, server, link, kept));
                 count_end(&mut self.servers, server, landing.judged);
                 end_row(
                     self.alloc,
