@@ -13,16 +13,16 @@ use Rattle.chan_types.specs.declared.journal.What.TheVariants.{Accept, Arrive, C
 use Rattle.chan_types.specs.declared.script.Script.{Script}
 use Rattle.chan_types.specs.declared.spec.Spec.{Spec}
 use Rattle.channel_model.specs.AtOnce.{at_once}
-use Rattle.channel_model.specs.Completion.{completed_by, completions, fate, is_open, occurrences, pending, ready, requests, taken, taken_by}
-use Rattle.channel_model.specs.Journal.{Accepted, Past, accepted, accepted_by, followed_by, past_of, spec_of}
-use Rattle.channel_model.specs.Lawful.{IsLawful, IsLawfulPast}
+use Rattle.channel_model.specs.Completion.{completed_by, completions, fate, is_open, occurrences, pending, ready, requests, taken}
+use Rattle.channel_model.specs.Journal.{Accepted, Past, accepted, accepted_by, followed_by, spec_of}
+use Rattle.channel_model.specs.Lawful.{IsLawfulPast}
 use Rattle.channel_model.specs.Search.{answer_of_search, search_answer}
 use Rattle.channel_model.specs.Setting.{Setting}
 use Rattle.channel_model.proofs.Theorems.{completes_once, taken_then_ready}
 use Rattle.adig_tool.specs.Session.{first_request}
 use Rattle.adig_tool.specs.SessionParts.{take_entry}
 use Rattle.adig_tool.proofs.FateLemmas.{fate_later}
-use Rattle.adig_tool.proofs.ListLemmas.{heads, one_at_most, one_or_none, tails}
+use Rattle.adig_tool.proofs.ListLemmas.{heads, one_at_most, tails}
 
 -- the request was accepted
 abbrev pub IsKnown : ℕ → Past → Type 0

@@ -8,6 +8,8 @@ pub mod ClosingLemmas
 pub mod WholeLemmas
 pub mod CalledLemmas
 pub mod ObeyedLemmas
-pub mod OutputLemmas
 pub mod PromiseLemmas
 pub mod RunningLemmas
+pub mod ReplyLemmas
+pub mod ExchangeLemmas
+pub mod AnsweredLemmas

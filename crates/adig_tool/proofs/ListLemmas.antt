@@ -1,6 +1,6 @@
 -- Tests of lists, and lists of one item at most.
-use Rattle.std.proofs.Common.{◌≡◌, ℕ, ◌+◌, ◌&&◌, not, List, [], ◌∷◌, ◌++◌, length, take, refl, ap, Bool, true, false, if◌then◌else◌, inl, inr}
-use Rattle.std.specs.Prelude.{Option, Some, None, option_to_list, filter, ◌⊎◌}
+use Rattle.std.proofs.Common.{◌≡◌, ◌&&◌, not, List, [], ◌∷◌, ◌++◌, length, take, refl, ap, Bool, true, false, inl, inr}
+use Rattle.std.specs.Prelude.{Option, Some, None, option_to_list, ◌⊎◌}
 use Rattle.std.specs.List.{list_all, cons_option}
 use mathlib.Core.List.{IsPrefix}
 

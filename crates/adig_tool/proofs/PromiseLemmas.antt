@@ -1,5 +1,5 @@
 -- From the parts of a run to what the whole of it promises.
-use Rattle.std.proofs.Common.{◌≡◌, ◌≢◌, ℕ, ◌==◌, ◌&&◌, not, List, [], ◌∷◌, ◌++◌, length, refl, sym, ap, subst, ◌∙◌, map, Bool, true, false, inl, inr, arith, eq-eqb}
+use Rattle.std.proofs.Common.{◌≡◌, ◌≢◌, ℕ, ◌==◌, not, List, [], ◌∷◌, ◌++◌, length, refl, sym, ap, subst, ◌∙◌, map, Bool, true, false, inl, inr, arith}
 use Rattle.std.specs.Prelude.{Err, None, Ok, Option, Result, Some, filter_map, ◌*◌, ◌+◌, ◌||◌, ◌⊎◌, ◌≤◌}
 use Rattle.std.specs.List.{AllByRecursion, list_all, list_any}
 use Rattle.std.proofs.lemmas.List.{append-nil}
@@ -35,7 +35,7 @@ use Rattle.tool_line.specs.Words.{Text}
 use Rattle.tool_line.specs.declared.ending.Exit.{Exit}
 use Rattle.tool_line.specs.declared.ending.Exit.TheVariants.{Failure, OutOfMemory, Stalled as HasStalled, Success, WaitFault as FailedWait}
 use Rattle.adig_tool.specs.Closing.{Closes}
-use Rattle.adig_tool.specs.Ends.{IsEndOf, fresh}
+use Rattle.adig_tool.specs.Ends.{IsEndOf}
 use Rattle.adig_tool.specs.Entries.{closing, is_own, is_steady, no_orders}
 use Rattle.adig_tool.specs.Outside.{Outside, OutputTold}
 use Rattle.adig_tool.specs.Output.{IsPut, PutsText, page_for, text_at}
@@ -48,7 +48,7 @@ use Rattle.adig_tool.proofs.CalledLemmas.{called_then, numbers_of, taken_all, ta
 use Rattle.adig_tool.proofs.ClosingLemmas.{past_on}
 use Rattle.adig_tool.proofs.ListLemmas.{all_pass, first_passes, one_at_most, three_hold}
 use Rattle.adig_tool.proofs.ObeyedLemmas.{obeyed}
-use Rattle.adig_tool.proofs.WholeLemmas.{closing_at, is_kept, kept_open, no_turn, takes_no_turn, whole, whole_accepted, whole_closed, whole_own}
+use Rattle.adig_tool.proofs.WholeLemmas.{closing_at, is_kept, kept_open, no_turn, whole, whole_accepted, whole_closed, whole_own}
 
 -- ---- entries of a session
 
@@ -422,7 +422,7 @@ nothing_called setting turns =
     }
 
 -- a log that nothing was added to
-log_same : (P : List WorldCall → Type 0) → P [] → (log : Option (List WorldCall)) → LogGets P log log
+pub log_same : (P : List WorldCall → Type 0) → P [] → (log : Option (List WorldCall)) → LogGets P log log
 log_same P holds None = refl
 log_same P holds (Some log) = ([], ap Some (sym (append-nil log)), holds)
 

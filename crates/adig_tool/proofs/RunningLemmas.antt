@@ -1,5 +1,5 @@
 -- How a run comes to its promise: by its words, and by the file that it reads.
-use Rattle.std.proofs.Common.{◌≡◌, ◌≢◌, ℕ, ◌<◌, ◌≤◌, List, [], ◌∷◌, length, refl, sym, ap, subst, ◌∙◌, inl, inr, arith, ltb-true, ltb-false}
+use Rattle.std.proofs.Common.{◌≡◌, ◌≢◌, ℕ, List, [], length, refl, sym, ap, subst, ◌∙◌, inr, arith, ltb-true, ltb-false}
 use Rattle.std.specs.Prelude.{Bool, Err, None, Ok, Option, Result, Some, false, nat_lt, true}
 use Rattle.std.specs.String.{string_bytes}
 use Rattle.item_list.specs.declared.no_memory.NoMemory.{NoMemory}
@@ -21,7 +21,7 @@ use Rattle.tool_line.specs.declared.ending.Exit.TheVariants.{FileFault}
 use Rattle.tool_line.specs.declared.files.FileFault.{FileFault as FaultOfFile}
 use Rattle.tool_line.specs.declared.files.FileFault.TheVariants.{Failed, NoMemory as NoMemoryLeft, TooLarge}
 use Rattle.adig_tool.specs.Outside.{FilesTold, Outside}
-use Rattle.adig_tool.specs.Running.{Comes, EndsEarly, ForWords, IsRunFor, setting_with}
+use Rattle.adig_tool.specs.Running.{Comes, EndsEarly, IsRunFor, setting_with}
 use Rattle.adig_tool.specs.declared.ended.Ended.{Ended}
 use Rattle.adig_tool.proofs.PromiseLemmas.{promise_early}
 

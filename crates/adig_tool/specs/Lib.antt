@@ -7,3 +7,4 @@ pub mod Closing
 pub mod Promise
 pub mod Running
 pub mod Ends
+pub mod Answered

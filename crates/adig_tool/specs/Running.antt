@@ -1,5 +1,5 @@
 -- How a run comes to its promise: by its words, and by the resolv.conf that it reads.
-use Rattle.std.specs.Prelude.{List, Result, Ok, Err, [], ℕ, ◌≡◌, ◌≤◌}
+use Rattle.std.specs.Prelude.{List, Result, Ok, Err, [], ℕ, ◌≡◌}
 use Rattle.std.specs.String.{string_bytes}
 use Rattle.net_world.specs.Cause.{Rose}
 use Rattle.net_world.specs.Files.{IsReadOf}

@@ -2,6 +2,8 @@
 
 ghost use Rattle.std.specs.Prelude.{◌≡◌, map};
 ghost use Rattle.tool_line.specs.declared.ending.Exit.TheVariants.{Usage};
+ghost use Rattle.event_runner.specs.UnderWay.{LogGets};
+ghost use Rattle.adig_tool.specs.Answered.{AreAnswered};
 ghost use Rattle.adig_tool.specs.Outside.{files_told, outside};
 ghost use Rattle.adig_tool.specs.Running.{AreRefused, EndsEarly, ForWords, IsRunFor};
 
@@ -31,6 +33,10 @@ pub fn run<W: World, F: Files, K: Sink>(
         (files_told (F.files files.old) (F.faults files.old)) (files_told (F.files files.new) (F.faults files.new))
         (outside (W.log world.old) (W.wait_faults world.old) (K.bytes sink.old) (K.faults sink.old))
         (outside (W.log world.new) (W.wait_faults world.new) (K.bytes sink.new) (K.faults sink.new))) }
+
+    // Where the network tells its calls, and they begin no TCP link, an answer with a message is a reply to a query of this run.
+    ensures answered { ForWords (map (λ word. word.now) words.now) (λ asked. LogGets
+        (AreAnswered asked.spec result.status result.calls) (W.log world.old) (W.log world.new)) }
 
     // The files stay as they are.
     ensures files { F.files files.new ≡ F.files files.old }
