@@ -1,0 +1,197 @@
+-- How a pass goes on by calls and deliveries: what it saw, made, took and told.
+use Rattle.std.proofs.Common.{◌≡◌, ◌∙◌, ℕ, ◌==◌, List, [], ◌∷◌, ◌++◌, Some, None, map, refl, ap, ap₂, sym, subst, append_assoc}
+use Rattle.std.proofs.lemmas.List.{append-nil, map-append}
+use Rattle.std.proofs.lemmas.List.Elements.{filter-append}
+use Rattle.std.specs.List.{AllByRecursion}
+use Rattle.std.specs.Prelude.{Bool, true, false}
+use mathlib.Core.List.{IsPrefix}
+use Rattle.chan_types.specs.declared.answer.Answer.{Answer}
+use Rattle.chan_types.specs.declared.journal.Entry.{Entry}
+use Rattle.chan_types.specs.declared.journal.What.{What}
+use Rattle.chan_types.specs.declared.journal.What.TheVariants.{Accept, Arrive, Cancel, Destroy, Expire, Fault, Servers, Start, Take}
+use Rattle.chan_types.specs.declared.orders.Orders.{Orders}
+use Rattle.chan_types.specs.declared.ticket.Ticket.{Ticket}
+use Rattle.channel_model.specs.Completion.{fate}
+use Rattle.channel_model.specs.Journal.{Past, followed_by, own_entries, past_of}
+use Rattle.channel_model.specs.Known.{Calls}
+use Rattle.channel_model.specs.Lawful.{IsLawful}
+use Rattle.channel_model.specs.Meanings.{Destroys, Meaning, Takes}
+use Rattle.channel_model.specs.Seen.{entries_of}
+use Rattle.channel_model.specs.Setting.{Setting}
+use Rattle.channel_model.proofs.Theorems.{calls_stretch, fate-one, own-others, past_of-prefix}
+use Rattle.completion_ticket.specs.States.{CallbackState, CalledState}
+use Rattle.shared_channel.specs.Finishing.{DeliversAll, DeliversSome}
+use Rattle.shared_channel.specs.Passes.{PassView, desk_of}
+use Rattle.shared_channel.specs.Performing.{IsOfCommand}
+use Rattle.shared_channel.specs.Settling.{IsFateSeen, taken_in}
+use Rattle.shared_channel.specs.Spending.{DeliversOne}
+use Rattle.shared_channel.specs.Under.{plan_of}
+use Rattle.shared_channel.proofs.CountingLemmas.{taken_in-append}
+use Rattle.shared_channel.proofs.PerformLemmas.{added_own, rest_of}
+
+-- a fate stays in a longer journal
+pub fate_later : (setting : Setting) (request : ℕ) (answer : Answer) (journal longer : List Entry) → IsPrefix journal longer → fate setting request (past_of journal) ≡ Some answer → fate setting request (past_of longer) ≡ Some answer
+fate_later setting request answer journal longer p is = subst (λ past. fate setting request past ≡ Some answer) (sym (past_of-prefix journal longer p)) (later (past_of journal) p.0 is)
+  where
+    later : (past : Past) (entries : List Entry) → fate setting request past ≡ Some answer → fate setting request (followed_by past entries) ≡ Some answer
+    later past [] at = at
+    later past (e ∷ es) at = later (e.what ∷ past) es (fate-one setting request answer e.what past at)
+
+-- from one moment to another a pass saw more, made entries, and told the answers of exactly what it took
+pub record WentOn (old new : PassView) : Type 0 where
+  pub since : List Entry
+  pub seen : new.seen ≡ old.seen ++ since
+  pub own : new.own ≡ old.own ++ own_entries old.number since
+  pub told : List Answer
+  pub calls : new.calls ≡ old.calls ++ told
+  pub numbers : map (λ (answer : Answer). answer.number) told ≡ taken_in (own_entries old.number since)
+  pub fates : AllByRecursion (IsFateSeen new) told
+  pub lawful : IsLawful old.setting old.seen → IsLawful new.setting new.seen
+  pub rest : new ≡ record old { own = new.own; seen = new.seen; calls = new.calls; lost = new.lost }
+
+pub went_none : (pass : PassView) → WentOn pass pass
+went_none pass = record {
+  since = [];
+  seen = sym (append-nil pass.seen);
+  own = sym (append-nil pass.own);
+  told = [];
+  calls = sym (append-nil pass.calls);
+  numbers = refl;
+  fates = tt;
+  lawful = λ was. was;
+  rest = refl;
+}
+
+-- what a pass saw as fates it still does
+pub fates_later : (old new : PassView) → IsPrefix old.seen new.seen → new.setting ≡ old.setting → (answers : List Answer) → AllByRecursion (IsFateSeen old) answers → AllByRecursion (IsFateSeen new) answers
+fates_later old new p same [] each = tt
+fates_later old new p same (a ∷ bs) each =
+    (subst (λ s. fate s a.number (past_of new.seen) ≡ Some a) (sym same) (fate_later old.setting a.number a old.seen new.seen p each.0), fates_later old new p same bs each.1)
+
+pub each_append : {A : Type 0} (P : A → Type 0) (xs ys : List A) → AllByRecursion P xs → AllByRecursion P ys → AllByRecursion P (xs ++ ys)
+each_append P [] ys each more = more
+each_append P (x ∷ xs) ys each more = (each.0, each_append P xs ys each.1 more)
+
+pub went_on : (old middle new : PassView) → WentOn old middle → WentOn middle new → WentOn old new
+went_on old middle new first more =
+    let number_is : middle.number ≡ old.number = ap (λ p. p.number) first.rest in
+    let setting_is : new.setting ≡ middle.setting = ap (λ p. p.setting) more.rest in
+    let seat_more : own_entries middle.number more.since ≡ own_entries old.number more.since = ap (λ n. own_entries n more.since) number_is in
+    let own_more : own_entries old.number (first.since ++ more.since) ≡ own_entries old.number first.since ++ own_entries old.number more.since =
+    filter-append (λ (entry : Entry). entry.seat == old.number) first.since more.since in
+    record {
+      since = first.since ++ more.since;
+      seen = more.seen ∙ ap (λ h. h ++ more.since) first.seen ∙ append_assoc old.seen first.since more.since;
+      own = more.own ∙ ap (λ es. middle.own ++ es) seat_more ∙ ap (λ es. es ++ own_entries old.number more.since) first.own
+          ∙ append_assoc old.own (own_entries old.number first.since) (own_entries old.number more.since) ∙ ap (λ es. old.own ++ es) (sym own_more);
+      told = first.told ++ more.told;
+      calls = more.calls ∙ ap (λ cs. cs ++ more.told) first.calls ∙ append_assoc old.calls first.told more.told;
+      numbers = map-append (λ (answer : Answer). answer.number) first.told more.told ∙ ap₂ (λ xs ys. xs ++ ys) first.numbers (more.numbers ∙ ap taken_in seat_more)
+          ∙ sym (ap taken_in own_more ∙ taken_in-append (own_entries old.number first.since) (own_entries old.number more.since));
+      fates = each_append (IsFateSeen new) first.told more.told (fates_later middle new (more.since, sym more.seen) setting_is first.told first.fates) more.fates;
+      lawful = λ was. more.lawful (first.lawful was);
+      rest = more.rest ∙ ap (λ (p : PassView). record p { own = new.own; seen = new.seen; calls = new.calls; lost = new.lost }) first.rest;
+    }
+
+-- by a call that takes nothing
+pub went_call : (meaning : Meaning) (by : ℕ) (old new : PassView) (call : Calls meaning by (desk_of old) (desk_of new)) → taken_in (entries_of old.number by call.added) ≡ [] → WentOn old new
+went_call meaning by old new call none =
+    let added : List Entry = entries_of old.number by call.added in
+    let stretch = calls_stretch meaning by (desk_of old) (desk_of new) call in
+    let rest = rest_of old new call.desk in
+    let mine : own_entries old.number (call.stands.others ++ added) ≡ added =
+    filter-append (λ (entry : Entry). entry.seat == old.number) call.stands.others added ∙ ap₂ (λ xs ys. xs ++ ys) (own-others old.number call.stands.others call.stands.by_others) (added_own old.number by call.added) in
+    record {
+      since = call.stands.others ++ added;
+      seen = stretch.0;
+      own = stretch.1;
+      told = [];
+      calls = ap (λ p. p.calls) rest ∙ sym (append-nil old.calls);
+      numbers = sym (ap taken_in mine ∙ none);
+      fates = tt;
+      lawful = λ _. call.lawful;
+      rest = rest ∙ (λ i. record old { own = new.own; seen = new.seen; calls = sym (ap (λ p. p.calls) rest) i; lost = sym (ap (λ p. p.lost) rest) i });
+    }
+
+-- entries of commands take nothing
+none_taken : (by : ℕ) (entries : List Entry) → AllByRecursion (λ (entry : Entry). (entry.by ≡ by) × IsOfCommand entry.what) entries → taken_in entries ≡ []
+none_taken by [] each = refl
+none_taken by (e ∷ es) each = by_what e.what refl each.0.1 (none_taken by es each.1)
+  where
+    by_what : (what : What) → e.what ≡ what → IsOfCommand what → taken_in es ≡ [] → taken_in (e ∷ es) ≡ []
+    by_what (Accept number spec script) is of_command rest = rw is rest
+    by_what Cancel is of_command rest = rw is rest
+    by_what Destroy is of_command rest = rw is rest
+    by_what (Take number) is of_command rest = absurd of_command
+    by_what (Start number leg server link id mix moment) is of_command rest = absurd of_command
+    by_what (Arrive server link bytes) is of_command rest = absurd of_command
+    by_what (Expire number leg moment) is of_command rest = absurd of_command
+    by_what (Fault server link moment) is of_command rest = absurd of_command
+    by_what (Servers list) is of_command rest = absurd of_command
+
+-- by a delivery
+pub went_delivery : (orders : Orders) (called : CalledState) (old new : PassView) → DeliversOne orders old (Some called) new → WentOn old new
+went_delivery orders called old new delivers =
+    let ticket : Ticket CallbackState = delivers.0 in
+    let middle : PassView = delivers.1 in
+    let call = delivers.2 in
+    let spends = delivers.3 in
+    let done = spends.performed in
+    let added : List Entry = entries_of old.number 0 call.added in
+    let stretch = calls_stretch (Takes plan_of (Some ticket)) 0 (desk_of old) (desk_of middle) call in
+    let first = rest_of old middle call.desk in
+    let number_is : middle.number ≡ old.number = ap (λ p. p.number) first in
+    let more : List Entry = own_entries old.number done.since in
+    let more_is : own_entries middle.number done.since ≡ more = ap (λ n. own_entries n done.since) number_is in
+    let since : List Entry = (call.stands.others ++ added) ++ done.since in
+    let mine : own_entries old.number since ≡ added ++ more =
+    filter-append (λ (entry : Entry). entry.seat == old.number) (call.stands.others ++ added) done.since
+    ∙ ap (λ es. es ++ more) (filter-append (λ (entry : Entry). entry.seat == old.number) call.stands.others added ∙ ap₂ (λ xs ys. xs ++ ys) (own-others old.number call.stands.others call.stands.by_others) (added_own old.number 0 call.added)) in
+    let seen_is : new.seen ≡ old.seen ++ since = done.seen ∙ ap (λ h. h ++ done.since) stretch.0 ∙ append_assoc old.seen (call.stands.others ++ added) done.since in
+    let behind : new.seen ≡ call.here ++ (added ++ done.since) = done.seen ∙ ap (λ h. h ++ done.since) call.seen ∙ append_assoc call.here added done.since in
+    let setting_is : new.setting ≡ old.setting = ap (λ p. p.setting) done.rest ∙ ap (λ p. p.setting) first in
+    record {
+      since = since;
+      seen = seen_is;
+      own = done.own ∙ ap₂ (λ xs ys. xs ++ ys) call.own more_is ∙ append_assoc old.own added more ∙ ap (λ es. old.own ++ es) (sym mine);
+      told = ticket.call ∷ [];
+      calls = spends.calls ∙ ap (λ cs. cs ++ ticket.call ∷ []) (ap (λ p. p.calls) first);
+      numbers = sym (ap taken_in mine ∙ taken_in-append added more
+          ∙ ap₂ (λ xs ys. xs ++ ys) (ap (λ a. taken_in (entries_of old.number 0 a)) call.meant.0) (ap taken_in (sym more_is) ∙ none_taken ticket.call.number (own_entries middle.number done.since) done.commanded));
+      fates = (subst (λ s. fate s ticket.call.number (past_of new.seen) ≡ Some ticket.call) (sym setting_is) (fate_later old.setting ticket.call.number ticket.call call.here new.seen (added ++ done.since, sym behind) call.meant.2), tt);
+      lawful = λ was. done.lawful (call.lawful);
+      rest = done.rest ∙ ap (λ (p : PassView). record p { own = new.own; seen = new.seen; calls = new.calls; lost = new.lost }) first;
+    }
+
+-- by several deliveries, and by one that finds nothing ready
+pub went_deliveries : (orders : Orders) (calleds : List CalledState) (old new : PassView) → DeliversSome orders old calleds new → WentOn old new
+went_deliveries orders [] old new same = subst (WentOn old) (sym same) (went_none old)
+went_deliveries orders (c ∷ cs) old new some = went_on old some.0 new (went_delivery orders c old some.0 some.1) (went_deliveries orders cs some.0 new some.2)
+
+pub went_all : (orders : Orders) (old new : PassView) → DeliversAll orders old new → WentOn old new
+went_all orders old new all =
+    went_on old all.middle new (went_deliveries orders all.called old all.middle all.some)
+    (went_call (Takes plan_of None) 0 all.middle new all.none (ap (λ a. taken_in (entries_of all.middle.number 0 a)) all.none.meant.0))
+
+pub went_destroy : (is_first : Bool) (old new : PassView) → Calls (Destroys is_first) 0 (desk_of old) (desk_of new) → WentOn old new
+went_destroy true old new call = went_call (Destroys true) 0 old new call (ap (λ a. taken_in (entries_of old.number 0 a)) call.meant.entry)
+went_destroy false old new call = went_call (Destroys false) 0 old new call (ap (λ a. taken_in (entries_of old.number 0 a)) call.meant.entry)
+
+-- one more delivery behind several
+pub delivers_more : (orders : Orders) (calleds : List CalledState) (called : CalledState) (old middle new : PassView) → DeliversSome orders old calleds middle → DeliversOne orders middle (Some called) new → DeliversSome orders old (calleds ++ called ∷ []) new
+delivers_more orders [] called old middle new same one = (new, subst (λ p. DeliversOne orders p (Some called) new) same one, refl)
+delivers_more orders (c ∷ cs) called old middle new some one = (some.0, some.1, delivers_more orders cs called some.0 middle new some.2 one)
+
+-- so far these were delivered
+pub record HasDelivered (orders : Orders) (old new : PassView) : Type 0 where
+  pub called : List CalledState
+  pub some : DeliversSome orders old called new
+
+pub none_delivered : (orders : Orders) (pass : PassView) → HasDelivered orders pass pass
+none_delivered orders pass = record { called = []; some = refl }
+
+pub one_delivered : (orders : Orders) (called : CalledState) (old middle new : PassView) → HasDelivered orders old middle → DeliversOne orders middle (Some called) new → HasDelivered orders old new
+one_delivered orders called old middle new has one = record { called = has.called ++ called ∷ []; some = delivers_more orders has.called called old middle new has.some one }
+
+pub all_delivered : (orders : Orders) (old middle new : PassView) → HasDelivered orders old middle → DeliversOne orders middle None new → DeliversAll orders old new
+all_delivered orders old middle new has none = record { called = has.called; middle = middle; some = has.some; none = none }

@@ -1,0 +1,120 @@
+-- How passes are joined from the last to the first.
+use Rattle.std.proofs.Common.{◌≡◌, ◌∙◌, ◌<◌, ℕ, ◌+◌, ◌-◌, ◌^◌, List, [], ◌∷◌, ◌++◌, map, refl, ap, ap₂, sym, subst, arith, append_assoc}
+use Rattle.std.proofs.lemmas.List.{append-nil}
+use Rattle.std.proofs.lemmas.List.Concat.{flat_map-cons}
+use Rattle.std.proofs.lemmas.List.Sums.{sum_by-cons}
+use Rattle.std.specs.List.{AllByRecursion}
+use Rattle.std.specs.Prelude.{IsSome, min, sum_by}
+use mathlib.Core.List.{IsPrefix}
+use Rattle.atomic_table.specs.Seated.{TableId}
+use Rattle.chan_types.specs.declared.answer.Answer.{Answer}
+use Rattle.chan_types.specs.declared.journal.Entry.{Entry}
+use Rattle.hosts_file.specs.declared.hosts.Hosts.{Hosts}
+use Rattle.resolv_options.specs.declared.options.Options.{Options}
+use Rattle.seat_lock.specs.History.{IsJoin, SeatView}
+use Rattle.shared_channel.specs.Finishing.{IsAlone, IsJoined, JoinsPass, left_by_pass, share_left, share_of}
+use Rattle.shared_channel.specs.Passes.{PassView, pass_of, the}
+use Rattle.shared_channel.specs.Under.{setting_by}
+use Rattle.shared_channel.proofs.Telling.{the_same}
+
+abbrev Both : Type 0
+Both = Options × Hosts
+
+pub prefix_trans : {A : Type 0} (xs ys zs : List A) → IsPrefix xs ys → IsPrefix ys zs → IsPrefix xs zs
+prefix_trans xs ys zs p q = (p.0 ++ q.0, sym (append_assoc xs p.0 q.0) ∙ (ap (λ l. l ++ q.0) p.1 ∙ q.1))
+
+-- a join of seats joins the passes that have them
+pub joins_pass : (left right now : SeatView Entry Both) (p : IsSome left.setting) (q : IsSome right.setting) (r : IsSome now.setting) (calls more : List Answer) (lost further : ℕ) → IsJoin left right now
+    → JoinsPass (pass_of left p calls lost) (pass_of right q more further) (pass_of now r (calls ++ more) (min (lost + further) (2 ^ 64 - 1)))
+joins_pass left right now p q r calls more lost further join =
+    let same : the now.setting r ≡ the left.setting p = the_same left.setting now.setting p r (ap (λ k. k.setting) join.rest) in
+    record {
+      seen_left = join.seen_left;
+      seen_right = join.seen_right;
+      joined = join.joined;
+      calls = refl;
+      lost = refl;
+      rest = λ i. record {
+        lock = (join.rest i).lock;
+        seats = (join.rest i).seats;
+        number = (join.rest i).number;
+        setting = setting_by (same i);
+        own = (join.rest i).own;
+        seen = now.seen;
+        joined = now.joined;
+        calls = calls ++ more;
+        lost = min (lost + further) (2 ^ 64 - 1);
+      };
+    }
+
+-- the same, where the passes and what they told and lost are named
+pub joined_accounts : (left right now : SeatView Entry Both) (p : IsSome left.setting) (q : IsSome right.setting) (r : IsSome now.setting) (calls more calls_now : List Answer) (lost further lost_now : ℕ) (l k : PassView) → pass_of left p calls lost ≡ l → pass_of right q more further ≡ k
+    → calls_now ≡ calls ++ more → lost_now ≡ min (lost + further) (2 ^ 64 - 1) → IsJoin left right now → JoinsPass l k (pass_of now r calls_now lost_now)
+joined_accounts left right now p q r calls more calls_now lost further lost_now l k left_is right_is calls_is lost_is join =
+    subst (λ (x : PassView). JoinsPass x k (pass_of now r calls_now lost_now)) left_is (subst (λ (y : PassView). JoinsPass (pass_of left p calls lost) y (pass_of now r calls_now lost_now)) right_is
+    (subst (λ (cs : List Answer). JoinsPass (pass_of left p calls lost) (pass_of right q more further) (pass_of now r cs lost_now)) (sym calls_is)
+    (subst (λ (n : ℕ). JoinsPass (pass_of left p calls lost) (pass_of right q more further) (pass_of now r (calls ++ more) n)) (sym lost_is) (joins_pass left right now p q r calls more lost further join))))
+
+-- one pass alone
+pub joined_one : (lock : TableId) (pass : PassView) → pass.lost < 2 ^ 64 → IsAlone lock pass → IsJoined (pass ∷ []) pass
+joined_one lock pass few alone = record {
+  first = refl;
+  shares = ap (λ js. share_of pass ∷ map share_left js) alone.1;
+  seen = (([], append-nil pass.seen), tt);
+  calls = sym (flat_map-cons (λ (p : PassView). p.calls) pass [] ∙ append-nil pass.calls);
+  lost = omega (arith, few, sum_by-cons (λ (p : PassView). p.lost) pass []);
+}
+
+-- and one more before those that are joined
+pub joined_more : (lock : TableId) (next : PassView) (rest : List PassView) (all now : PassView) → IsAlone lock next → IsJoined rest all → JoinsPass next all now → IsJoined (next ∷ rest) now
+joined_more lock next rest all now alone joined joins = record {
+  first = joins.rest;
+  shares = ap₂ (λ s js. s ∷ map share_left js) (ap share_of joins.rest) (joins.joined ∙ ap (λ js. js ++ left_by_pass all ∷ all.joined) alone.1) ∙ ap (λ ss. share_of next ∷ ss) joined.shares;
+  seen = (joins.seen_left, each_prefix rest joined.seen);
+  calls = joins.calls ∙ ap (λ cs. next.calls ++ cs) joined.calls ∙ sym (flat_map-cons (λ (p : PassView). p.calls) next rest);
+  lost = joins.lost ∙ ap (λ n. min (next.lost + n) (2 ^ 64 - 1)) joined.lost ∙ capped next.lost (sum_by (λ (p : PassView). p.lost) rest)
+      ∙ ap (λ n. min n (2 ^ 64 - 1)) (sym (sum_by-cons (λ (p : PassView). p.lost) next rest));
+}
+  where
+    each_prefix : (ps : List PassView) → AllByRecursion (λ (p : PassView). IsPrefix p.seen all.seen) ps → AllByRecursion (λ (p : PassView). IsPrefix p.seen now.seen) ps
+    each_prefix [] each = tt
+    each_prefix (p ∷ ps) each = (prefix_trans p.seen all.seen now.seen each.0 joins.seen_right, each_prefix ps each.1)
+
+    capped : (a b : ℕ) → min (a + min b (2 ^ 64 - 1)) (2 ^ 64 - 1) ≡ min (a + b) (2 ^ 64 - 1)
+    capped a b = omega arith
+
+-- the row of passes that are left, and those that are joined already
+pub record HasJoined (lock : TableId) (passes left : List PassView) (all : PassView) : Type 0 where
+  pub rest : List PassView
+  pub parts : passes ≡ left ++ rest
+  pub joined : IsJoined rest all
+  pub lock_is : all.lock ≡ lock
+  pub alone : AllByRecursion (IsAlone lock) left
+
+-- what holds of each in two rows
+first_of : {A : Type 0} (P : A → Type 0) (xs : List A) (x : A) → AllByRecursion P (xs ++ x ∷ []) → AllByRecursion P xs × P x
+first_of P [] x each = (tt, each.0)
+first_of P (y ∷ ys) x each = let more = first_of P ys x each.1 in ((each.0, more.0), more.1)
+
+pub joins_begin : (lock : TableId) (passes front : List PassView) (last : PassView) → passes ≡ front ++ last ∷ [] → last.lost < 2 ^ 64 → AllByRecursion (IsAlone lock) passes → HasJoined lock passes front last
+joins_begin lock passes front last is few each =
+    let parts = first_of (IsAlone lock) front last (subst (AllByRecursion (IsAlone lock)) is each) in
+    record { rest = last ∷ []; parts = is; joined = joined_one lock last few parts.1; lock_is = parts.1.0; alone = parts.0 }
+
+pub joins_go_on : (lock : TableId) (passes left front : List PassView) (next all now : PassView) → left ≡ front ++ next ∷ [] → HasJoined lock passes left all → JoinsPass next all now → HasJoined lock passes front now
+joins_go_on lock passes left front next all now is has joins =
+    let parts = first_of (IsAlone lock) front next (subst (AllByRecursion (IsAlone lock)) is has.alone) in
+    record {
+      rest = next ∷ has.rest;
+      parts = has.parts ∙ ap (λ l. l ++ has.rest) is ∙ append_assoc front (next ∷ []) has.rest;
+      joined = joined_more lock next has.rest all now parts.1 has.joined joins;
+      lock_is = ap (λ p. p.lock) joins.rest ∙ parts.1.0;
+      alone = parts.0;
+    }
+
+pub joins_end : (lock : TableId) (passes : List PassView) (all : PassView) → HasJoined lock passes [] all → IsJoined passes all
+joins_end lock passes all has = subst (λ ps. IsJoined ps all) (sym has.parts) has.joined
+
+-- the next pass of a row that is left is at the lock
+pub next_at : (lock : TableId) (left front : List PassView) (next : PassView) → left ≡ front ++ next ∷ [] → AllByRecursion (IsAlone lock) left → next.lock ≡ lock
+next_at lock left front next is each = (first_of (IsAlone lock) front next (subst (AllByRecursion (IsAlone lock)) is each)).1.0

@@ -1,0 +1,9 @@
+pub mod Under
+pub mod Passes
+pub mod Turns
+pub mod Making
+pub mod Performing
+pub mod Spending
+pub mod Settling
+pub mod Finishing
+pub mod Staying

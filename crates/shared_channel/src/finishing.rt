@@ -1,0 +1,147 @@
+//! The end of a shared channel.
+
+ghost use Rattle.std.specs.List.{AllByRecursion};
+ghost use Rattle.std.specs.Prelude.{◌≡◌, ◌<◌, ◌≤◌, length, option_to_list};
+ghost use Rattle.channel_model.specs.Journal.{accepted, accepted_by, past_of};
+ghost use Rattle.shared_channel.specs.Finishing.{AreAllPasses, DeliversAll, Finishes, IsAlone, IsJoined, JoinsPass};
+ghost use Rattle.shared_channel.specs.Settling.{AreSettled};
+
+use crate::account::Account;
+use crate::channel::Channel;
+use crate::pass::Pass;
+use crate::place::Place;
+use crate::spending::deliver_one;
+use crate::state::{ChannelLock, SharedTable};
+use chan_types::{Calls, Entry, Journal, Orders, What};
+use channel_model::Desk;
+use completion_ticket::Done;
+use std::sync::Wait;
+
+/// What is left of a channel: how many requests it accepted, its journal, the answers that were told, and how many
+/// requests that callbacks asked were lost.
+#[derive(Drop)]
+pub struct Finished {
+    pub accepted: u64,
+    pub journal: Journal,
+    pub calls: Calls,
+    pub lost: u64,
+}
+
+/// Ends a channel: joins all passes into the first, destroys the channel, delivers all that is ready through that pass,
+/// and takes the channel apart. It takes no memory, but for the requests that callbacks ask.
+pub fn finish<B: Done + Drop, R: Wait>(
+    rt: &R,
+    channel: Channel<B>,
+    passes: Vec<Pass<B>>,
+    orders: Orders,
+) -> Finished
+    requires all { AreAllPasses channel passes.items }
+    requires settled { AreSettled passes.items }
+    ensures { Finishes orders passes.items result }
+{
+    let Channel { lock } = channel;
+    let all = join_all(&lock, passes);
+    let mut place = Place::at(rt, &lock, all);
+    place.destroy();
+    deliver_all(rt, &mut place, orders);
+    let Pass { account, .. } = place.leave();
+    let Account { seat, calls, lost } = account;
+    let SharedTable { table } = lock.close(seat);
+    let journal = Box::into_inner(table).close();
+    let accepted = accepted_count(journal.entries());
+    Finished {
+        accepted,
+        journal,
+        calls,
+        lost,
+    }
+}
+
+/// Joins all passes into the first.
+fn join_all<B: Done + Drop>(lock: &ChannelLock<B>, mut passes: Vec<Pass<B>>) -> Pass<B>
+    requires some { 0 < length passes.items }
+    requires lock { AllByRecursion (IsAlone lock.now) passes.items }
+    ensures lock { result.lock ≡ lock.now }
+    ensures joined { IsJoined passes.items result }
+{
+    let mut all = passes.pop().unwrap();
+    let _count = all.lost();
+    while let Some(next) = passes.pop() {
+        all = join(lock, next, all);
+    }
+    all
+}
+
+/// Joins the right pass into the left one.
+fn join<B: Done + Drop>(lock: &ChannelLock<B>, left: Pass<B>, right: Pass<B>) -> Pass<B>
+    requires left { left.lock ≡ lock.now }
+    requires right { right.lock ≡ lock.now }
+    ensures { JoinsPass left right result }
+{
+    let Pass { account, hand } = left;
+    let Pass { account: other, .. } = right;
+    let account = join_accounts(lock, account, other);
+    Pass { account, hand }
+}
+
+/// Joins the right account into the left one.
+fn join_accounts<B: Done + Drop>(
+    lock: &ChannelLock<B>,
+    left: Account<B>,
+    right: Account<B>,
+) -> Account<B>
+    requires left { left.lock ≡ lock.now }
+    requires right { right.lock ≡ lock.now }
+    ensures { JoinsPass left right result }
+{
+    let Account {
+        seat,
+        mut calls,
+        lost,
+    } = left;
+    let Account {
+        seat: other,
+        calls: more,
+        lost: further,
+    } = right;
+    calls.append(more);
+    let seat = lock.join(seat, other);
+    let lost = lost.saturating_add(further);
+    Account { seat, calls, lost }
+}
+
+/// Delivers until nothing is ready.
+fn deliver_all<B: Done + Drop, R: Wait>(rt: &R, place: &mut Place<'_, B, R>, orders: Orders)
+    ensures { DeliversAll orders place.old place.new }
+{
+    for _ in rt.forever() {
+        let Some(_called) = deliver_one(place, orders) else {
+            return;
+        };
+    }
+    unreachable!()
+}
+
+/// How many requests these entries accept.
+fn accepted_count(entries: &[Entry]) -> u64
+    ensures { result ≡ length (accepted (past_of entries.now)) }
+{
+    let mut count: u64 = 0;
+    for entry in entries {
+        count += accepts(&entry.what);
+    }
+    count
+}
+
+/// How many requests an entry accepts: one, or none.
+fn accepts(what: &What) -> u64
+    ensures count { result ≡ length (option_to_list (accepted_by what.now)) }
+    ensures few { result ≤ 1 }
+{
+    match what {
+        What::Accept { .. } => 1,
+        What::Cancel | What::Destroy | What::Take { .. } => 0,
+        What::Start { .. } | What::Arrive { .. } => 0,
+        What::Expire { .. } | What::Fault { .. } | What::Servers { .. } => 0,
+    }
+}

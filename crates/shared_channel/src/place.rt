@@ -1,0 +1,157 @@
+//! A thread's way to use a channel that others use too.
+
+ghost use Rattle.std.specs.Prelude.{◌≡◌, length};
+
+use crate::account::Account;
+use crate::looking::{CountsOp, LinkBusyOp, NextDueOp};
+use crate::operations::{AcceptOp, CancelOp, DestroyOp, TakeOp};
+use crate::pass::Pass;
+use crate::running::{ArriveOp, ExpireOp, FaultOp, SetServersOp, StartOp};
+use crate::state::ChannelLock;
+use crate::turns::turn;
+use chan_types::{NoMemory, Spec, Ticket};
+use channel_model::{Begun, Counts, Desk, Landed, Lapse, Refused, SetFault};
+use completion_ticket::{Callback, Done, Hand};
+use net_addr::ServerAddr;
+use std::marker::Model;
+use std::sync::Wait;
+
+/// A pass at its channel: a desk. Contracts see the pass.
+#[derive(Drop)]
+pub struct Place<'c, B: Done + Drop, R: Wait> {
+    pub(crate) rt: &'c R,
+    pub(crate) lock: &'c ChannelLock<B>,
+    pub(crate) account: Account<B>,
+    pub(crate) hand: Hand,
+    ghost here: { account.lock ≡ lock.now },
+    ghost empty: { length hand.commands ≡ 0 },
+}
+
+impl<'c, B: Done + Drop, R: Wait> Model for Place<'c, B, R> {
+    ghost use Rattle.std.specs.Coded.{codes};
+    ghost use Rattle.chan_types.specs.PlanCode.{moves_code};
+    ghost use Rattle.shared_channel.specs.Passes.{PassView};
+
+    ghost Value = { PassView };
+
+    ghost coded = { Prim.hlevel (codes, moves_code) };
+
+    ghost view = { λ place. place.account };
+}
+
+impl<'c, B: Done + Drop, R: Wait> Place<'c, B, R> {
+    /// The pass at the channel of this lock.
+    pub(crate) fn at(rt: &'c R, lock: &'c ChannelLock<B>, pass: Pass<B>) -> Place<'c, B, R>
+        requires { pass.lock ≡ lock.now }
+        ensures { result ≡ pass }
+    {
+        let Pass { account, hand } = pass;
+        Place {
+            rt,
+            lock,
+            account,
+            hand,
+        }
+    }
+
+    /// The number of its pass.
+    pub fn number(&self) -> u64
+        ensures { result ≡ self.now.number }
+    {
+        let account = &self.account;
+        account.seat.number()
+    }
+
+    /// How many requests that callbacks asked through its pass were lost for want of memory.
+    pub fn lost(&self) -> u64
+        ensures { result ≡ self.now.lost }
+    {
+        let account = &self.account;
+        account.lost
+    }
+
+    /// The pass again.
+    pub fn leave(self) -> Pass<B>
+        ensures { result ≡ self.entry }
+    {
+        let Place { account, hand, .. } = self;
+        Pass { account, hand }
+    }
+}
+
+impl<'c, B: Done + Drop, R: Wait> Desk for Place<'c, B, R> {
+    ghost use Rattle.shared_channel.specs.Passes.{desk_of};
+
+    type Token = Callback<B>;
+
+    ghost known = { λ place. desk_of place };
+
+    fn accept(&mut self, spec: Spec, token: Callback<B>) -> Result<u64, Refused<Callback<B>>> {
+        let (rt, lock) = (self.rt, self.lock);
+        turn(rt, lock, &mut self.account, AcceptOp { by: 0, spec, token })
+    }
+
+    fn cancel(&mut self) -> u64 {
+        let (rt, lock) = (self.rt, self.lock);
+        turn(rt, lock, &mut self.account, CancelOp { by: 0 })
+    }
+
+    fn destroy(&mut self) -> bool {
+        let (rt, lock) = (self.rt, self.lock);
+        turn(rt, lock, &mut self.account, DestroyOp { by: 0 })
+    }
+
+    fn take(&mut self) -> Option<Ticket<Callback<B>>> {
+        let (rt, lock) = (self.rt, self.lock);
+        turn(rt, lock, &mut self.account, TakeOp)
+    }
+
+    fn start(&mut self, word: u16, mix: u16, at: u64) -> Result<Begun, NoMemory> {
+        let (rt, lock) = (self.rt, self.lock);
+        turn(rt, lock, &mut self.account, StartOp { word, mix, at })
+    }
+
+    fn arrive(&mut self, server: u32, link: u64, bytes: &[u8]) -> Result<Landed, NoMemory> {
+        let (rt, lock) = (self.rt, self.lock);
+        turn(
+            rt,
+            lock,
+            &mut self.account,
+            ArriveOp {
+                server,
+                link,
+                bytes,
+            },
+        )
+    }
+
+    fn expire(&mut self, at: u64) -> Result<Lapse, NoMemory> {
+        let (rt, lock) = (self.rt, self.lock);
+        turn(rt, lock, &mut self.account, ExpireOp { at })
+    }
+
+    fn fault(&mut self, server: u32, link: u64, at: u64) -> Result<u64, NoMemory> {
+        let (rt, lock) = (self.rt, self.lock);
+        turn(rt, lock, &mut self.account, FaultOp { server, link, at })
+    }
+
+    fn next_due(&mut self) -> Option<u64> {
+        let (rt, lock) = (self.rt, self.lock);
+        turn(rt, lock, &mut self.account, NextDueOp)
+    }
+
+    fn counts(&mut self) -> Counts {
+        let (rt, lock) = (self.rt, self.lock);
+        turn(rt, lock, &mut self.account, CountsOp)
+    }
+
+    fn link_busy(&mut self, server: u32, link: u64) -> bool {
+        let (rt, lock) = (self.rt, self.lock);
+        turn(rt, lock, &mut self.account, LinkBusyOp { server, link })
+    }
+
+    fn set_servers(&mut self, servers: &[ServerAddr]) -> Result<u64, SetFault> {
+        let (rt, lock) = (self.rt, self.lock);
+        turn(rt, lock, &mut self.account, SetServersOp { servers })
+    }
+}

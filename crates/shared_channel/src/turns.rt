@@ -1,0 +1,25 @@
+//! A turn of an account under its channel's lock.
+
+ghost use Rattle.std.specs.Prelude.{◌≡◌};
+ghost use Rattle.shared_channel.specs.Turns.{IsPassTurn};
+
+use crate::account::Account;
+use crate::state::{ChannelLock, SharedTable};
+use completion_ticket::Done;
+use seat_lock::Op;
+use std::sync::Wait;
+
+/// Waits for the turn of the seat, and runs the operation once, alone.
+#[tactic(auto, using(crate::proofs::Telling::still_set))]
+pub(crate) fn turn<B: Done + Drop, R: Wait, O: Op<SharedTable<B>>>(
+    rt: &R,
+    lock: &ChannelLock<B>,
+    account: &mut Account<B>,
+    op: O,
+) -> O::Reply
+    requires { account.old.lock ≡ lock.now }
+    ensures lock { account.new.lock ≡ account.old.lock }
+    ensures turn { IsPassTurn (O.means op) account.old result account.new }
+{
+    lock.turn(rt, &mut account.seat, op)
+}
