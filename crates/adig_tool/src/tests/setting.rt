@@ -47,8 +47,8 @@ fn a_file_is_kept_within_the_limits(rt: HostRuntime) -> Result<(), Fail> {
 const TWO: &[u8] = b"nameserver 192.0.2.7\nnameserver 2001:db8::8\noptions use-vc\n";
 
 /// The calls of a run in silence, with that file and these words, which may make one turn.
-fn called(alloc: Global, line: &str) -> Result<String, Fail> {
-    let mut wanted: Scenario<'_> = case(line, &[]);
+fn called(alloc: Global, line: &'static str) -> Result<String, Fail> {
+    let mut wanted = case(line, &[]);
     wanted.resolv = Some(TWO);
     wanted.turns = 1;
     Ok(ran(alloc, &wanted)?.calls)
@@ -109,8 +109,8 @@ const SENT: [(&str, &[u8]); 4] = [
 ];
 
 /// What a run with these words sends in its first turn.
-fn sent(alloc: Global, line: &str) -> Result<Vec<u8>, Fail> {
-    let mut wanted: Scenario<'_> = case(line, &[]);
+fn sent(alloc: Global, line: &'static str) -> Result<Vec<u8>, Fail> {
+    let mut wanted = case(line, &[]);
     wanted.turns = 1;
     Ok(ran(alloc, &wanted)?.sent)
 }
