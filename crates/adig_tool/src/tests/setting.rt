@@ -47,10 +47,17 @@ fn a_file_is_kept_within_the_limits(rt: HostRuntime) -> Result<(), Fail> {
 const TWO: &[u8] = b"nameserver 192.0.2.7\nnameserver 2001:db8::8\noptions use-vc\n";
 
 /// The calls of a run in silence, with that file and these words, which may make one turn.
-fn called(alloc: Global, line: &'static str) -> Result<String, Fail> {
-    let mut wanted = case(line, &[]);
-    wanted.resolv = Some(TWO);
-    wanted.turns = 1;
+fn called(alloc: Global, line: &str) -> Result<String, Fail> {
+    let wanted = Scenario {
+        line,
+        resolv: Some(TWO),
+        words: &[0x1234],
+        comings: &[],
+        fails: &[],
+        reads_fail: false,
+        puts_fail: false,
+        turns: 1,
+    };
     Ok(ran(alloc, &wanted)?.calls)
 }
 
