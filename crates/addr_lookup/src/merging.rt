@@ -106,7 +106,8 @@ fn merge_one(
 ) -> Result<Answer, NoMemory>
     requires { All IsWellFormed records.now }
     ensures { IfOk result (λ answer. (channel : Setting) → channel.options ≡ asked.now.options.now
-        → answer ≡ answer_of_one channel asked.now.number asked.now.nosort asked.now.candidate.now (addresses_of_kind kind) status records.now) }
+        → answer ≡ answer_of_one channel asked.now.number asked.now.nosort asked.now.candidate.now
+        (addresses_of_kind kind) status records.now) }
 {
     if !same_status(status, Status::Success) {
         return Ok(bare(alloc, asked.number, status));
@@ -148,7 +149,8 @@ fn found(
 ) -> Result<Answer, NoMemory>
     requires { All IsWellFormed naming.now }
     ensures { IfOk result (λ answer. (channel : Setting) → channel.options ≡ asked.now.options.now
-        → answer ≡ found_answer channel asked.now.number asked.now.nosort addresses.items (canonical_of asked.now.candidate.now naming.now)) }
+        → answer ≡ found_answer channel asked.now.number asked.now.nosort addresses.items
+        (canonical_of asked.now.candidate.now naming.now)) }
 {
     let addresses = AddrList::from_vec(addresses);
     let addresses = ordered(alloc, addresses, asked.options, asked.nosort)?;

@@ -34,7 +34,8 @@ pub(crate) fn host_finding(
 ) -> Result<Finding, NoMemory>
     ensures { IfOk result (λ finding. (request : ℕ) (nosort : Bool)
         → let channel = set_to options.now hosts.now in
-        unless_asked request (known_host channel request family nosort) (name_of_text text.now) ≡ answer_of channel request nosort finding) }
+        unless_asked request (known_host channel request family nosort) (name_of_text text.now)
+        ≡ answer_of channel request nosort finding) }
 {
     match asked_name(alloc, text)? {
         Ok(read) => name_finding(alloc, read.name, family, options, hosts),
@@ -46,8 +47,10 @@ pub(crate) fn host_finding(
 /// hidden service's name (RFC 7686, section 2).
 pub(crate) fn asked_name(alloc: Global, text: &[u8]) -> Result<Result<NameText, Status>, NoMemory>
     ensures { IfOk result (λ asked. MatchResult asked
-        (λ read. (request : ℕ) (rules : TextOf → Option AnswerOf) → unless_asked request rules (name_of_text text.now) ≡ rules read)
-        (λ status. (request : ℕ) (rules : TextOf → Option AnswerOf) → unless_asked request rules (name_of_text text.now) ≡ Some (bare_answer request status []))) }
+        (λ read. (request : ℕ) (rules : TextOf → Option AnswerOf)
+        → unless_asked request rules (name_of_text text.now) ≡ rules read)
+        (λ status. (request : ℕ) (rules : TextOf → Option AnswerOf)
+        → unless_asked request rules (name_of_text text.now) ≡ Some (bare_answer request status []))) }
 {
     match Name::from_text(alloc, text) {
         Ok(read) => {

@@ -36,7 +36,7 @@ use Rattle.channel_model.specs.Replies.{Reply, read_reply}
 use Rattle.channel_model.specs.Search.{Stand, answer_of_search, asking, over, search_answer, stand_of}
 use Rattle.channel_model.specs.Setting.{Setting}
 use Rattle.channel_model.specs.Traffic.{query_bytes}
-use Rattle.channel_model.proofs.LawfulLemmas.{flies_by_position}
+use Rattle.channel_model.proofs.Theorems.{flies_by_position}
 use Rattle.channel_model.proofs.Theorems.{spec_of-later, start_allowed}
 use Rattle.event_runner.specs.UnderWay.{LogGets}
 use Rattle.tool_line.specs.declared.ending.Exit.TheVariants.{OutOfMemory}

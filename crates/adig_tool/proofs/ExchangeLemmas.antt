@@ -23,8 +23,8 @@ use Rattle.channel_model.specs.Stretch.{Agrees, Standing, beginning, behind}
 use Rattle.channel_model.specs.Traffic.{Parcel, arrived, asked, asked_by, datagrams, messages, noted, query_bytes}
 use Rattle.channel_model.specs.Turn.{IsTurn, is_among, parts_of_entry, receiving}
 use Rattle.channel_model.proofs.Theorems.{agrees_none, agrees_trans, noted-append, turn_agrees}
-use Rattle.channel_model.proofs.CourseLemmas.{rounds_agree, serves_agree}
-use Rattle.channel_model.proofs.OrderLemmas.{receives_first}
+use Rattle.channel_model.proofs.Theorems.{rounds_agree, serves_agree}
+use Rattle.channel_model.proofs.Theorems.{receives_first}
 use Rattle.adig_tool.specs.Answered.{WasExchanged, opens_no_link}
 use Rattle.adig_tool.proofs.ListLemmas.{both_hold, first_passes, heads, tails}
 

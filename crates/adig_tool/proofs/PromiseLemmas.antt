@@ -21,7 +21,7 @@ use Rattle.channel_model.specs.Journal.{Accepted, Past, accepted, followed_by, i
 use Rattle.channel_model.specs.Lawful.{IsLawful}
 use Rattle.channel_model.specs.Setting.{Setting}
 use Rattle.channel_model.proofs.Theorems.{course_agrees, so_far_reads}
-use Rattle.channel_model.proofs.CutCourseLemmas.{so_far_nearly}
+use Rattle.channel_model.proofs.Theorems.{so_far_nearly}
 use Rattle.channel_model.specs.Servers.{servers_set_by}
 use Rattle.channel_model.specs.Turn.{received_in}
 use Rattle.channel_progress.specs.Allowed.{attempts_allowed}

@@ -1,4 +1,4 @@
--- How one request is brought to its end: it is accepted, turns are made with waits between them, and what completes is called for.
+-- How one request is brought to its end: it is accepted, turns are made with waits between them, and it is called.
 use Rattle.std.specs.List.{list_all}
 use Rattle.std.specs.Prelude.{Bool, Err, IsTrue, List, Ok, Option, Result, Some, [], false, map, true, ℕ, ⊤, ◌&&◌, ◌-◌, ◌==◌, ◌^◌, ◌∷◌, ◌≡◌, ◌≢◌, ◌≤◌}
 use mathlib.Core.List.{IsPrefix}
@@ -21,7 +21,7 @@ use Rattle.event_runner.specs.UnderWay.{LogGets}
 use Rattle.adig_tool.specs.declared.session.LoopEnd.{LoopEnd}
 use Rattle.adig_tool.specs.declared.session.LoopEnd.TheVariants.{Completed, Stalled, WaitFault}
 
--- such an event leaves the requests that are pending, and the servers, to the network and the clock
+-- the event leaves the channel running: it neither cancels nor destroys, nor does it set servers
 abbrev pub leaves_running : What → Bool
 leaves_running (Accept number spec script) = true
 leaves_running Cancel = false
@@ -33,7 +33,7 @@ leaves_running (Expire number leg moment) = true
 leaves_running (Fault server link moment) = true
 leaves_running (Servers list) = false
 
--- the entry is of the channel's one seat, no callback commanded it, and it neither cancels nor destroys nor sets servers
+-- the entry is of the channel's one seat, no callback commanded it, and it leaves the channel running
 abbrev pub is_of_session : Entry → Bool
 is_of_session entry = (entry.seat == 0) && (entry.by == 0) && leaves_running entry.what
 
@@ -61,13 +61,13 @@ abbrev pub LeavesPending : Setting → Result LoopEnd NoMemory → Past → Type
 LeavesPending setting (Ok end) past = (ready setting past ≡ []) × IsLeft end (pending setting past)
 LeavesPending setting (Err fault) past = ⊤
 
--- how the turns came to their end shows in the calls: the last wait failed, or all turns were made, and a request was pending behind the last
+-- how the turns ended, as it shows: the last wait failed, or all turns were made with a request pending behind the last
 abbrev pub ShowsEnd : ℕ → LoopEnd → Owned → ℕ → List WorldCall → Type 0
 ShowsEnd turns Completed channel made calls = ⊤
 ShowsEnd turns WaitFault channel made calls = LastWaitFailed calls
 ShowsEnd turns Stalled channel made calls = (made ≡ turns) × IsStalledBehind channel.setting 0 longest_slice turns channel.seen calls
 
--- journal and calls fall into at most so many turns, with waits between them; where memory was wanting the last turn may have been cut short, or the telling of the servers
+-- journal and calls fall into at most so many turns; where memory was wanting they may have been cut short
 abbrev pub FallsIntoTurns : ℕ → Result LoopEnd NoMemory → Owned → List WorldCall → Type 0
 FallsIntoTurns turns (Ok end) channel calls =
     (made : ℕ) × (made ≤ turns) × IsCourse channel.setting 0 longest_slice channel.seen calls made 0 × ShowsEnd turns end channel made calls

@@ -20,7 +20,7 @@ use Rattle.adig_tool.specs.Session.{FallsIntoTurns, LeavesPending, is_of_session
 abbrev pub take_entry : Answer → Entry
 take_entry answer = record { seat = 0; by = 0; what = Take answer.number }
 
--- the journal went on with a session's entries, which accept these requests and take those of these answers, their fates
+-- the journal went on with entries of a session, which accept these requests, and take those that have these fates
 pub record Works (accepts : List Accepted) (answers : List Answer) (old new : Owned) : Type 0 where
   pub entries : List Entry
   pub seen : new.seen ≡ old.seen ++ entries
@@ -44,7 +44,7 @@ pub record TellsPending (count : ℕ) (old new : Owned) : Type 0 where
   pub same : new ≡ old
   pub count_is : count ≡ length (pending old.setting (past_of old.seen))
 
--- turns were made, and what completed was called: from wherever the run began before its first turn, the log falls into them
+-- turns were made, and what completed was called; if the run was before its first turn, the log since falls into them
 pub record MakesTurns (turns : ℕ) (result : Result LoopEnd NoMemory) (old new : Owned) (calls_old calls_new : List Answer) (runner : Running) (log_old log_new : Option (List WorldCall)) : Type 0 where
   pub answers : List Answer
   pub works : Works [] answers old new

@@ -41,7 +41,8 @@ pub fn session<W: World>(
     requires new { (alone.old.seen ≡ []) × (alone.old.voice ≡ 0) }
     requires options { options.now ≡ alone.old.setting.options }
     requires uncalled { calls.old ≡ [] }
-    ensures session { IsSession spec.now turns result alone.old alone.new calls.new (W.log world.old) (W.log world.new) }
+    ensures session { IsSession spec.now turns result alone.old alone.new calls.new
+        (W.log world.old) (W.log world.new) }
     ensures waits { W.wait_faults world.old ≤ W.wait_faults world.new }
     ensures wait_fault { result ≡ Ok LoopEnd.WaitFault
         → Rose (W.wait_faults world.old) (W.wait_faults world.new) }
@@ -63,7 +64,8 @@ fn make_turns<W: World>(
     world: &mut W,
     turns: u64,
 ) -> Result<LoopEnd, NoMemory>
-    ensures turns { MakesTurns turns result alone.old alone.new calls.old calls.new runner.old (W.log world.old) (W.log world.new) }
+    ensures turns { MakesTurns turns result alone.old alone.new calls.old calls.new runner.old
+        (W.log world.old) (W.log world.new) }
     ensures waits { W.wait_faults world.old ≤ W.wait_faults world.new }
     ensures wait_fault { result ≡ Ok LoopEnd.WaitFault
         → Rose (W.wait_faults world.old) (W.wait_faults world.new) }

@@ -100,7 +100,8 @@ impl<'a> Iterator for CallsIter<'a> {
 
 /// The first answer of these runs, what is left of its run, and the runs behind it.
 fn first_of(runs: &Runs) -> Option<(&Answer, Iter<'_, Answer>, &Runs)>
-    ensures { MatchOption result (answers_of runs.now ≡ []) (λ found. answers_of runs.now ≡ found.0.now ∷ (found.1 ++ answers_of found.2.now)) }
+    ensures { MatchOption result (answers_of runs.now ≡ [])
+        (λ found. answers_of runs.now ≡ found.0.now ∷ (found.1 ++ answers_of found.2.now)) }
 {
     match runs {
         Runs::End => None,

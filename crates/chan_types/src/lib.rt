@@ -1,4 +1,5 @@
-//! The vocabulary of a channel: requests and their answers, scripts and the commands that they give, the journal, tokens, tickets and calls.
+//! The vocabulary of a channel: requests and their answers, scripts and the commands that they give,
+//! the journal, tokens, tickets and calls.
 #![tactic(auto)]
 
 mod answer;

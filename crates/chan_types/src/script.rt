@@ -70,7 +70,8 @@ impl Model for Script {
 
     ghost view = { λ a. record { tag = a.tag; moves = moves_of a.steps.items } };
 
-    ghost invariant = { λ a. (count (moves_of a.steps.items) ≤ 8) × (depth (moves_of a.steps.items) ≤ 4) × (a.deep ≡ depth (moves_of a.steps.items)) };
+    ghost invariant = { λ a. (count (moves_of a.steps.items) ≤ 8)
+        × (depth (moves_of a.steps.items) ≤ 4) × (a.deep ≡ depth (moves_of a.steps.items)) };
 
     ghost size = { plan_size };
 

@@ -5,7 +5,7 @@ pub use Rattle.channel_model.proofs.JournalLemmas.{IsLawfulPast-before, fate-one
 pub use Rattle.channel_model.proofs.DeskLemmas.{adds_goes_on, call_goes_on, goes_on_refl, goes_on_trans, own_stays}
 -- Legs in flight and waiting, in any past and in a lawful one.
 pub use Rattle.channel_model.proofs.FlightLemmas.{begun_or-other, each_flies, flight-cases, flight-leg, flight-started, has_leg-new, in_flight-none, is_leg-itself, is_leg-says, unless_closed-says}
-pub use Rattle.channel_model.proofs.LawfulLemmas.{Waits, each_waits, ended_lands, first_waits, flight_open, idle_says, legs_of_request, none_says, one_leg, start_allowed, start_idle, waits_says}
+pub use Rattle.channel_model.proofs.LawfulLemmas.{Waits, each_waits, ended_lands, first_waits, flies_by_position, flight_open, idle_says, legs_of_request, none_says, one_leg, start_allowed, start_idle, waits_says}
 -- One leg behind an entry: one that spares it, one that closes its attempt, its Start, and any where it is idle.
 pub use Rattle.channel_model.proofs.LegLemmas.{Spares, accept_spares, arrive_spares, begun-flight, cancel_spares, closed-closings, closed-flight, closed-forced, destroy_spares, expire_spares, fault_spares, forced_behind-spared, idle-closings, idle-end, idle-forced, if_any, if_left-spared, if_none, if_that, servers_spares, spared-closings, spared-deadline, spared-end, spared-flight, spared-forced, spares_by, start_spares, take_spares, unless_closed-spared, with_closing-spared}
 -- All that a past says of a leg, as one value, behind each of these.
@@ -16,6 +16,7 @@ pub use Rattle.channel_model.proofs.RequestLemmas.{accepted-none, asking_no_answ
 -- An Accept: nothing in a lawful past is about its number.
 pub use Rattle.channel_model.proofs.AcceptLemmas.{accept-completed, accept-fate, accept-pending, accept-ready, accept-request, accept-requests, asked_waits, new_if_none, new_if_some, next_unasked, unasked_closings, unasked_fate, unasked_flight}
 -- All attempts in flight, in whatever order, and lists with the same items.
+pub use Rattle.channel_model.proofs.IdentifierLemmas.{all_used_many}
 pub use Rattle.channel_model.proofs.InFlightLemmas.{any_none, any_some, as_many-any, as_many-filter, as_many-length, as_many-refl, count-filter, in_flight-begun, in_flight-closed, started-again, started-kept, started-new, started-says, started_once, times}
 pub use Rattle.channel_model.proofs.DueLemmas.{as_many-map, least-same}
 -- Keys of servers, the servers of attempts, and lists that no entry sets.
@@ -29,6 +30,7 @@ pub use Rattle.channel_model.proofs.LinkLemmas.{one_link, tcp_link-is}
 pub use Rattle.channel_model.proofs.LinkChoiceLemmas.{chosen_link-cases, greatest_link-above, new_link-fresh, tcp_link-cases}
 -- Commands of callbacks.
 pub use Rattle.channel_model.proofs.CommandLemmas.{each_is_accepted}
+pub use Rattle.channel_model.proofs.PerformanceLemmas.{all_became_append, all_became_longer, position_after}
 -- The order of addresses.
 pub use Rattle.channel_model.proofs.SortingLemmas.{sorted_is}
 -- Journals and logs that agree, those that are one call apart, and the frames of messages on a link.
@@ -37,11 +39,13 @@ pub use Rattle.channel_model.proofs.CutLemmas.{agrees_nearly, nearly_behind}
 pub use Rattle.channel_model.proofs.FrameLemmas.{head-messages_in, left_in-append, messages_in-append, messages_in-framed, part-left_in, part-messages_in, whole-messages_in}
 -- Call by call: a call and the entries that note it, entries of others, pieces of a link, and what goes out.
 pub use Rattle.channel_model.proofs.StepLemmas.{AreOthers, agrees_calls, agrees_datagram, agrees_ended, agrees_expire, agrees_nothing, agrees_serve, agrees_step, agrees_word, moved, noted-others, noted-own}
-pub use Rattle.channel_model.proofs.PieceLemmas.{Brings, agrees_piece, agrees_sent, agrees_written, brings_append, brings_none, brings_one}
+pub use Rattle.channel_model.proofs.PieceLemmas.{Brings, agrees_piece, agrees_sent, agrees_written, brings_append, brings_none, brings_one, without_taken}
 pub use Rattle.channel_model.proofs.AddingLemmas.{advances_call, advances_joined, advances_none, advances_trans, breaks_joined, breaks_trans, breaks_whole, calls_stretch, leads_joined, leaves_joined, others_are, own-others}
 -- Turns, and courses of turns.
 pub use Rattle.channel_model.proofs.TurnLemmas.{now_agrees, part_agrees, parts_agree, turn_agrees, turn_of}
-pub use Rattle.channel_model.proofs.CourseLemmas.{course_agrees}
+pub use Rattle.channel_model.proofs.CourseLemmas.{course_agrees, rounds_agree, serves_agree}
+pub use Rattle.channel_model.proofs.CutCourseLemmas.{so_far_nearly}
+pub use Rattle.channel_model.proofs.OrderLemmas.{receives_first}
 pub use Rattle.channel_model.proofs.ReadingLemmas.{course_reads, course_receives, so_far_reads}
 -- How often an item stands in a list, and what holds of each item.
 pub use Rattle.channel_model.proofs.CountLemmas.{occurrences-append}

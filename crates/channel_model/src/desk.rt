@@ -19,7 +19,8 @@ pub trait Desk {
 
     /// Accepts a request, and answers its number. A name that can't be asked completes it at once.
     fn accept(&mut self, spec: Spec, token: Self::Token) -> Result<u64, Refused<Self::Token>>
-        ensures done { Calls (Accepts Self.Token.plan spec token result) (known self.old).voice (known self.old) (known self.new) };
+        ensures done { Calls (Accepts Self.Token.plan spec token result) (known self.old).voice
+            (known self.old) (known self.new) };
 
     /// Completes every pending request as cancelled, and answers how many there were.
     fn cancel(&mut self) -> u64

@@ -63,7 +63,8 @@ pub fn completes_at_most_once()
     ensures order { (setting : Setting) (journal : List Entry) → IsLawful setting journal
         → completions setting (past_of journal) ≡ taken (past_of journal) ++ ready setting (past_of journal) }
     ensures taken { (setting : Setting) (request : ℕ) (journal : List Entry) → IsLawful setting journal
-        → occurrences request (taken (past_of journal)) + occurrences request (ready setting (past_of journal)) ≤ 1 }
+        → occurrences request (taken (past_of journal)) + occurrences request
+        (ready setting (past_of journal)) ≤ 1 }
 {}
 
 /// A cancel completes exactly the requests that were pending at its entry, and a destroy too.

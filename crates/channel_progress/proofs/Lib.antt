@@ -7,7 +7,6 @@ mod FlyingLemmas
 mod FitLemmas
 mod EntryLemmas
 mod ViewLemmas
-mod IdentifierLemmas
 mod OfPartLemmas
 mod PartLemmas
 mod TurnLemmas

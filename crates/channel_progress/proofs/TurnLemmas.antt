@@ -3,7 +3,7 @@ use Rattle.std.proofs.Common.{◌≡◌, ◌∙◌, ℕ, ◌+◌, ◌≤◌, Lis
 use Rattle.std.specs.Prelude.{filter_map}
 use Rattle.chan_types.specs.declared.journal.Entry.{Entry}
 use Rattle.net_world.specs.declared.log.WorldCall.{WorldCall}
-use Rattle.channel_model.proofs.Theorems.{parts_agree}
+use Rattle.channel_model.proofs.Theorems.{all_used_many, parts_agree}
 use Rattle.channel_model.specs.Completion.{ready, waiting}
 use Rattle.channel_model.specs.Flight.{begun_by, in_flight}
 use Rattle.channel_model.specs.Journal.{Past, followed_by}
@@ -13,7 +13,6 @@ use Rattle.channel_model.specs.Stretch.{Standing}
 use Rattle.channel_model.specs.Turn.{HaveMade, IsTurn, NoneDue, NoneStarts, closing, expired_in, expiring, most_entries, received_in, receiving, started_in, starting, writing}
 use Rattle.channel_progress.proofs.EntryLemmas.{entries_keep}
 use Rattle.channel_progress.proofs.FitLemmas.{Falls, IsFit, Keeps, falls_then, fit_before, then_falls}
-use Rattle.channel_progress.proofs.IdentifierLemmas.{all_used_many}
 use Rattle.channel_progress.proofs.PartLemmas.{closes_alone, expires, receives, starts, writes}
 use Rattle.channel_progress.proofs.OfPartLemmas.{AreOfSeat, are_of_part, begun_in-followed, of_seat-append, own_all, received_in-append, receives_nothing}
 use Rattle.channel_progress.proofs.ViewLemmas.{BeginsAll, SameView, begun_in}

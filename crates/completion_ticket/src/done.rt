@@ -29,7 +29,8 @@ pub trait Done {
     fn done(&mut self, answer: &Answer, hand: &mut Hand)
         requires fresh { told self.old ≡ None }
         requires room { hand.old.commands ≡ [] }
-        ensures gives { hand.new ≡ record hand.old { commands = gives (plan self.old) answer.now hand.old.orders } }
+        ensures gives { hand.new
+            ≡ record hand.old { commands = gives (plan self.old) answer.now hand.old.orders } }
         ensures told { told self.new ≡ Some answer.now.number };
 
     /// Tells it that its request was refused.

@@ -70,7 +70,8 @@ impl Done for Scripted {
 /// Gives what the step commands, if it is for this answer and its order was given.
 fn take_step(step: Step, answer: &Answer, hand: &mut Hand)
     requires { length hand.old.commands ≢ 8 }
-    ensures { hand.new ≡ record hand.old { commands = hand.old.commands ++ commands_of_step step answer.now hand.old.orders } }
+    ensures { hand.new
+        ≡ record hand.old { commands = hand.old.commands ++ commands_of_step step answer.now hand.old.orders } }
 {
     if is_for(step.when, answer.status) && is_ordered(step.need, hand.orders()) {
         perform(step.act, answer.addresses.as_slice(), hand);
@@ -80,7 +81,11 @@ fn take_step(step: Step, answer: &Answer, hand: &mut Hand)
 /// Gives what the act commands, where the answer has these addresses.
 fn perform(act: Act, addresses: &[Addr], hand: &mut Hand)
     requires { length hand.old.commands ≢ 8 }
-    ensures { hand.new ≡ record hand.old { commands = hand.old.commands ++ commanded (deed_of act) (inside_of act) addresses.now } }
+    ensures { hand.new
+        ≡ record hand.old {
+          commands = hand.old.commands
+              ++ commanded (deed_of act) (inside_of act) addresses.now;
+        } }
 {
     match act {
         Act::Ask(spec, script) => hand.ask(spec, script),

@@ -1,3 +1,5 @@
+//! The order of destinations and the choice of a source, as tables.
+
 use super::*;
 use net_addr::{AddrList, read};
 use std::alloc::Global;

@@ -154,7 +154,8 @@ pub fn encode(alloc: Global, message: &Message) -> Result<Bytes, EncodeFault>
     ensures spelled { IfOk result (λ bytes. bytes ≡ message_bytes message.now) }
     ensures short { IfOk result (λ bytes. length bytes ≤ 65535) }
     ensures read_back { IfOk result (λ bytes. IsValid message.now → message_read bytes ≡ Ok message.now) }
-    ensures too_long { IfErr result (λ fault. fault ≡ EncodeFault.TooLong → 65535 < length (message_bytes message.now)) }
+    ensures too_long { IfErr result
+        (λ fault. fault ≡ EncodeFault.TooLong → 65535 < length (message_bytes message.now)) }
 {
     let Some(size) = size_of_message(message) else {
         return Err(EncodeFault::TooLong);

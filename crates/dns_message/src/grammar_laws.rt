@@ -17,12 +17,15 @@ pub fn reading_gives_what_is_spelled()
 
 /// The law that what is written of a valid message is spelled so, and reads as that message.
 pub fn written_messages_read_back()
-    ensures spelled { (message : Message) → IsMessage message → IsValid message → Spells (message_bytes message) message }
-    ensures read { (message : Message) → IsMessage message → IsValid message → message_read (message_bytes message) ≡ Ok message }
+    ensures spelled { (message : Message) → IsMessage message → IsValid message
+        → Spells (message_bytes message) message }
+    ensures read { (message : Message) → IsMessage message → IsValid message
+        → message_read (message_bytes message) ≡ Ok message }
 {}
 
 /// The law that reading ends exactly at the first fault, and that just the bytes that spell no message have one.
 pub fn reading_ends_at_the_first_fault()
-    ensures fault { (bytes : List ℕ) (fault : MessageFault) → (message_read bytes ≡ Err fault) ↔ FirstFault bytes fault }
+    ensures fault { (bytes : List ℕ) (fault : MessageFault)
+        → (message_read bytes ≡ Err fault) ↔ FirstFault bytes fault }
     ensures some { (bytes : List ℕ) → SpellsNothing bytes ↔ ((fault : MessageFault) × FirstFault bytes fault) }
 {}

@@ -41,7 +41,8 @@ fn has_names(rdata: &[u8], shape: NamesShape) -> bool
 fn plain_name_end(bytes: &[u8], start: usize) -> Option<usize>
     requires { start ≤ length bytes.now }
     ensures { MatchOption result (behind_room 255 (drop start bytes.now) ≡ None)
-        (λ end. (behind_room 255 (drop start bytes.now) ≡ Some (drop end bytes.now)) × (end ≤ length bytes.now)) }
+        (λ end. (behind_room 255 (drop start bytes.now) ≡ Some (drop end bytes.now))
+        × (end ≤ length bytes.now)) }
 {
     let mut at = start;
     while at < bytes.len() && at - start < NAME_MOST {

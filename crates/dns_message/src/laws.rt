@@ -15,9 +15,12 @@ ghost use Rattle.dns_message.specs.declared.message.Message.{Message};
 /// The law that each test is true exactly where what it tests holds.
 #[tactic(auto, using(crate::proofs::TestLemmas::same_name_says, crate::proofs::TestLemmas::last_is_says, crate::proofs::TestLemmas::same_question_says, crate::proofs::TestLemmas::well_formed_says, crate::proofs::TestLemmas::is_valid_says))]
 pub fn tests_decide()
-    ensures name { (labels : List (List ℕ)) → (others : List (List ℕ)) → Decides (same_name labels others) (SameName labels others) }
-    ensures last { (label : List ℕ) → (labels : List (List ℕ)) → Decides (last_is label labels) (LastIs labels label) }
-    ensures question { (question : Question) → (other : Question) → Decides (same_question question other) (SameQuestion question other) }
+    ensures name { (labels : List (List ℕ)) → (others : List (List ℕ))
+        → Decides (same_name labels others) (SameName labels others) }
+    ensures last { (label : List ℕ) → (labels : List (List ℕ))
+        → Decides (last_is label labels) (LastIs labels label) }
+    ensures question { (question : Question) → (other : Question)
+        → Decides (same_question question other) (SameQuestion question other) }
     ensures shape { (found : Record) → Decides (well_formed found) (IsWellFormed found) }
     ensures valid { (message : Message) → Decides (is_valid message) (IsValid message) }
 {}
@@ -26,5 +29,6 @@ pub fn tests_decide()
 #[tactic(auto, using(crate::proofs::AgreementLemmas::readings_agree, crate::proofs::AgreementLemmas::labels_readings_agree))]
 pub fn readings_agree()
     ensures text { (text : List ℕ) → result_ok (name_read text) ≡ name_text text }
-    ensures labels { (labels : List (List ℕ)) → result_ok (labels_read labels) ≡ (if is_name labels then Some labels else None) }
+    ensures labels { (labels : List (List ℕ))
+        → result_ok (labels_read labels) ≡ (if is_name labels then Some labels else None) }
 {}

@@ -19,7 +19,8 @@ pub(crate) fn add_label(
 ) -> Result<(), NameFault>
     requires { length label.now ≤ 63 }
     ensures ok { OnOk result (name.new ≡ name.old ++ label.now ∷ []) }
-    ensures refused { IfErr result (HasNameCause ((length label.now ≡ 0) ⊎ (255 < wire_length name.old + length label.now + 1))) }
+    ensures refused { IfErr result
+        (HasNameCause ((length label.now ≡ 0) ⊎ (255 < wire_length name.old + length label.now + 1))) }
     ensures read { MatchResult result
         (λ _. with_label name.old start label.now end ≡ Ok (name.old ++ label.now ∷ []))
         (λ fault. fault ≢ NameFault.NoMemory → with_label name.old start label.now end ≡ Err fault) }
@@ -39,7 +40,9 @@ impl Name {
     pub fn from_labels(alloc: Global, labels: &[&[u8]]) -> Result<Name, NameFault>
         ensures made { IfOk result (λ name. name ≡ map (λ label. label.now) labels.now) }
         ensures refused { IfErr result (HasNameCause (¬ IsName (map (λ label. label.now) labels.now))) }
-        ensures fault { IfErr result (λ fault. fault ≢ NameFault.NoMemory → labels_read (map (λ label. label.now) labels.now) ≡ Err fault) }
+        ensures fault { IfErr result
+            (λ fault. fault ≢ NameFault.NoMemory
+            → labels_read (map (λ label. label.now) labels.now) ≡ Err fault) }
     {
         let mut name = Name::root(alloc);
         for (i, label) in labels.iter().enumerate() {

@@ -32,7 +32,8 @@ impl Name {
 /// The law that a printed name reads as itself, and absolute.
 #[tactic(auto, using(crate::proofs::PrintingLemmas::printed_back))]
 pub fn printed_names_read_back()
-    ensures { (labels : List (List ℕ)) → IsName labels → AreBytes labels → name_text (text_of labels) ≡ Some (labels, true) }
+    ensures { (labels : List (List ℕ)) → IsName labels → AreBytes labels
+        → name_text (text_of labels) ≡ Some (labels, true) }
 {}
 
 /// Prints a label and a dot.

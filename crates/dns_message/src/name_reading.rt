@@ -24,7 +24,8 @@ enum RunEnd {
 fn end_of_label(bytes: &[u8], start: usize, at: usize, taken: usize) -> Result<usize, MessageFault>
     requires at { at < length bytes.now }
     requires taken { taken ≤ 255 }
-    ensures read { (front : List (List ℕ)) → wire_length front ≡ taken → Gives result (label_end bytes.now start at front) }
+    ensures read { (front : List (List ℕ)) → wire_length front ≡ taken
+        → Gives result (label_end bytes.now start at front) }
     ensures end { IfOk result (λ end. end ≡ at + 1 + byte_at bytes.now at) }
     ensures within { IfOk result (λ end. end ≤ length bytes.now) }
     ensures label { IfOk result (λ end. (1 ≤ byte_at bytes.now at) × (byte_at bytes.now at ≤ 63)) }

@@ -43,7 +43,8 @@ fn decimal(a: u8, b: u8, c: u8) -> Option<u8>
 
 /// The byte that stands behind a backslash, and how many bytes it takes there.
 fn escape(text: &[u8]) -> Option<(u8, usize)>
-    ensures read { MatchOption result (escaped text.now ≡ None) (λ found. escaped text.now ≡ Some (found.0, drop found.1 text.now)) }
+    ensures read { MatchOption result (escaped text.now ≡ None)
+        (λ found. escaped text.now ≡ Some (found.0, drop found.1 text.now)) }
     ensures within { IfSome result (λ found. found.1 ≤ length text.now) }
 {
     match text {
@@ -57,7 +58,9 @@ fn escape(text: &[u8]) -> Option<(u8, usize)>
 /// The unit at an offset, and the offset behind it.
 fn unit_at(text: &[u8], at: usize) -> Result<(TextUnit, usize), NameFault>
     requires { at < length text.now }
-    ensures read { IfOk result (λ found. units_of (drop at text.now) ≡ option_map (λ units. found.0 ∷ units) (units_of (drop found.1 text.now))) }
+    ensures read { IfOk result
+        (λ found. units_of (drop at text.now)
+        ≡ option_map (λ units. found.0 ∷ units) (units_of (drop found.1 text.now))) }
     ensures within { IfOk result (λ found. (at < found.1) × (found.1 ≤ length text.now)) }
     ensures dot { IfOk result (λ found. found.0 ≡ TextUnit.Dot → found.1 ≡ at + 1) }
     ensures refused { IfErr result (λ fault. units_of (drop at text.now) ≡ None) }
@@ -82,15 +85,20 @@ fn unit_at(text: &[u8], at: usize) -> Result<(TextUnit, usize), NameFault>
 fn label_at(text: &[u8], start: usize) -> Result<TextLabel, NameFault>
     requires { start ≤ length text.now }
     ensures read { IfOk result (λ found. MatchBool found.dotted
-        (units_of (drop start text.now) ≡ label_before found.label.items (dot_before (units_of (drop (found.end + 1) text.now))))
+        (units_of (drop start text.now)
+        ≡ label_before found.label.items (dot_before (units_of (drop (found.end + 1) text.now))))
         (units_of (drop start text.now) ≡ label_before found.label.items (Some []))) }
     ensures few { IfOk result (λ found. length found.label.items ≤ 63) }
     ensures end { IfOk result (λ found. (start ≤ found.end) × (found.end ≤ length text.now)) }
     ensures dot { IfOk result (λ found. IsTrue found.dotted → found.end < length text.now) }
     ensures refused { IfErr result (HasNameCause (HasNoLabel (units_of (drop start text.now)))) }
     ensures placed { MatchResult result
-        (λ found. (front : List (List ℕ)) → name_on (length text.now) front start [] (spots_of start (drop start text.now)) ≡ name_on (length text.now) front start found.label.items (behind_label text.now found.end found.dotted))
-        (λ fault. fault ≢ NameFault.NoMemory → (front : List (List ℕ)) → name_on (length text.now) front start [] (spots_of start (drop start text.now)) ≡ Err fault) }
+        (λ found. (front : List (List ℕ))
+        → name_on (length text.now) front start [] (spots_of start (drop start text.now))
+        ≡ name_on (length text.now) front start found.label.items
+        (behind_label text.now found.end found.dotted))
+        (λ fault. fault ≢ NameFault.NoMemory → (front : List (List ℕ))
+        → name_on (length text.now) front start [] (spots_of start (drop start text.now)) ≡ Err fault) }
     ensures last { IfOk result (λ found. MatchBool found.dotted (Unit {0}) (found.end ≡ length text.now)) }
 {
     let mut label = ArrayVec::new();

@@ -74,7 +74,8 @@ fn expand(
 ) -> Result<usize, MessageFault>
     requires { at ≤ length bytes.now }
     ensures read { MatchResult result
-        (λ next. (added : List ℕ) × (or_else bad (expanded_name bytes.now at) ≡ Ok (added, next)) × (rdata.new.items ≡ rdata.old.items ++ added))
+        (λ next. (added : List ℕ) × (or_else bad (expanded_name bytes.now at) ≡ Ok (added, next))
+        × (rdata.new.items ≡ rdata.old.items ++ added))
         (λ fault. fault ≢ MessageFault.NoMemory → or_else bad (expanded_name bytes.now at) ≡ Err fault) }
     ensures within { IfOk result (λ next. next ≤ length bytes.now) }
 {

@@ -127,7 +127,8 @@ fn put_data(alloc: Global, text: &mut Vec<u8>, typed: &RecordData) -> Result<(),
 
 /// Prints numbers, each behind a blank.
 fn put_numbers(text: &mut Vec<u8>, numbers: &[u32]) -> Result<(), NoMemory>
-    ensures { OnOk result (text.new.items ≡ text.old.items ++ flat_map (λ number. spaced (decimal number)) numbers.now) }
+    ensures { OnOk result
+        (text.new.items ≡ text.old.items ++ flat_map (λ number. spaced (decimal number)) numbers.now) }
 {
     for number in numbers {
         put_spaced(text, *number as u64)?;

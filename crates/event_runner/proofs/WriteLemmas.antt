@@ -12,7 +12,7 @@ use Rattle.net_world.specs.declared.answers.Wrote.TheVariants.{Count, Failed as 
 use Rattle.net_world.specs.declared.log.WorldCall.{WorldCall}
 use Rattle.net_world.specs.declared.log.WorldCall.TheVariants.{Close, Write}
 use Rattle.channel_model.proofs.Theorems.{agrees_nearly, flight-cases, agrees_written, AreOthers, agrees_step, noted-others, noted-own}
-use Rattle.channel_model.proofs.PieceLemmas.{without_taken}
+use Rattle.channel_model.proofs.Theorems.{without_taken}
 use Rattle.channel_model.specs.Adding.{Row, link_of_row}
 use Rattle.channel_model.specs.Journal.{followed_by}
 use Rattle.channel_model.specs.Known.{Calls, Known}

@@ -32,10 +32,12 @@ abbrev pub Leads : Stretch → State → State → List Entry → List WorldCall
 Leads relation old new entries calls =
     (from : Standing) → Holds old from → (to : Standing) × relation old.known.setting old.known.seat from entries calls to × Holds new to
 
--- the desk goes on with entries of turns, and a log that is told goes on with calls; where no other seat makes entries of turns, these lead by the relation
+-- the desk goes on, and a log that is told goes on with calls
 pub record Goes (relation : Stretch) (old new : State) : Type 0 where
   pub goes_on : GoesOn old.known new.known
+  -- also where the network tells no log
   pub made : AreMadeInTurns old.known.seat goes_on.since
+  -- where no other seat makes entries of turns, entries and calls lead by the relation
   pub told : MatchOption old.log (new.log ≡ None) (λ earlier. (calls : List WorldCall) × (new.log ≡ Some (earlier ++ calls))
       × (IsTurnOwner new.known → Leads relation old new goes_on.since calls))
 

@@ -11,11 +11,15 @@ use Rattle.resolv_options.specs.Lasts.{last_or}
 use Rattle.event_runner.specs.Running.{Running, run_of}
 use Rattle.event_runner.specs.State.{Holds, IsTurnOwner}
 
--- how far a run has come behind its last turn: the turn was made; then all that was ready was delivered; then it rested, or had no reason to; and then it may make another turn
+-- how far a run has come behind its last turn
 pub data Reach : Type 0 where
+  -- the turn was made
   turned : Reach
+  -- then nothing was ready any more
   delivered : Reach
+  -- then it waited, or had no reason to
   rested : Reach
+  -- then a request was pending: another turn may follow
   following : Reach
 
 module _ (setting : Setting) where
@@ -34,7 +38,7 @@ module _ (setting : Setting) where
   has_come rested round = is_delivered round && has_rested round
   has_come following round = goes_on setting round
 
--- the journal that a desk has seen, and these calls, are a course of so many turns, which goes on behind each turn but the last
+-- what a desk has seen, and these calls, are a course of so many turns, and the run goes on behind each but the last
 pub record IsUnderWay (slice turns asides : ℕ) (reach : Reach) (known : Known) (running : Running) (calls : List WorldCall) : Type 0 where
   pub course : IsCourse known.setting known.seat slice known.seen calls turns asides
   -- the last turn, if there is one, has come so far

@@ -35,7 +35,12 @@ pub fn ask<D: Desk, W: World>(
     reading: u64,
 ) -> Result<(), NoMemory>
     ensures goes { (before : Known) (word bits number leg id : ℕ)
-        → Calls (Starts word bits reading (Ok (Started number leg server address.now link id message.now))) 0 before (D.known desk.old) → Ends (λ done. Asks reading word bits) (CutAsking reading word bits) result (state_of before kept.old (W.log world.old)) (state_of (D.known desk.new) kept.new (W.log world.new)) }
+        → Calls (Starts word bits reading
+        (Ok (Started number leg server address.now link id message.now))) 0 before
+        (D.known desk.old)
+        → Ends (λ done. Asks reading word bits) (CutAsking reading word bits) result
+        (state_of before kept.old (W.log world.old))
+        (state_of (D.known desk.new) kept.new (W.log world.new)) }
     ensures waits { W.wait_faults world.new ≡ W.wait_faults world.old }
 {
     tell(world, kept, server, address)?;
@@ -58,7 +63,9 @@ fn tell<W: World>(
     server: u32,
     address: &ServerAddr,
 ) -> Result<(), NoMemory>
-    ensures tells { (known : Known) → Tells server address.now result (state_of known kept.old (W.log world.old)) (state_of known kept.new (W.log world.new)) }
+    ensures tells { (known : Known)
+        → Tells server address.now result (state_of known kept.old (W.log world.old))
+        (state_of known kept.new (W.log world.new)) }
     ensures waits { W.wait_faults world.new ≡ W.wait_faults world.old }
 {
     if kept.told.contains(&server) {
@@ -77,7 +84,13 @@ fn send<D: Desk, W: World>(
     message: &[u8],
     reading: u64,
 ) -> Result<(), NoMemory>
-    ensures goes { (before : Known) (was now : Kept) (log : Option (List WorldCall)) (word bits number leg id : ℕ) (address : ServerAddr) → HasTold server address (state_of before was log) (state_of before now (W.log world.old)) → Calls (Starts word bits reading (Ok (Started number leg server address 0 id message.now))) 0 before (D.known desk.old) → Ends (λ done. Asks reading word bits) (CutAsking reading word bits) result (state_of before was log) (state_of (D.known desk.new) now (W.log world.new)) }
+    ensures goes { (before : Known) (was now : Kept) (log : Option (List WorldCall))
+        (word bits number leg id : ℕ) (address : ServerAddr)
+        → HasTold server address (state_of before was log) (state_of before now (W.log world.old))
+        → Calls (Starts word bits reading
+        (Ok (Started number leg server address 0 id message.now))) 0 before (D.known desk.old)
+        → Ends (λ done. Asks reading word bits) (CutAsking reading word bits) result
+        (state_of before was log) (state_of (D.known desk.new) now (W.log world.new)) }
     ensures waits { W.wait_faults world.new ≡ W.wait_faults world.old }
 {
     match world.send(server, message)? {
@@ -99,7 +112,16 @@ fn connect<D: Desk, W: World>(
     message: &[u8],
     reading: u64,
 ) -> Result<(), NoMemory>
-    ensures goes { (before : Known) (was : Kept) (log : Option (List WorldCall)) (word bits number leg id : ℕ) (address : ServerAddr) → HasTold server address (state_of before was log) (state_of before kept.old (W.log world.old)) → link ≢ 0 → held_link link (map link_of_row kept.old.links.items) ≡ None → Calls (Starts word bits reading (Ok (Started number leg server address link id message.now))) 0 before (D.known desk.old) → Ends (λ done. Asks reading word bits) (CutAsking reading word bits) result (state_of before was log) (state_of (D.known desk.new) kept.new (W.log world.new)) }
+    ensures goes { (before : Known) (was : Kept) (log : Option (List WorldCall))
+        (word bits number leg id : ℕ) (address : ServerAddr)
+        → HasTold server address (state_of before was log)
+        (state_of before kept.old (W.log world.old)) → link ≢ 0
+        → held_link link (map link_of_row kept.old.links.items) ≡ None
+        → Calls (Starts word bits reading
+        (Ok (Started number leg server address link id message.now))) 0 before
+        (D.known desk.old)
+        → Ends (λ done. Asks reading word bits) (CutAsking reading word bits) result
+        (state_of before was log) (state_of (D.known desk.new) kept.new (W.log world.new)) }
     ensures waits { W.wait_faults world.new ≡ W.wait_faults world.old }
 {
     match world.connect(server, link)? {

@@ -17,7 +17,10 @@ pub fn close_idle<D: Desk, W: World>(
     world: &mut W,
     kept: &mut Kept,
 ) -> Result<(), NoMemory>
-    ensures goes { (reading : ℕ) → Ends (λ done. MakesPart reading closing 0 0 0) (CutPart reading closing) result (state_of (D.known desk.old) kept.old (W.log world.old)) (state_of (D.known desk.new) kept.new (W.log world.new)) }
+    ensures goes { (reading : ℕ)
+        → Ends (λ done. MakesPart reading closing 0 0 0) (CutPart reading closing) result
+        (state_of (D.known desk.old) kept.old (W.log world.old))
+        (state_of (D.known desk.new) kept.new (W.log world.new)) }
     ensures waits { W.wait_faults world.new ≡ W.wait_faults world.old }
 {
     let mut index = 0;
@@ -37,7 +40,10 @@ fn look_at<D: Desk, W: World>(
     index: usize,
 ) -> Result<bool, NoMemory>
     requires { index < vec_len kept.old.links }
-    ensures goes { (reading : ℕ) → Ends (LooksAt reading index) (CutLook reading) result (state_of (D.known desk.old) kept.old (W.log world.old)) (state_of (D.known desk.new) kept.new (W.log world.new)) }
+    ensures goes { (reading : ℕ)
+        → Ends (LooksAt reading index) (CutLook reading) result
+        (state_of (D.known desk.old) kept.old (W.log world.old))
+        (state_of (D.known desk.new) kept.new (W.log world.new)) }
     ensures left { IfOk result (λ stays. MatchBool stays (vec_len kept.new.links
         ≡ vec_len kept.old.links) (vec_len kept.new.links + 1 ≡ vec_len kept.old.links)) }
     ensures waits { W.wait_faults world.new ≡ W.wait_faults world.old }

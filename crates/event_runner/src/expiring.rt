@@ -17,7 +17,8 @@ const MOST: u64 = 65_536;
 /// Lets the attempts expire that are due at the reading. Answers how many that were.
 pub fn expire_all<D: Desk>(desk: &mut D, reading: u64) -> Result<u64, NoMemory>
     ensures goes { (kept : Kept) (log : Option (List WorldCall))
-        → Ends (λ count. MakesPart reading expiring 0 count 0) (CutPart reading expiring) result (state_of (D.known desk.old) kept log) (state_of (D.known desk.new) kept log) }
+        → Ends (λ count. MakesPart reading expiring 0 count 0) (CutPart reading expiring) result
+        (state_of (D.known desk.old) kept log) (state_of (D.known desk.new) kept log) }
 {
     for expired in 0..MOST {
         match desk.expire(reading)? {

@@ -50,7 +50,8 @@ impl Inbound {
         piece: &[u8],
     ) -> Result<(), NoMemory>
         ensures left { OnOk result (self.new ≡ left_in self.old piece.now) }
-        ensures delivers { Delivers server link (messages_in self.old piece.now) result (D.known desk.old) (D.known desk.new) }
+        ensures delivers { Delivers server link (messages_in self.old piece.now) result
+            (D.known desk.old) (D.known desk.new) }
     {
         self.bytes.append(piece)?;
         let delivered = deliver(&mut self.bytes, desk, server, link);
@@ -70,7 +71,8 @@ fn deliver<D: Desk>(
 ) -> Result<(), NoMemory>
     ensures uncut { OnOk result (IsUncut bytes.new) }
     ensures left { OnOk result (bytes.new ≡ left_in [] bytes.old) }
-    ensures delivers { Delivers server link (messages_in [] bytes.old) result (D.known desk.old) (D.known desk.new) }
+    ensures delivers { Delivers server link (messages_in [] bytes.old) result (D.known desk.old)
+        (D.known desk.new) }
 {
     while let Some(end) = frame_end(bytes.as_slice()) {
         desk.arrive(server, link, &bytes.as_slice()[HEAD..end])?;

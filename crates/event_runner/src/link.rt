@@ -73,7 +73,8 @@ impl HeldLink {
 
     /// Puts a message, in its frame, behind the bytes that are still to be written.
     pub fn queue(&mut self, message: &[u8]) -> Result<(), NoMemory>
-        ensures { OnOk result (self.new ≡ record self.old { unwritten = self.old.unwritten ++ framed message.now }) }
+        ensures { OnOk result
+            (self.new ≡ record self.old { unwritten = self.old.unwritten ++ framed message.now }) }
     {
         // The length of a frame has 16 bits. No query is longer.
         if message.len() > 0xffff {
@@ -88,7 +89,8 @@ impl HeldLink {
     pub fn feed<D: Desk>(&mut self, desk: &mut D, piece: &[u8]) -> Result<(), NoMemory>
         ensures left { OnOk result (self.new
             ≡ record self.old { unread = left_in self.old.unread piece.now }) }
-        ensures delivers { Delivers self.old.server self.old.number (messages_in self.old.unread piece.now) result (D.known desk.old) (D.known desk.new) }
+        ensures delivers { Delivers self.old.server self.old.number
+            (messages_in self.old.unread piece.now) result (D.known desk.old) (D.known desk.new) }
     {
         self.inbound.feed(desk, self.server, self.number, piece)
     }

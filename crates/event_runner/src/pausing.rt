@@ -20,7 +20,8 @@ pub fn pause_once<D: Desk, W: World>(
     world: &mut W,
     latest: u64,
 ) -> Result<Paused, NoMemory>
-    ensures pauses { Pauses latest result (D.known desk.old) (D.known desk.new) (W.log world.old) (W.log world.new) }
+    ensures pauses { Pauses latest result (D.known desk.old) (D.known desk.new) (W.log world.old)
+        (W.log world.new) }
     ensures wait_fault { result ≡ Ok Paused.WaitFault
         → Rose (W.wait_faults world.old) (W.wait_faults world.new) }
     ensures waits { W.wait_faults world.old ≤ W.wait_faults world.new }
@@ -47,7 +48,8 @@ fn earlier(due: Option<u64>, latest: u64) -> u64
 
 /// Nothing is pending, or something is ready, or a leg waits and an identifier is left.
 fn skips(counts: &Counts) -> bool
-    ensures { result ≡ ((counts.now.pending == 0) || not (counts.now.ready == 0) || (not (counts.now.waiting == 0) && nat_lt counts.now.flying most_entries)) }
+    ensures { result ≡ ((counts.now.pending == 0) || not (counts.now.ready == 0)
+        || (not (counts.now.waiting == 0) && nat_lt counts.now.flying most_entries)) }
 {
     counts.pending == 0 || counts.ready != 0 || (counts.waiting != 0 && counts.flying < IDS)
 }

@@ -27,7 +27,9 @@ pub fn receive_all<D: Desk, W: World>(
     kept: &mut Kept,
     reading: u64,
 ) -> Result<u64, NoMemory>
-    ensures goes { Ends (λ count. MakesPart reading receiving count 0 0) (CutPart reading receiving) result (state_of (D.known desk.old) kept.old (W.log world.old)) (state_of (D.known desk.new) kept.new (W.log world.new)) }
+    ensures goes { Ends (λ count. MakesPart reading receiving count 0 0)
+        (CutPart reading receiving) result (state_of (D.known desk.old) kept.old (W.log world.old))
+        (state_of (D.known desk.new) kept.new (W.log world.new)) }
     ensures waits { W.wait_faults world.new ≡ W.wait_faults world.old }
 {
     for received in 0..MOST {
@@ -45,7 +47,9 @@ fn receive_one<D: Desk, W: World>(
     kept: &mut Kept,
     reading: u64,
 ) -> Result<bool, NoMemory>
-    ensures goes { Ends (HearsOne reading) (CutHearing reading) result (state_of (D.known desk.old) kept.old (W.log world.old)) (state_of (D.known desk.new) kept.new (W.log world.new)) }
+    ensures goes { Ends (HearsOne reading) (CutHearing reading) result
+        (state_of (D.known desk.old) kept.old (W.log world.old))
+        (state_of (D.known desk.new) kept.new (W.log world.new)) }
     ensures waits { W.wait_faults world.new ≡ W.wait_faults world.old }
 {
     match world.receive()? {
@@ -71,7 +75,8 @@ fn take_piece<D: Desk>(
 ) -> Result<(), NoMemory>
     ensures goes { (before after : Option (List WorldCall))
         → Gets (Receive (Piece number bytes.now)) before after
-        → Ends (λ done. Hears reading 1) (CutHearing reading) result (state_of (D.known desk.old) kept.old before) (state_of (D.known desk.new) kept.new after) }
+        → Ends (λ done. Hears reading 1) (CutHearing reading) result
+        (state_of (D.known desk.old) kept.old before) (state_of (D.known desk.new) kept.new after) }
 {
     match find_link(&kept.links, number) {
         Some(index) => {
@@ -92,7 +97,9 @@ fn take_end<D: Desk, W: World>(
 ) -> Result<(), NoMemory>
     ensures goes { (before : Option (List WorldCall))
         → Gets (Receive (Ended number)) before (W.log world.old)
-        → Ends (λ done. Hears reading 1) (CutHearing reading) result (state_of (D.known desk.old) kept.old before) (state_of (D.known desk.new) kept.new (W.log world.new)) }
+        → Ends (λ done. Hears reading 1) (CutHearing reading) result
+        (state_of (D.known desk.old) kept.old before)
+        (state_of (D.known desk.new) kept.new (W.log world.new)) }
     ensures waits { W.wait_faults world.new ≡ W.wait_faults world.old }
 {
     match find_link(&kept.links, number) {
@@ -118,7 +125,9 @@ fn take_failure<D: Desk, W: World>(
 ) -> Result<(), NoMemory>
     ensures goes { (before : Option (List WorldCall))
         → Gets (Receive (LinkFailed server number)) before (W.log world.old)
-        → Ends (λ done. Hears reading 1) (CutHearing reading) result (state_of (D.known desk.old) kept.old before) (state_of (D.known desk.new) kept.new (W.log world.new)) }
+        → Ends (λ done. Hears reading 1) (CutHearing reading) result
+        (state_of (D.known desk.old) kept.old before)
+        (state_of (D.known desk.new) kept.new (W.log world.new)) }
     ensures waits { W.wait_faults world.new ≡ W.wait_faults world.old }
 {
     match find_link(&kept.links, number) {

@@ -44,7 +44,8 @@ impl Runner {
         world: &mut W,
         options: &Options,
     ) -> Result<Runner, NoMemory>
-        ensures opens { Opens (λ runner. runner.told) options.now.servers result (W.log world.old) (W.log world.new) }
+        ensures opens { Opens (λ runner. runner.told) options.now.servers result (W.log world.old)
+            (W.log world.new) }
         ensures fresh { IfOk result (λ runner. runner
             ≡ record runner { reading = 0; broken = false; rows = []; mix = options.now.flags.mix }) }
         ensures waits { W.wait_faults world.new ≡ W.wait_faults world.old }
@@ -70,7 +71,9 @@ impl Runner {
         desk: &mut D,
         world: &mut W,
     ) -> Result<Turned, NoMemory>
-        ensures goes { Ends MakesTurn IsCutShort result (run_of (D.known desk.old) self.old (W.log world.old)) (run_of (D.known desk.new) self.new (W.log world.new)) }
+        ensures goes { Ends MakesTurn IsCutShort result
+            (run_of (D.known desk.old) self.old (W.log world.old))
+            (run_of (D.known desk.new) self.new (W.log world.new)) }
         ensures reading { IfOk result (λ turned. self.new.reading ≡ turned.reading) }
         ensures clock { IfOk result (λ turned. W.reading world.old ≤ turned.reading) }
         ensures breaks { self.new.broken ≡ (self.old.broken || is_err result) }
@@ -97,7 +100,8 @@ impl Runner {
         world: &mut W,
         slice: u64,
     ) -> Result<Paused, NoMemory>
-        ensures pauses { Pauses (min (self.old.reading + slice) (2 ^ 64 - 1)) result (D.known desk.old) (D.known desk.new) (W.log world.old) (W.log world.new) }
+        ensures pauses { Pauses (min (self.old.reading + slice) (2 ^ 64 - 1)) result
+            (D.known desk.old) (D.known desk.new) (W.log world.old) (W.log world.new) }
         ensures wait_fault { result ≡ Ok Paused.WaitFault
             → Rose (W.wait_faults world.old) (W.wait_faults world.new) }
         ensures kept { self.new ≡ record self.old { broken = self.old.broken || is_err result } }

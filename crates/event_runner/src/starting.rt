@@ -22,7 +22,9 @@ pub fn start_all<D: Desk, W: World>(
     kept: &mut Kept,
     reading: u64,
 ) -> Result<u64, NoMemory>
-    ensures goes { Ends (λ count. MakesPart reading starting 0 0 count) (CutPart reading starting) result (state_of (D.known desk.old) kept.old (W.log world.old)) (state_of (D.known desk.new) kept.new (W.log world.new)) }
+    ensures goes { Ends (λ count. MakesPart reading starting 0 0 count)
+        (CutPart reading starting) result (state_of (D.known desk.old) kept.old (W.log world.old))
+        (state_of (D.known desk.new) kept.new (W.log world.new)) }
     ensures waits { W.wait_faults world.new ≡ W.wait_faults world.old }
 {
     for started in 0..MOST {
@@ -40,7 +42,9 @@ fn start_one<D: Desk, W: World>(
     kept: &mut Kept,
     reading: u64,
 ) -> Result<bool, NoMemory>
-    ensures goes { Ends (BeginsOne reading) (CutBeginning reading) result (state_of (D.known desk.old) kept.old (W.log world.old)) (state_of (D.known desk.new) kept.new (W.log world.new)) }
+    ensures goes { Ends (BeginsOne reading) (CutBeginning reading) result
+        (state_of (D.known desk.old) kept.old (W.log world.old))
+        (state_of (D.known desk.new) kept.new (W.log world.new)) }
     ensures waits { W.wait_faults world.new ≡ W.wait_faults world.old }
 {
     let word = world.word()?;

@@ -22,7 +22,9 @@ pub fn turn_once<D: Desk, W: World>(
     world: &mut W,
     kept: &mut Kept,
 ) -> Result<Turned, NoMemory>
-    ensures goes { Ends MakesTurn IsCutShort result (state_of (D.known desk.old) kept.old (W.log world.old)) (state_of (D.known desk.new) kept.new (W.log world.new)) }
+    ensures goes { Ends MakesTurn IsCutShort result
+        (state_of (D.known desk.old) kept.old (W.log world.old))
+        (state_of (D.known desk.new) kept.new (W.log world.new)) }
     ensures clock { IfOk result (λ turned. W.reading world.old ≤ turned.reading) }
     ensures waits { W.wait_faults world.new ≡ W.wait_faults world.old }
 {

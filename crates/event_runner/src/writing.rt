@@ -21,7 +21,9 @@ pub fn write_all<D: Desk, W: World>(
     kept: &mut Kept,
     reading: u64,
 ) -> Result<(), NoMemory>
-    ensures goes { Ends (λ done. MakesPart reading writing 0 0 0) (CutPart reading writing) result (state_of (D.known desk.old) kept.old (W.log world.old)) (state_of (D.known desk.new) kept.new (W.log world.new)) }
+    ensures goes { Ends (λ done. MakesPart reading writing 0 0 0) (CutPart reading writing) result
+        (state_of (D.known desk.old) kept.old (W.log world.old))
+        (state_of (D.known desk.new) kept.new (W.log world.new)) }
     ensures waits { W.wait_faults world.new ≡ W.wait_faults world.old }
 {
     let mut index = 0;
@@ -42,7 +44,9 @@ fn write_one<D: Desk, W: World>(
     reading: u64,
 ) -> Result<bool, NoMemory>
     requires { index < vec_len kept.old.links }
-    ensures goes { Ends (λ stays. WritesAt reading index stays) (CutWriting reading) result (state_of (D.known desk.old) kept.old (W.log world.old)) (state_of (D.known desk.new) kept.new (W.log world.new)) }
+    ensures goes { Ends (λ stays. WritesAt reading index stays) (CutWriting reading) result
+        (state_of (D.known desk.old) kept.old (W.log world.old))
+        (state_of (D.known desk.new) kept.new (W.log world.new)) }
     ensures left { IfOk result (λ stays. MatchBool stays (vec_len kept.new.links
         ≡ vec_len kept.old.links) (vec_len kept.new.links + 1 ≡ vec_len kept.old.links)) }
     ensures waits { W.wait_faults world.new ≡ W.wait_faults world.old }
@@ -60,7 +64,9 @@ fn write_one<D: Desk, W: World>(
 
 /// Writes to the link until nothing is left or the network takes no byte. Answers whether the link hasn't failed.
 fn flush<W: World>(world: &mut W, link: &mut HeldLink) -> Result<bool, NoMemory>
-    ensures goes { (reading : ℕ) (known : Known) (before after : List Row) (keys : List ℕ) (mix : Bool) → FlushEnds reading result (with_row reading known before after keys mix) link.old link.new (W.log world.old) (W.log world.new) }
+    ensures goes { (reading : ℕ) (known : Known) (before after : List Row) (keys : List ℕ)
+        (mix : Bool) → FlushEnds reading result
+        (with_row reading known before after keys mix) link.old link.new (W.log world.old) (W.log world.new) }
     ensures number { link.new.number ≡ link.old.number }
     ensures server { link.new.server ≡ link.old.server }
     ensures waits { W.wait_faults world.new ≡ W.wait_faults world.old }

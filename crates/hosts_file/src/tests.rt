@@ -1,3 +1,5 @@
+//! A hosts file as machines have it, and what it answers.
+
 use super::*;
 use std::alloc::Global;
 use std::test::Fail;

@@ -1,3 +1,5 @@
+//! The lists that every crate uses, by name.
+
 use crate::list::ItemList;
 
 /// Bytes: a message, a text, a label or rdata.

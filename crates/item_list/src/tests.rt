@@ -1,3 +1,5 @@
+//! A list with ample memory.
+
 use super::*;
 use std::test::Fail;
 

@@ -1,3 +1,5 @@
+//! Addresses, and servers by address and port.
+
 use dns_message::ItemList;
 
 /// An address, its first byte the highest.

@@ -1,3 +1,5 @@
+//! Texts of addresses, as tables.
+
 use super::*;
 use std::test::Fail;
 

@@ -1,4 +1,4 @@
-// What the calls of the outside answer.
+//! What the calls of the outside answer.
 
 use dns_message::Bytes;
 

@@ -1,4 +1,4 @@
-// Which calls of a form in memory fail, and how often one has.
+//! Which calls of a form in memory fail, and how often one has.
 
 ghost use Rattle.std.specs.Prelude.{◌≡◌};
 ghost use Rattle.net_world.specs.Cause.{fails_at, raised};

@@ -1,4 +1,4 @@
-// Files, as callers see them.
+//! Files, as callers see them.
 
 ghost use Rattle.std.specs.Prelude.{◌≡◌, List, ℕ, Option, IfOk};
 ghost use Rattle.net_world.specs.Cause.{HasCause, is_not_read};

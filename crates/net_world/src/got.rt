@@ -1,4 +1,4 @@
-// Reading what was received.
+//! Reading what was received.
 
 ghost use Rattle.std.specs.Prelude.{◌≡◌, IfOk};
 ghost use Rattle.net_world.specs.World.{is_of_link};

@@ -1,4 +1,4 @@
-// A World that is lent is a World.
+//! A World that is lent is a World.
 
 use crate::answers::{Got, Sent, Waited, Wrote};
 use crate::world::World;

@@ -1,4 +1,4 @@
-// The log of a World: its calls with their answers, the oldest first.
+//! The log of a World: its calls with their answers, the oldest first.
 
 ghost use Rattle.std.specs.Prelude.{◌≡◌, [], ◌∷◌, ◌++◌, OnOk, OnErr};
 

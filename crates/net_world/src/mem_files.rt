@@ -1,4 +1,4 @@
-// Files that are held in memory.
+//! Files that are held in memory.
 
 ghost use Rattle.std.specs.Prelude.{◌≡◌, List, ℕ, IfOk, OnErr};
 ghost use Rattle.std.specs.Option.{option_copied};
@@ -34,7 +34,8 @@ impl MemFiles {
     /// These files, whose reads with these numbers, from 0, fail. It takes no memory.
     #[tactic(auto, using(crate::proofs::MapLemmas::lookup_paths))]
     pub fn make(files: BTreeMap<String, Bytes>, fails: Vec<u64>) -> MemFiles
-        ensures state { result ≡ record { files = paths_of files.entries; calls = 0; fails = fails.items; faults = 0 } }
+        ensures state { result
+            ≡ record { files = paths_of files.entries; calls = 0; fails = fails.items; faults = 0 } }
         ensures files { (path : List ℕ) → file_of result.files path ≡ get_by_text files path }
     {
         MemFiles {

@@ -1,4 +1,4 @@
-// Output that stays in memory.
+//! Output that stays in memory.
 
 ghost use Rattle.std.specs.Prelude.{◌≡◌, [], IfOk, OnErr};
 ghost use Rattle.net_world.specs.MemSink.{PutsWhole};

@@ -1,4 +1,4 @@
-// A World in memory that goes by a script, and the exact meaning of its calls.
+//! A World in memory that goes by a script, and the exact meaning of its calls.
 
 ghost use Rattle.std.specs.Prelude.{◌≡◌, ◌≢◌, ◌≤◌, [], IfOk, OnOk, OnErr, All};
 ghost use Rattle.net_world.specs.Script.{at_start, fails_now, due, MayCome};

@@ -1,4 +1,4 @@
-// A scripted World is a World that tells its log and its items.
+//! A scripted World is a World that tells its log and its items.
 
 use crate::answers::{Got, Sent, Waited, Wrote};
 use crate::script_world::ScriptWorld;

@@ -1,4 +1,4 @@
-// Output, as callers see it.
+//! Output, as callers see it.
 
 ghost use Rattle.std.specs.Prelude.{◌≡◌, List, ℕ, Option};
 ghost use Rattle.net_world.specs.Cause.{HasCause, is_not_put};

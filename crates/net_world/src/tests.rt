@@ -1,3 +1,5 @@
+//! The outside in memory: what its calls answer, and what its log tells.
+
 use super::*;
 use dns_message::{Bytes, NoMemory};
 use net_addr::{Addr, ServerAddr};

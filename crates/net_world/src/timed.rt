@@ -1,4 +1,4 @@
-// What a script lets a World receive, and from which moment on.
+//! What a script lets a World receive, and from which moment on.
 
 ghost use Rattle.std.specs.Prelude.{◌≡◌, IfOk, find, position};
 ghost use Rattle.std.specs.Option.{option_copied};

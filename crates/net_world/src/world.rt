@@ -1,4 +1,4 @@
-// The network, the clock and the random words, as callers see them.
+//! The network, the clock and the random words, as callers see them.
 
 ghost use Rattle.std.specs.Prelude.{◌≡◌, List, ℕ, Option, Result, length, IfOk};
 ghost use Rattle.net_world.specs.declared.answers.Got.{Got};

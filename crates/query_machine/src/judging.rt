@@ -27,7 +27,8 @@ pub fn verdict(
     kind: u16,
     address_leg: bool,
 ) -> Judged
-    ensures { result ≡ verdict_of flags tcp edns (if address_leg then Some kind else None) (reply_seen reply.now) }
+    ensures { result ≡ verdict_of flags tcp edns (if address_leg then Some kind else None)
+        (reply_seen reply.now) }
 {
     let message = &reply.message;
     let code = full_rcode(message, reply.opt.as_ref());
@@ -76,7 +77,8 @@ fn status_of_rcode(code: u16) -> Status
 
 /// The status of a good reply: whether it has the wanted answers.
 fn status_of_answers(records: &[Record], kind: u16, address_leg: bool) -> Status
-    ensures { result ≡ (if has_answer (if address_leg then Some kind else None) records.now then Status.Success else Status.NoData) }
+    ensures { result ≡ (if has_answer
+        (if address_leg then Some kind else None) records.now then Status.Success else Status.NoData) }
 {
     let found = if address_leg {
         has_kind(records, kind)

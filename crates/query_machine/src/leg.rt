@@ -67,7 +67,8 @@ impl Leg {
     /// milliseconds); `mix` has the bits that its letters' case was drawn with, if it was.
     pub fn start(&mut self, server: u32, link: u64, id: u16, mix: Option<u16>, at: u64, wait: u64)
         requires waits { IsWaiting self.old.phase }
-        ensures { self.new ≡ record self.old { phase = Phase.InFlight (attempt_from server link id mix at wait) } }
+        ensures { self.new
+            ≡ record self.old { phase = Phase.InFlight (attempt_from server link id mix at wait) } }
     {
         self.phase = Phase::InFlight(Flying {
             server,

@@ -1,3 +1,5 @@
+//! The switches of a channel.
+
 /// What queries and replies are to be like: eight switches of a channel, with the names of c-ares.
 #[derive(Clone, Copy, Debug, PartialEq, Eq)]
 pub struct Flags {

@@ -1,3 +1,5 @@
+//! The order of lookups.
+
 /// Where the addresses of a host are looked for, in order.
 #[derive(Clone, Copy, Debug, PartialEq, Eq)]
 pub enum Lookups {

@@ -38,7 +38,10 @@ fn server_in(words: &[&[u8]]) -> Option<ServerAddr>
 /// Adds the server of a line, if it is readable and among the first eight.
 fn add_server(servers: &mut Vec<ServerAddr>, words: &[&[u8]]) -> Result<(), NoMemory>
     requires { length servers.old.items ≤ 8 }
-    ensures { OnOk result (servers.new.items ≡ resolv.servers_after servers.old.items (record { keyword = Keyword.Nameserver; words = map (λ word. word.now) words.now } ∷ [])) }
+    ensures { OnOk result
+        (servers.new.items
+        ≡ resolv.servers_after servers.old.items
+        (record { keyword = Keyword.Nameserver; words = map (λ word. word.now) words.now } ∷ [])) }
 {
     match server_in(words) {
         Some(server) => {
@@ -87,8 +90,13 @@ fn follow(
     words: &[&[u8]],
 ) -> Result<(), NoMemory>
     requires { length servers.old.items ≤ 8 }
-    ensures options { OnOk result (options.new ≡ resolv.with_directives options.old (record { keyword = keyword; words = map (λ word. word.now) words.now } ∷ [])) }
-    ensures servers { OnOk result (servers.new.items ≡ resolv.servers_after servers.old.items (record { keyword = keyword; words = map (λ word. word.now) words.now } ∷ [])) }
+    ensures options { OnOk result
+        (options.new ≡ resolv.with_directives options.old
+        (record { keyword = keyword; words = map (λ word. word.now) words.now } ∷ [])) }
+    ensures servers { OnOk result
+        (servers.new.items
+        ≡ resolv.servers_after servers.old.items
+        (record { keyword = keyword; words = map (λ word. word.now) words.now } ∷ [])) }
 {
     match keyword {
         Keyword::Nameserver => add_server(servers, words),
@@ -116,8 +124,10 @@ fn follow_line(
     line: &[u8],
 ) -> Result<(), NoMemory>
     requires { length servers.old.items ≤ 8 }
-    ensures options { OnOk result (options.new ≡ resolv.with_directives options.old (resolv.directive_of_line line.now ∷ [])) }
-    ensures servers { OnOk result (servers.new.items ≡ resolv.servers_after servers.old.items (resolv.directive_of_line line.now ∷ [])) }
+    ensures options { OnOk result
+        (options.new ≡ resolv.with_directives options.old (resolv.directive_of_line line.now ∷ [])) }
+    ensures servers { OnOk result
+        (servers.new.items ≡ resolv.servers_after servers.old.items (resolv.directive_of_line line.now ∷ [])) }
 {
     let words = words_before_comment(alloc, line)?;
     match words.as_slice().split_first() {

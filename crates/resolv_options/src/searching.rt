@@ -53,7 +53,8 @@ fn offer_joined(
     name: &Name,
     domain: &Name,
 ) -> Result<(), NoMemory>
-    ensures { OnOk result (names.new ≡ names.old ++ search.candidates_after names.old ((name.now ++ domain.now) ∷ [])) }
+    ensures { OnOk result
+        (names.new ≡ names.old ++ search.candidates_after names.old ((name.now ++ domain.now) ∷ [])) }
 {
     match name.joined(alloc, domain)? {
         Some(joined) => offer(names, joined),
@@ -68,7 +69,9 @@ fn offer_with_domains(
     name: &Name,
     domains: &[Name],
 ) -> Result<(), NoMemory>
-    ensures { OnOk result (names.new ≡ names.old ++ search.candidates_after names.old (search.with_domains name.now domains.now)) }
+    ensures { OnOk result
+        (names.new ≡ names.old
+        ++ search.candidates_after names.old (search.with_domains name.now domains.now)) }
 {
     for domain in domains {
         offer_joined(alloc, names, name, domain)?;

@@ -1,3 +1,5 @@
+//! Texts of resolv.conf, as tables.
+
 use super::*;
 use std::alloc::Global;
 use std::test::Fail;

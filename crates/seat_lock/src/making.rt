@@ -47,7 +47,9 @@ fn lay<S: Kept>(
     about: &Opened<S>,
 ) -> Result<(LockTable<S>, LockToken<S>), AllocError>
     requires { (0 < about.now.seats) × (about.now.seats ≤ 64) }
-    ensures table { IfOk result (λ r. (r.0.shared.table_id.words ≡ 2) × (r.0.shared.table_id.slots ≡ 1) × (r.1.table_id ≡ r.0.shared.table_id)) }
+    ensures table { IfOk result
+        (λ r. (r.0.shared.table_id.words ≡ 2) × (r.0.shared.table_id.slots ≡ 1)
+        × (r.1.table_id ≡ r.0.shared.table_id)) }
     ensures first { IfOk result (λ r. r.1.me ≡ (first_view (S.setting about.now.state) about.now.seats, [])) }
 {
     Table::vacant(alloc, &[1, 0], 1, about)
@@ -62,7 +64,8 @@ fn add_others<S: Kept>(
 )
     requires table { (token.old.table_id ≡ shared.now.table_id) × (shared.now.table_id.words ≡ 2) }
     requires first { IsFounder seats token.old.me.0 }
-    requires room { (vec_len all.old ≡ 0) × (all.old.items ≡ []) × (seats ≤ vec_capacity all.old) × (0 < seats) }
+    requires room { (vec_len all.old ≡ 0) × (all.old.items ≡ []) × (seats ≤ vec_capacity all.old)
+        × (0 < seats) }
     ensures token { (token.new.table_id ≡ token.old.table_id) × (token.new.id ≡ token.old.id) }
     ensures first { token.new.me ≡ (in_phase token.old.me.0 (Phase.Makes seats), token.old.me.1) }
     ensures others { all.new.items ≡ others token.old.table_id token.old.me.0 (seats - 1) }
@@ -80,7 +83,8 @@ fn add_others<S: Kept>(
 /// Takes the empty slot, before there is a state.
 fn found<S: Kept>(shared: &LockShared<S>, token: &mut LockToken<S>)
     requires table { (token.old.table_id ≡ shared.now.table_id) × (shared.now.table_id.words ≡ 2) }
-    requires first { (token.old.me.0.phase ≡ Phase.Empty) × (token.old.me.1 ≡ []) × IsSome token.old.me.0.setting }
+    requires first { (token.old.me.0.phase ≡ Phase.Empty) × (token.old.me.1 ≡ [])
+        × IsSome token.old.me.0.setting }
     ensures token { (token.new.table_id ≡ token.old.table_id) × (token.new.id ≡ token.old.id) }
     ensures founded { Founds token.old.me token.new.me }
 {
@@ -91,7 +95,8 @@ fn found<S: Kept>(shared: &LockShared<S>, token: &mut LockToken<S>)
 fn add_seat<S: Kept>(shared: &LockShared<S>, token: &mut LockToken<S>) -> LockToken<S>
     requires table { (token.old.table_id ≡ shared.now.table_id) × (shared.now.table_id.words ≡ 2) }
     requires makes { CanAdd token.old.me.0 }
-    ensures token { (token.new.table_id ≡ token.old.table_id) × (token.new.id ≡ token.old.id) × (result.table_id ≡ token.old.table_id) }
+    ensures token { (token.new.table_id ≡ token.old.table_id) × (token.new.id ≡ token.old.id)
+        × (result.table_id ≡ token.old.table_id) }
     ensures first { token.new.me ≡ (founder token.old.me.0, token.old.me.1) }
     ensures next { result.me ≡ (next_seat token.old.me.0, []) }
 {

@@ -79,7 +79,8 @@ pub fn take<S: Kept, R: Wait>(
 
 /// Moves the state back into its slot, and ends the turn.
 pub fn give<S: Kept>(shared: &LockShared<S>, token: &mut LockToken<S>, state: S)
-    requires table { (token.old.table_id ≡ shared.now.table_id) × (shared.now.table_id.words ≡ 2) × (shared.now.table_id.slots ≡ 1) }
+    requires table { (token.old.table_id ≡ shared.now.table_id) × (shared.now.table_id.words ≡ 2)
+        × (shared.now.table_id.slots ≡ 1) }
     requires gives { CanGive S.stands S.maker S.setting token.old.me state }
     ensures token { (token.new.table_id ≡ token.old.table_id) × (token.new.id ≡ token.old.id) }
     ensures gave { token.new.me ≡ (after_leave S.stands token.old.me.0 ((0, Some state) ∷ []), []) }
@@ -94,7 +95,8 @@ pub fn give<S: Kept>(shared: &LockShared<S>, token: &mut LockToken<S>, state: S)
 
 /// Gives the state back and serves the next ticket.
 pub fn leave<S: Kept>(shared: &LockShared<S>, token: &mut LockToken<S>)
-    requires table { (token.old.table_id ≡ shared.now.table_id) × (shared.now.table_id.words ≡ 2) × (shared.now.table_id.slots ≡ 1) }
+    requires table { (token.old.table_id ≡ shared.now.table_id) × (shared.now.table_id.words ≡ 2)
+        × (shared.now.table_id.slots ≡ 1) }
     requires holds { CanLeave S.stands S.maker S.setting token.old.me }
     ensures token { (token.new.table_id ≡ token.old.table_id) × (token.new.id ≡ token.old.id) }
     ensures left { Leaves S.stands S.maker token.old.me token.new.me }
@@ -105,7 +107,8 @@ pub fn leave<S: Kept>(shared: &LockShared<S>, token: &mut LockToken<S>)
 /// Learns the history so far.
 pub fn catch_up<S: Kept>(shared: &LockShared<S>, token: &mut LockToken<S>)
     requires table { (token.old.table_id ≡ shared.now.table_id) × (shared.now.table_id.words ≡ 2) }
-    requires idle { (token.old.me.0.phase ≡ Phase.Idle) × (token.old.me.1 ≡ []) × IsSome token.old.me.0.setting }
+    requires idle { (token.old.me.0.phase ≡ Phase.Idle) × (token.old.me.1 ≡ [])
+        × IsSome token.old.me.0.setting }
     ensures token { (token.new.table_id ≡ token.old.table_id) × (token.new.id ≡ token.old.id) }
     ensures further { CatchesUp S.maker token.old.me token.new.me }
 {
@@ -114,7 +117,8 @@ pub fn catch_up<S: Kept>(shared: &LockShared<S>, token: &mut LockToken<S>)
 
 /// Takes in what another seat leaves.
 pub fn merge<S: Kept>(shared: &LockShared<S>, token: &mut LockToken<S>, other: LockToken<S>)
-    requires table { (token.old.table_id ≡ shared.now.table_id) × (other.table_id ≡ shared.now.table_id) × (shared.now.table_id.words ≡ 2) }
+    requires table { (token.old.table_id ≡ shared.now.table_id)
+        × (other.table_id ≡ shared.now.table_id) × (shared.now.table_id.words ≡ 2) }
     requires idle { IsResting S.maker token.old.me × IsResting S.maker other.me }
     ensures token { (token.new.table_id ≡ token.old.table_id) × (token.new.id ≡ token.old.id) }
     ensures both { token.new.me ≡ (both token.old.me.0 other.me.0, []) }

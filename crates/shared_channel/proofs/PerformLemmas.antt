@@ -25,7 +25,7 @@ use Rattle.channel_model.specs.Meanings.{Accepts, Cancels, Destroys, Meaning}
 use Rattle.channel_model.specs.Seen.{entries_of}
 use Rattle.channel_model.specs.Setting.{Setting}
 use Rattle.channel_model.specs.declared.answers.Refused.{Refused}
-use Rattle.channel_model.proofs.PerformanceLemmas.{all_became_append, all_became_longer, position_after}
+use Rattle.channel_model.proofs.Theorems.{all_became_append, all_became_longer, position_after}
 use Rattle.channel_model.proofs.Theorems.{own-others}
 use Rattle.shared_channel.specs.Passes.{PassView, belongings_code, belongings_of, desk_of, pass_of}
 use Rattle.completion_ticket.specs.States.{CallbackState}

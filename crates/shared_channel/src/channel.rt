@@ -42,7 +42,8 @@ impl<B: Done + Drop> Channel<B> {
         seats: u64,
     ) -> Result<(Channel<B>, Vec<Pass<B>>), NoMemory>
         requires { (0 < seats) × (seats ≤ 64) }
-        ensures { IfOk result (λ made. IsNewChannel made.0 (record { options = options; hosts = hosts }) seats made.1.items) }
+        ensures { IfOk result
+            (λ made. IsNewChannel made.0 (record { options = options; hosts = hosts }) seats made.1.items) }
     {
         let table = Box::new(alloc, Table::make(alloc, options, hosts)?)?;
         let Ok((lock, all)) = make(alloc, SharedTable { table }, seats) else {

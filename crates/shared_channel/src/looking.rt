@@ -33,7 +33,8 @@ impl<B: Done + Drop> Op<SharedTable<B>> for CountsOp {
 
     type Reply = Counts;
 
-    ghost means = { λ op setting before seat reply after. Does (TellsCounts reply) 0 setting before seat after };
+    ghost means = { λ op setting before seat reply after. Does
+        (TellsCounts reply) 0 setting before seat after };
 
     #[tactic(auto, using(crate::proofs::Adding::does_adds, crate::proofs::Adding::counts_look))]
     fn run(self, state: &mut SharedTable<B>, _seat: u64) -> Counts {
@@ -54,7 +55,8 @@ impl<B: Done + Drop> Op<SharedTable<B>> for LinkBusyOp {
 
     type Reply = bool;
 
-    ghost means = { λ op setting before seat reply after. Does (TellsBusy op.server op.link reply) 0 setting before seat after };
+    ghost means = { λ op setting before seat reply after. Does
+        (TellsBusy op.server op.link reply) 0 setting before seat after };
 
     #[tactic(auto, using(crate::proofs::Adding::does_adds, crate::proofs::Adding::busy_looks))]
     fn run(self, state: &mut SharedTable<B>, _seat: u64) -> bool {

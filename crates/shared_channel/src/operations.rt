@@ -20,7 +20,8 @@ impl<B: Done + Drop> Op<SharedTable<B>> for AcceptOp<B> {
 
     type Reply = Result<u64, Refused<Callback<B>>>;
 
-    ghost means = { λ op setting before seat reply after. Does (Accepts plan_of op.spec op.token reply) op.by setting before seat after };
+    ghost means = { λ op setting before seat reply after. Does
+        (Accepts plan_of op.spec op.token reply) op.by setting before seat after };
 
     fn run(self, state: &mut SharedTable<B>, seat: u64) -> Result<u64, Refused<Callback<B>>> {
         let AcceptOp { by, spec, token } = self;
@@ -40,7 +41,8 @@ impl<B: Done + Drop> Op<SharedTable<B>> for CancelOp {
 
     type Reply = u64;
 
-    ghost means = { λ op setting before seat reply after. Does (Cancels reply) op.by setting before seat after };
+    ghost means = { λ op setting before seat reply after. Does
+        (Cancels reply) op.by setting before seat after };
 
     fn run(self, state: &mut SharedTable<B>, seat: u64) -> u64 {
         state.table.cancel(seat, self.by)
@@ -59,7 +61,8 @@ impl<B: Done + Drop> Op<SharedTable<B>> for DestroyOp {
 
     type Reply = bool;
 
-    ghost means = { λ op setting before seat reply after. Does (Destroys reply) op.by setting before seat after };
+    ghost means = { λ op setting before seat reply after. Does
+        (Destroys reply) op.by setting before seat after };
 
     fn run(self, state: &mut SharedTable<B>, seat: u64) -> bool {
         state.table.destroy(seat, self.by)
@@ -76,7 +79,8 @@ impl<B: Done + Drop> Op<SharedTable<B>> for TakeOp {
 
     type Reply = Option<Ticket<Callback<B>>>;
 
-    ghost means = { λ op setting before seat reply after. Does (Takes plan_of reply) 0 setting before seat after };
+    ghost means = { λ op setting before seat reply after. Does
+        (Takes plan_of reply) 0 setting before seat after };
 
     fn run(self, state: &mut SharedTable<B>, seat: u64) -> Option<Ticket<Callback<B>>> {
         state.table.take(seat)

@@ -23,7 +23,8 @@ impl<B: Done + Drop> Op<SharedTable<B>> for StartOp {
 
     type Reply = Result<Begun, NoMemory>;
 
-    ghost means = { λ op setting before seat reply after. Does (Starts op.word op.mix op.at reply) 0 setting before seat after };
+    ghost means = { λ op setting before seat reply after. Does
+        (Starts op.word op.mix op.at reply) 0 setting before seat after };
 
     fn run(self, state: &mut SharedTable<B>, seat: u64) -> Result<Begun, NoMemory> {
         state.table.start(seat, self.word, self.mix, self.at)
@@ -44,7 +45,8 @@ impl<'a, B: Done + Drop> Op<SharedTable<B>> for ArriveOp<'a> {
 
     type Reply = Result<Landed, NoMemory>;
 
-    ghost means = { λ op setting before seat reply after. Does (Arrives op.server op.link op.bytes.now reply) 0 setting before seat after };
+    ghost means = { λ op setting before seat reply after. Does
+        (Arrives op.server op.link op.bytes.now reply) 0 setting before seat after };
 
     fn run(self, state: &mut SharedTable<B>, seat: u64) -> Result<Landed, NoMemory> {
         state.table.arrive(seat, self.server, self.link, self.bytes)
@@ -63,7 +65,8 @@ impl<B: Done + Drop> Op<SharedTable<B>> for ExpireOp {
 
     type Reply = Result<Lapse, NoMemory>;
 
-    ghost means = { λ op setting before seat reply after. Does (Expires op.at reply) 0 setting before seat after };
+    ghost means = { λ op setting before seat reply after. Does
+        (Expires op.at reply) 0 setting before seat after };
 
     fn run(self, state: &mut SharedTable<B>, seat: u64) -> Result<Lapse, NoMemory> {
         state.table.expire(seat, self.at)
@@ -84,7 +87,8 @@ impl<B: Done + Drop> Op<SharedTable<B>> for FaultOp {
 
     type Reply = Result<u64, NoMemory>;
 
-    ghost means = { λ op setting before seat reply after. Does (Fails op.server op.link op.at reply) 0 setting before seat after };
+    ghost means = { λ op setting before seat reply after. Does
+        (Fails op.server op.link op.at reply) 0 setting before seat after };
 
     fn run(self, state: &mut SharedTable<B>, seat: u64) -> Result<u64, NoMemory> {
         state.table.fault(seat, self.server, self.link, self.at)
@@ -105,7 +109,8 @@ impl<'a, B: Done + Drop> Op<SharedTable<B>> for SetServersOp<'a> {
 
     type Reply = Result<u64, SetFault>;
 
-    ghost means = { λ op setting before seat reply after. Does (SetsServers op.servers.now reply) 0 setting before seat after };
+    ghost means = { λ op setting before seat reply after. Does
+        (SetsServers op.servers.now reply) 0 setting before seat after };
 
     fn run(self, state: &mut SharedTable<B>, seat: u64) -> Result<u64, SetFault> {
         state.table.set_servers(seat, self.servers)

@@ -1,4 +1,4 @@
-// The system's monotonic clock.
+//! The system's monotonic clock.
 
 use std::time::Clock;
 

@@ -1,4 +1,4 @@
-// What the answers of the system's calls mean.
+//! What the answers of the system's calls mean.
 
 ghost use Rattle.std.specs.Prelude.{◌≡◌, ◌≢◌, IfOk, IfErr};
 ghost use Rattle.std.specs.IoError.{error_kind};
@@ -28,7 +28,8 @@ pub(crate) fn moved_of(ended: io::Result<usize>) -> Moved
     ensures done { IfOk ended (λ count. result ≡ Done count) }
     ensures blocked { IfErr ended (λ e. error_kind e ≡ ErrorKind.WouldBlock → result ≡ Blocked) }
     ensures again { IfErr ended (λ e. error_kind e ≡ ErrorKind.Interrupted → result ≡ Again) }
-    ensures failed { IfErr ended (λ e. error_kind e ≢ ErrorKind.WouldBlock → error_kind e ≢ ErrorKind.Interrupted → result ≡ Failed) }
+    ensures failed { IfErr ended
+        (λ e. error_kind e ≢ ErrorKind.WouldBlock → error_kind e ≢ ErrorKind.Interrupted → result ≡ Failed) }
 {
     match ended {
         Ok(count) => Moved::Done(count),

@@ -1,4 +1,4 @@
-// What was received and not given yet. A socket's buffer is short, so it is emptied into a list here.
+//! What was received and not given yet. A socket's buffer is short, so it is emptied into a list here.
 
 ghost use Rattle.std.specs.Prelude.{◌≡◌, ◌≤◌, ◌↔◌, [], ◌∷◌, ◌++◌, length, filter, not, IsTrue, IfOk, OnOk, OnErr, IfSome, option_to_list, All};
 ghost use Rattle.net_world.specs.World.{IsWhole, is_of_link};

@@ -1,4 +1,4 @@
-// One TCP connection to a server.
+//! One TCP connection to a server.
 
 ghost use Rattle.std.specs.Prelude.{length};
 ghost use Rattle.net_world.specs.World.{IsPartOf};

@@ -1,4 +1,4 @@
-// The sockets of all servers and links, one poll over them, and the generator.
+//! The sockets of all servers and links, one poll over them, and the generator.
 
 ghost use Rattle.std.specs.Prelude.{◌≡◌, [], length, filter, not, IfOk, IfSome, OnErr};
 ghost use mathlib.Core.List.{IsPrefix};

@@ -1,4 +1,4 @@
-// The addresses of the two ends of a socket.
+//! The addresses of the two ends of a socket.
 
 ghost use Rattle.std.specs.Prelude.{◌≡◌};
 ghost use Rattle.std.specs.Net.Socket.{socket_ip, socket_port};

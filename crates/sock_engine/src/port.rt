@@ -1,4 +1,4 @@
-// One UDP socket of a server.
+//! One UDP socket of a server.
 
 ghost use Rattle.sock_engine.specs.Inbox.{BringsOnly, IsOfServer};
 

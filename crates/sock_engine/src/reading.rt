@@ -1,4 +1,4 @@
-// Reading a file to its end, and what the system's refusals mean.
+//! Reading a file to its end, and what the system's refusals mean.
 
 ghost use Rattle.std.specs.Prelude.{◌≡◌, ◌≢◌, ℕ, ◌+◌, ◌-◌, ◌^◌, min, List, take, IsTrue, IfOk, IfSome, Ok, true};
 ghost use Rattle.std.specs.Fs.{IsFile};
@@ -49,7 +49,9 @@ fn refusal(error: &io::Error) -> Result<FileRead, NoMemory>
     ensures absent { error_kind error.now ≡ ErrorKind.NotFound → result ≡ Ok Absent }
     ensures no_folder { error_kind error.now ≡ ErrorKind.NotADirectory → result ≡ Ok Absent }
     ensures memory { error_kind error.now ≡ ErrorKind.OutOfMemory → is_err result ≡ true }
-    ensures failed { error_kind error.now ≢ ErrorKind.NotFound → error_kind error.now ≢ ErrorKind.NotADirectory → error_kind error.now ≢ ErrorKind.OutOfMemory → result ≡ Ok NotRead }
+    ensures failed { error_kind error.now ≢ ErrorKind.NotFound
+        → error_kind error.now ≢ ErrorKind.NotADirectory
+        → error_kind error.now ≢ ErrorKind.OutOfMemory → result ≡ Ok NotRead }
 {
     match error.kind() {
         ErrorKind::NotFound | ErrorKind::NotADirectory => Ok(FileRead::Absent),
@@ -89,7 +91,8 @@ fn read_some<F: Read + Drop>(alloc: Global, file: F, len: u64, limit: u64) -> io
 #[tactic(auto, using(crate::proofs::ReadingLemmas::take_short))]
 fn fitting(bytes: Vec<u8>, most: u64) -> FileRead
     ensures bounded { IsBounded most result }
-    ensures all { (whole : List ℕ) → bytes.items ≡ take (min (most + 1) (2 ^ 64 - 1)) whole → IsAllOf whole most result }
+    ensures all { (whole : List ℕ) → bytes.items ≡ take (min (most + 1) (2 ^ 64 - 1)) whole
+        → IsAllOf whole most result }
 {
     if bytes.len() as u64 > most {
         FileRead::Large

@@ -1,4 +1,4 @@
-// The files of the system.
+//! The files of the system.
 
 ghost use Rattle.std.specs.Prelude.{◌≡◌, IfOk, OnErr, None};
 ghost use Rattle.net_world.specs.Cause.{is_not_read, raised};

@@ -1,4 +1,4 @@
-// Standard output.
+//! Standard output.
 
 ghost use Rattle.std.specs.Prelude.{◌≡◌, IsOkAnd};
 ghost use Rattle.net_world.specs.Cause.{is_not_put, raised};

@@ -1,4 +1,4 @@
-// A server: its address and its sockets.
+//! A server: its address and its sockets.
 
 ghost use Rattle.std.specs.Prelude.{◌≡◌};
 ghost use Rattle.sock_engine.specs.Inbox.{BringsOnly, IsOfServer};

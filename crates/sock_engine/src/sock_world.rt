@@ -1,4 +1,4 @@
-// The network, the clock and the random words of the system.
+//! The network, the clock and the random words of the system.
 
 ghost use Rattle.std.specs.Prelude.{◌≡◌, ◌≤◌, length, filter, not, IfOk, IsOk, IsOkAnd, OnErr};
 ghost use Rattle.net_world.specs.Cause.{is_not_sent, is_not_written, is_link_failed, is_not_waited};
@@ -139,7 +139,8 @@ impl<R: Net + Clock + RandomSource + AllocGlobal> SockWorld<R> {
     /// Closes the link. Nothing of it is received any more.
     pub fn close(&mut self, link: u64) -> Result<(), NoMemory>
         ensures ok { IsOk result }
-        ensures state { self.new ≡ record self.old { came = filter (λ got. not (is_of_link link got)) self.old.came } }
+        ensures state { self.new
+            ≡ record self.old { came = filter (λ got. not (is_of_link link got)) self.old.came } }
     {
         if let Some(network) = &mut self.network {
             network.close(link);

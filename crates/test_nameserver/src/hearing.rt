@@ -74,7 +74,8 @@ pub(crate) fn note_datagram(
     requires room { 0 < spare asked.old }
     requires item_room { deque_len items.old < deque_capacity items.old }
     ensures asked { keys_of asked.new ≡ meaning.noted (keys_of asked.old) key.items }
-    ensures items { items.new.items ≡ (if meaning.is_lost seed (keys_of asked.old) key.items then items.old.items
+    ensures items { items.new.items
+        ≡ (if meaning.is_lost seed (keys_of asked.old) key.items then items.old.items
         else items.old.items ++ got ∷ []) }
 {
     let lost = is_lost(seed, asked, key.as_slice());
@@ -133,7 +134,8 @@ pub(crate) fn hear_all(
     ensures keys { IfOk result (λ heard. map key_heard heard.items
         ≡ map meaning.key_asked (filter_map asked_by (map (λ message. message.now) messages.now))) }
     ensures gots { IfOk result (λ heard. map got_heard heard.items
-        ≡ map (meaning.link_reply zone.now link) (filter_map asked_by (map (λ message. message.now) messages.now))) }
+        ≡ map (meaning.link_reply zone.now link)
+        (filter_map asked_by (map (λ message. message.now) messages.now))) }
 {
     let mut heard = VecDeque::new(alloc);
     for message in messages {

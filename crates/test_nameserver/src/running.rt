@@ -43,7 +43,8 @@ pub fn run<F: Files, K: Sink, L: Listener>(
 
     // Where the listener tells its log, this run listened, took messages and answered them, and nothing else.
     ensures service { ForWords (map (λ word. word.now) words.now)
-        (λ order. GoesOnWith (IsServiceOf (F.files files.old) order result) (L.log listener.old) (L.log listener.new)) }
+        (λ order. GoesOnWith (IsServiceOf (F.files files.old) order result) (L.log listener.old)
+        (L.log listener.new)) }
 {
     match read_words(words) {
         Some(order) => carry_out(alloc, &order, files, listener).tell(sink),

@@ -1,3 +1,5 @@
+//! Lines and words, as tables.
+
 use super::*;
 use std::alloc::Global;
 use std::test::Fail;

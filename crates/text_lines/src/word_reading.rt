@@ -36,7 +36,8 @@ pub fn words_in<'a>(alloc: Global, line: &'a [u8]) -> Result<Vec<&'a [u8]>, NoMe
 
 /// The words of a line up to the first that begins with `#` or `;`.
 pub fn words_before_comment<'a>(alloc: Global, line: &'a [u8]) -> Result<Vec<&'a [u8]>, NoMemory>
-    ensures { IfOk result (λ found. map (λ word. word.now) found.items ≡ meaning.words_before_comment line.now) }
+    ensures { IfOk result
+        (λ found. map (λ word. word.now) found.items ≡ meaning.words_before_comment line.now) }
 {
     let found = line
         .split(|byte| is_blank(*byte))

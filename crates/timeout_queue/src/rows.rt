@@ -42,7 +42,8 @@ impl Rows {
         deadline: Deadline,
     ) -> Result<(), AllocError>
         requires { HaveLive (is_live moments.now) self.old }
-        ensures ok { OnOk result ((after : Deadline → Bool) → AddsLive (is_live moments.now) deadline after → HaveLive after self.new) }
+        ensures ok { OnOk result ((after : Deadline → Bool)
+            → AddsLive (is_live moments.now) deadline after → HaveLive after self.new) }
         ensures err { OnErr result (HaveLive (is_live moments.now) self.new) }
     {
         if fits(&self.row, deadline) {
@@ -58,7 +59,8 @@ impl Rows {
     /// Takes out a deadline whose key was among the moments.
     #[inline(always)]
     pub(crate) fn remove(&mut self, moments: &HashMap<Key, u64>, deadline: Deadline)
-        requires { (before : Deadline → Bool) × HaveLive before self.old × DropsLive before deadline (is_live moments.now) }
+        requires { (before : Deadline → Bool) × HaveLive before self.old
+            × DropsLive before deadline (is_live moments.now) }
         ensures { HaveLive (is_live moments.now) self.new }
     {
         leave(&mut self.row, moments, deadline);
@@ -69,7 +71,8 @@ impl Rows {
     /// The first deadline.
     #[inline(always)]
     pub(crate) fn first(&self) -> Option<&Deadline>
-        ensures { (live : Deadline → Bool) → HaveLive live self.now → MatchOption (option_copied result) ((d : Deadline) → live d ≡ true → ⊥) (IsFirstLive live) }
+        ensures { (live : Deadline → Bool) → HaveLive live self.now
+            → MatchOption (option_copied result) ((d : Deadline) → live d ≡ true → ⊥) (IsFirstLive live) }
     {
         let front = sooner(front(&self.row), front(&self.other));
         sooner(front, self.rest.first())

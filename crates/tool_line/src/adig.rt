@@ -98,7 +98,8 @@ pub struct AdigAsk {
 /// What the words ask of adig. They are refused where they ask nothing.
 pub fn adig_ask<'a>(alloc: Global, words: &'a [&'a str]) -> Result<AdigAsk, WordFault>
     ensures read { IfOk result (meaning.AdigAsks (map (λ word. word.now) words.now)) }
-    ensures refused { result ≡ Err WordFault.Refused → (ask : Asked) → meaning.AdigAsks (map (λ word. word.now) words.now) ask → ⊥ }
+    ensures refused { result ≡ Err WordFault.Refused → (ask : Asked)
+        → meaning.AdigAsks (map (λ word. word.now) words.now) ask → ⊥ }
 {
     match read_words(alloc, OPTIONS.as_slice(), words) {
         Ok(read) => ask_in(alloc, &read),
@@ -188,7 +189,8 @@ fn spec_for(
     class: u16,
 ) -> Result<Spec, WordFault>
     ensures read { IfOk result (λ spec. meaning.spec_for reverse search name.now kind class ≡ Some spec) }
-    ensures refused { result ≡ Err WordFault.Refused → meaning.spec_for reverse search name.now kind class ≡ None }
+    ensures refused { result ≡ Err WordFault.Refused
+        → meaning.spec_for reverse search name.now kind class ≡ None }
 {
     if reverse {
         return match read(name.as_bytes()) {

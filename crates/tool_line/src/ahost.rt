@@ -135,7 +135,8 @@ pub struct AhostAsk {
 /// What the words ask of ahost. They are refused where they ask nothing.
 pub fn ahost_ask<'a>(alloc: Global, words: &'a [&'a str]) -> Result<AhostAsk, WordFault>
     ensures read { IfOk result (meaning.AhostAsks (map (λ word. word.now) words.now)) }
-    ensures refused { result ≡ Err WordFault.Refused → (ask : Asked) → meaning.AhostAsks (map (λ word. word.now) words.now) ask → ⊥ }
+    ensures refused { result ≡ Err WordFault.Refused → (ask : Asked)
+        → meaning.AhostAsks (map (λ word. word.now) words.now) ask → ⊥ }
 {
     match read_words(alloc, OPTIONS.as_slice(), words) {
         Ok(read) => ask_in(alloc, &read),
@@ -204,8 +205,12 @@ fn specs_for(
     nosort: bool,
     hosts: Option<&[&str]>,
 ) -> Result<SpecList, WordFault>
-    ensures read { IfOk result (λ specs. meaning.specs_for loads family nosort (option_map (λ hosts. map (λ host. host.now) hosts.now) hosts.entry) ≡ Some specs) }
-    ensures refused { result ≡ Err WordFault.Refused → meaning.specs_for loads family nosort (option_map (λ hosts. map (λ host. host.now) hosts.now) hosts.entry) ≡ None }
+    ensures read { IfOk result
+        (λ specs. meaning.specs_for loads family nosort
+        (option_map (λ hosts. map (λ host. host.now) hosts.now) hosts.entry) ≡ Some specs) }
+    ensures refused { result ≡ Err WordFault.Refused
+        → meaning.specs_for loads family nosort
+        (option_map (λ hosts. map (λ host. host.now) hosts.now) hosts.entry) ≡ None }
 {
     match hosts {
         Some(hosts) => {

@@ -49,7 +49,8 @@ impl From<NoMemory> for FileFault {
 /// The options that the resolv.conf sets that was read. An absent one sets nothing.
 pub fn resolv_file(alloc: Global, file: &FileRead) -> Result<Options, FileFault>
     ensures read { IfOk result (λ options. meaning.resolv_of file.now ≡ Ok options) }
-    ensures fault { IfErr result (λ fault. fault ≢ FileFault.NoMemory → meaning.resolv_of file.now ≡ Err fault) }
+    ensures fault { IfErr result
+        (λ fault. fault ≢ FileFault.NoMemory → meaning.resolv_of file.now ≡ Err fault) }
 {
     match file {
         FileRead::Content(bytes) => match read_resolv(alloc, bytes.as_slice()) {
@@ -83,7 +84,8 @@ pub fn hosts_read(alloc: Global, file: &FileRead) -> Result<Hosts, FileFault>
 /// The options of a channel: those of the resolv.conf that was read, and in place of them what the words set.
 pub fn set_options(alloc: Global, settings: Settings, file: &FileRead) -> Result<Options, FileFault>
     ensures read { IfOk result (λ options. meaning.options_set settings file.now ≡ Ok options) }
-    ensures fault { IfErr result (λ fault. fault ≢ FileFault.NoMemory → meaning.options_set settings file.now ≡ Err fault) }
+    ensures fault { IfErr result
+        (λ fault. fault ≢ FileFault.NoMemory → meaning.options_set settings file.now ≡ Err fault) }
 {
     let mut options = resolv_file(alloc, file)?;
     settings.apply(alloc, &mut options)?;

@@ -19,9 +19,11 @@ pub(crate) fn number_if(
     least: u32,
     most: u32,
 ) -> Result<Option<u32>, WordFault>
-    ensures read { IfOk result (λ found. read_if (meaning.number_in least most) (value_under (said words.now) name.now) ≡ Some found) }
+    ensures read { IfOk result
+        (λ found. read_if (meaning.number_in least most) (value_under (said words.now) name.now) ≡ Some found) }
     ensures within { IfOk result (λ found. IfSome found (λ n. (least ≤ n) × (n ≤ most))) }
-    ensures refused { OnErr result (read_if (meaning.number_in least most) (value_under (said words.now) name.now) ≡ None) }
+    ensures refused { OnErr result
+        (read_if (meaning.number_in least most) (value_under (said words.now) name.now) ≡ None) }
 {
     match words.value(name) {
         Some(word) => match number(word, least, most) {
@@ -40,8 +42,11 @@ pub(crate) fn number_or(
     most: u32,
     default: u32,
 ) -> Result<u32, WordFault>
-    ensures read { IfOk result (λ found. read_or (meaning.number_in least most) default (value_under (said words.now) name.now) ≡ Some found) }
-    ensures refused { OnErr result (read_or (meaning.number_in least most) default (value_under (said words.now) name.now) ≡ None) }
+    ensures read { IfOk result
+        (λ found. read_or (meaning.number_in least most) default
+        (value_under (said words.now) name.now) ≡ Some found) }
+    ensures refused { OnErr result
+        (read_or (meaning.number_in least most) default (value_under (said words.now) name.now) ≡ None) }
 {
     match words.value(name) {
         Some(word) => match number(word, least, most) {
@@ -58,9 +63,11 @@ pub(crate) fn addresses_if(
     words: &Words,
     name: &str,
 ) -> Result<Option<AddrList>, WordFault>
-    ensures read { IfOk result (λ found. read_if meaning.addresses_in (value_under (said words.now) name.now) ≡ Some found) }
+    ensures read { IfOk result
+        (λ found. read_if meaning.addresses_in (value_under (said words.now) name.now) ≡ Some found) }
     ensures few { IfOk result (λ found. IfSome found (λ found. (1 ≤ length found) × (length found ≤ 8))) }
-    ensures refused { result ≡ Err WordFault.Refused → read_if meaning.addresses_in (value_under (said words.now) name.now) ≡ None }
+    ensures refused { result ≡ Err WordFault.Refused
+        → read_if meaning.addresses_in (value_under (said words.now) name.now) ≡ None }
 {
     match words.value(name) {
         Some(word) => {
@@ -78,8 +85,11 @@ pub(crate) fn path_or(
     name: &str,
     default: &str,
 ) -> Result<String, WordFault>
-    ensures read { IfOk result (λ found. read_or meaning.path_in default.now (value_under (said words.now) name.now) ≡ Some (string_bytes found)) }
-    ensures refused { result ≡ Err WordFault.Refused → read_or meaning.path_in default.now (value_under (said words.now) name.now) ≡ None }
+    ensures read { IfOk result
+        (λ found. read_or meaning.path_in default.now (value_under (said words.now) name.now)
+        ≡ Some (string_bytes found)) }
+    ensures refused { result ≡ Err WordFault.Refused
+        → read_or meaning.path_in default.now (value_under (said words.now) name.now) ≡ None }
 {
     match words.value(name) {
         Some(word) => match path(word) {

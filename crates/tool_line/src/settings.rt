@@ -44,7 +44,8 @@ impl Settings {
     /// What the words set. They are refused where a value can't be read.
     pub(crate) fn read(alloc: Global, words: &Words) -> Result<Settings, WordFault>
         ensures read { IfOk result (meaning.AreSetBy (said words.now)) }
-        ensures refused { result ≡ Err WordFault.Refused → (settings : meaning.SettingValues) → meaning.AreSetBy (said words.now) settings → ⊥ }
+        ensures refused { result ≡ Err WordFault.Refused → (settings : meaning.SettingValues)
+            → meaning.AreSetBy (said words.now) settings → ⊥ }
     {
         let servers = addresses_if(alloc, words, "server")?;
         let port = number_if(words, "port", 1, 65535)?;

@@ -92,7 +92,8 @@ fn parts_of<'a>(alloc: Global, word: &'a [u8]) -> Result<Vec<&'a [u8]>, NoMemory
 fn all_addresses(alloc: Global, texts: &[&[u8]]) -> Result<AddrList, WordFault>
     ensures read { IfOk result (λ found. meaning.addresses_of (map (λ text. text.now) texts.now) ≡ Some found) }
     ensures each { IfOk result (λ found. length found ≡ length texts.now) }
-    ensures refused { result ≡ Err WordFault.Refused → meaning.addresses_of (map (λ text. text.now) texts.now) ≡ None }
+    ensures refused { result ≡ Err WordFault.Refused
+        → meaning.addresses_of (map (λ text. text.now) texts.now) ≡ None }
 {
     let mut found = Vec::with_capacity(alloc, texts.len())?;
     for text in texts {

@@ -33,7 +33,8 @@ pub fn read_words<'a>(
 ) -> Result<Words<'a>, WordFault>
     requires names { has_names (table_of table.now) ≡ true }
     ensures read { IfOk result (IsReadAs (read (table_of table.now) (map (λ w. w.now) words.now))) }
-    ensures refused { result ≡ Err WordFault.Refused → read (table_of table.now) (map (λ w. w.now) words.now) ≡ None }
+    ensures refused { result ≡ Err WordFault.Refused
+        → read (table_of table.now) (map (λ w. w.now) words.now) ≡ None }
 {
     match parse(alloc, table, words)? {
         Some(read) => Ok(read),
@@ -120,7 +121,8 @@ impl<'a> Words<'a> {
 
     /// The value of the option, if it was used.
     pub fn value(&self, name: &str) -> Option<&'a str>
-        ensures { option_map (λ v. v.now) result ≡ option_and_then (λ vs. slice_get vs 0) (said self.now name.now) }
+        ensures { option_map (λ v. v.now) result
+            ≡ option_and_then (λ vs. slice_get vs 0) (said self.now name.now) }
     {
         self.matches.get_str(name)
     }
