@@ -2,11 +2,8 @@
 #![tactic(auto)]
 
 use adig_tool::run;
-use sock_engine::{RealFiles, RealSink, SockWorld};
-use std::alloc::{AllocError, Global};
+use sock_engine::{RealFiles, RealSink, SockWorld, texts_of, words_of};
 use std::process::ExitCode;
-use std::rt::Env;
-use std::{env, io};
 use tool_line::Exit;
 
 /// How many turns a run may make.
@@ -32,24 +29,4 @@ fn main(rt: HostRuntime) -> ExitCode {
         TURNS,
     );
     ExitCode::from(ended.status)
-}
-
-/// The words behind the program's name. Where one of them isn't UTF-8 there are none, which is a faulty command line.
-fn words_of<R: Env + AllocGlobal>(rt: &R, alloc: Global) -> Result<Vec<String>, AllocError> {
-    let mut words = Vec::new(alloc);
-    match env::args(rt) {
-        Ok(args) => {
-            for word in args.skip(1) {
-                words.push(word)?;
-            }
-        }
-        Err(error) if error.kind() == io::ErrorKind::OutOfMemory => return Err(AllocError),
-        Err(_) => {}
-    }
-    Ok(words)
-}
-
-/// The words as borrowed texts.
-fn texts_of(alloc: Global, words: &[String]) -> Result<Vec<&str>, AllocError> {
-    words.iter().map(|word| word.as_str()).collect(alloc)
 }

@@ -1,5 +1,5 @@
 //! The real outside of a resolver: `World` over sockets, the clock and a generator, `Files` over the system's files,
-//! and `Sink` over standard output.
+//! `Sink` over standard output, and the words of the command line.
 #![tactic(auto)]
 
 mod clock;
@@ -14,10 +14,12 @@ mod real_files;
 mod real_sink;
 mod served;
 mod sock_world;
+mod words;
 
 pub use real_files::RealFiles;
 pub use real_sink::RealSink;
 pub use sock_world::SockWorld;
+pub use words::{texts_of, words_of};
 
 #[cfg(test)]
 mod tests;

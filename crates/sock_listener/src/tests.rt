@@ -5,10 +5,11 @@ use item_list::{Bytes, NoMemory};
 use net_addr::{Addr, ServerAddr};
 use net_world::{Got, MemFiles, MemSink, Sent, World, Wrote};
 use sock_engine::SockWorld;
+use std::alloc::Global;
 use std::collections::BTreeMap;
 use std::net::{Ipv4Addr, Net, SocketAddr, UdpSocket};
 use std::test::Fail;
-use test_nameserver::{Heard, Listener};
+use test_nameserver::{Heard, Listener, run};
 
 /// A query for the address of a.test. (RFC 1035, section 4.1).
 const QUERY: &[u8; 24] = b"\x12\x34\x01\0\0\x01\0\0\0\0\0\0\x01a\x04test\0\0\x01\0\x01";
