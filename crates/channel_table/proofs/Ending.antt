@@ -5,13 +5,13 @@ use Rattle.std.specs.Prelude.{if◌then◌else◌}
 use Rattle.chan_types.specs.declared.answer.Answer.{Answer}
 use Rattle.chan_types.specs.declared.ticket.Ticket.{Ticket}
 use Rattle.channel_model.specs.declared.judged.Judged.{Judged}
-use Rattle.query_machine.specs.Legs.{fresh_leg, leg_behind}
-use Rattle.query_machine.specs.declared.leg.Leg as machine
+use Rattle.query_machine.specs.Legs.{fresh_leg}
 use Rattle.resolv_options.specs.declared.flags.Flags.{Flags}
-use Rattle.channel_table.specs.After.{has_next, last_status, next_row}
+use Rattle.channel_table.specs.After.{has_next, last_status, next_row, sides_behind}
 use Rattle.channel_table.specs.Ends.{Becomes, EndsRow}
 use Rattle.channel_table.specs.declared.row.After.TheVariants.{Ends, Stays}
 use Rattle.channel_table.specs.declared.row.Row.{Row}
+use Rattle.channel_table.specs.declared.side.Hits.{Hits}
 
 -- a list by its item at an index
 pub split_at : {X : Type 0} (xs : List X) (i : ℕ) (x : X) → i < length xs → x ≡ get_or xs i x → xs ≡ take i xs ++ x ∷ drop (i + 1) xs
@@ -20,21 +20,21 @@ split_at xs i x inside is = sym (take-append-drop i xs) ∙ ap (λ r. take i xs 
 pub one_more : (i : ℕ) → suc i ≡ i + 1
 one_more i = omega arith
 
-module _ {T : Type 0} (flags : Flags) (judged : Judged) (most index : ℕ) (rows : List (Row T)) (tickets : List (Ticket T)) (row : Row T) (inside : index < length rows) (is : row ≡ get_or rows index row) where
+module _ {T : Type 0} (flags : Flags) (concerned : Hits) (judged : Judged) (reply : List ℕ) (most index : ℕ) (rows : List (Row T)) (tickets : List (Ticket T)) (row : Row T) (inside : index < length rows) (is : row ≡ get_or rows index row) where
   changed : (new : Row T) → set rows index new ≡ take index rows ++ new ∷ drop (index + 1) rows
   changed new = set_split rows index new inside ∙ ap (λ k. take index rows ++ new ∷ drop k rows) (one_more index)
 
-  -- the row goes on with another leg
-  pub goes_on_so : (leg : machine.Leg) → leg ≡ leg_behind judged most row.leg → EndsRow flags judged None most index rows tickets (set rows index (record row { leg = leg })) tickets
-  goes_on_so leg same = record {
+  -- the row goes on
+  pub goes_on_so : (new : Row T) → new ≡ sides_behind concerned judged reply most row → EndsRow flags concerned judged reply most None index rows tickets (set rows index new) tickets
+  goes_on_so new same = record {
     row = row;
     is = λ d. sym (get_or_read rows index row inside is d);
     parts = split_at rows index row inside is;
-    becomes = (changed (record row { leg = leg }) ∙ ap (λ l. take index rows ++ record row { leg = l } ∷ drop (index + 1) rows) same, refl);
+    becomes = (changed new ∙ ap (λ r. take index rows ++ r ∷ drop (index + 1) rows) same, refl);
   }
 
   -- the row asks its next candidate
-  pub asks_so : (answer : Answer) (new : Row T) → has_next answer.status row ≡ true → new ≡ next_row (fresh_leg flags) answer.status row → EndsRow flags judged (Some answer) most index rows tickets (set rows index new) tickets
+  pub asks_so : (answer : Answer) (new : Row T) → has_next answer.status row ≡ true → new ≡ next_row (fresh_leg flags) answer.status row → EndsRow flags concerned judged reply most (Some answer) index rows tickets (set rows index new) tickets
   asks_so answer new next same = record {
     row = row;
     is = λ d. sym (get_or_read rows index row inside is d);
@@ -45,7 +45,7 @@ module _ {T : Type 0} (flags : Flags) (judged : Judged) (most index : ℕ) (rows
 
   -- the row ends in a ticket
   pub ends_so : (answer : Answer) (ticket : Ticket T) (new_rows : List (Row T)) → has_next answer.status row ≡ false → ticket ≡ record { token = row.token; call = record answer { status = last_status row.empty answer.status } } → new_rows ≡ take index rows ++ drop (suc index) rows
-      → EndsRow flags judged (Some answer) most index rows tickets new_rows (tickets ++ ticket ∷ [])
+      → EndsRow flags concerned judged reply most (Some answer) index rows tickets new_rows (tickets ++ ticket ∷ [])
   ends_so answer ticket new_rows last same left = record {
     row = row;
     is = λ d. sym (get_or_read rows index row inside is d);

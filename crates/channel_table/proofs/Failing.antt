@@ -1,10 +1,10 @@
 -- How a table follows a Fault.
-use Rattle.std.proofs.Common.{◌≡◌, ◌∙◌, ℕ, ◌+◌, ◌<◌, ◌≤◌, ◌^◌, Bool, true, false, List, [], ◌∷◌, ◌++◌, Option, Some, None, Result, Ok, Err, refl, ap, sym, subst, map, length, cond, arith, eq-eqb, eqb-true, true≢false}
+use Rattle.std.proofs.Common.{◌≡◌, ◌∙◌, ℕ, ◌+◌, ◌<◌, ◌≤◌, ◌^◌, Bool, true, false, List, [], ◌∷◌, ◌++◌, Option, Some, None, Result, Ok, Err, refl, ap, sym, subst, map, length, cond, arith, drop, eq-eqb, eqb-true, get_or, true≢false}
 use Rattle.std.proofs.lemmas.Bool.{and_parts}
 use Rattle.std.proofs.lemmas.List.{append-nil, map-append}
 use Rattle.std.proofs.lemmas.List.Elements.{filter_map-append}
 use Rattle.std.proofs.lemmas.List.Sums.{sum_by-cons}
-use Rattle.std.specs.List.{AllByRecursion, cons_option, list_any}
+use Rattle.std.specs.List.{AllByRecursion, cons_option, list_any, sum_by}
 use Rattle.std.specs.Result.{IsErr}
 use Rattle.std.specs.Prelude.{IfSome, IsFalse, count_by, filter, filter_map, flat_map, if◌then◌else◌, option_map, option_to_list, ◌==◌, ◌||◌, ◌≢◌}
 use Rattle.chan_types.specs.declared.journal.What.TheVariants.{Fault}
@@ -12,7 +12,7 @@ use Rattle.chan_types.specs.declared.script.Script.{Script}
 use Rattle.chan_types.specs.declared.server_key.ServerKey.{ServerKey}
 use Rattle.chan_types.specs.declared.status.Status.TheVariants.{ConnRefused}
 use Rattle.chan_types.specs.declared.ticket.Ticket.{Ticket}
-use Rattle.channel_model.proofs.Theorems.{as_many-filter, as_many-length, fault_spares, in_flight-none, listed}
+use Rattle.channel_model.proofs.Theorems.{Spares, as_many-filter, as_many-length, fault_spares, in_flight-none, listed}
 use Rattle.channel_model.specs.Choice.{Failing}
 use Rattle.channel_model.specs.Flight.{Attempt, closes, flight, in_flight, went_over}
 use Rattle.channel_model.specs.Journal.{Past}
@@ -31,15 +31,19 @@ use Rattle.resolv_options.specs.declared.options.Options.{Options}
 use Rattle.channel_table.proofs.Counting.{counted_kept}
 use Rattle.channel_table.proofs.FailureSteps.{counted_changed, counted_there, one_more-is}
 use Rattle.channel_table.proofs.Outcomes.{Becomes, Follows, Outcome}
-use Rattle.channel_table.proofs.RowEnds.{outcome_after, row_after}
-use Rattle.channel_table.proofs.RowFrames.{row_spared, spared_follows, spared_uncompleted}
+use Rattle.channel_table.proofs.RowAt.{side_of_each}
+use Rattle.channel_table.proofs.RowEnds.{Closes, Meets, outcome_after, row_after}
+use Rattle.channel_table.proofs.RowSides.{if_second, no_bytes}
+use Rattle.channel_table.proofs.SideLists.{LegOf, all_legs_stand, any_sides, count_sides, legs_stand}
 use Rattle.channel_table.proofs.TableSteps.{Stands, table_behind}
-use Rattle.channel_table.proofs.Telling.{busy_rows}
-use Rattle.channel_table.specs.After.{after, answer_behind}
+use Rattle.channel_table.proofs.Telling.{busy_rows, flying_sides}
 use Rattle.channel_table.specs.Counted.{AreCounted}
-use Rattle.channel_table.specs.Failing.{fails_at, kept_of, ticket_made}
+use Rattle.channel_table.specs.Failing.{answer_over, fails_at, kept_of, ticket_made}
 use Rattle.channel_table.specs.Legs.{attempt_of, flown_by}
-use Rattle.channel_table.specs.Rows.{RowStands, TableStands, flew_over, flown, flying_of, flying_over, leg_of_row, number_of, ticket_number}
+use Rattle.channel_table.specs.Rows.{RowStands, TableStands, all_sides, flown, number_of, over_in, ticket_number}
+use Rattle.channel_table.specs.Sides.{flew_over, flown_side, flying_of, flying_over, leg_of_side}
+use Rattle.channel_table.specs.declared.side.Hits.TheVariants.{Over}
+use Rattle.channel_table.specs.declared.side.Side.{Side}
 use Rattle.channel_table.specs.declared.row.After.{After}
 use Rattle.channel_table.specs.declared.row.After.TheVariants.{Ends, Stays}
 use Rattle.channel_table.specs.declared.row.Row.{Row}
@@ -59,26 +63,79 @@ module _ {T : Type 0} (options : Options) (server link most : ℕ) where
       by_after (Stays new) rest = record { rows_before = ap (λ rs. row ∷ rs) rest.rows_before; rows_behind = ap (λ rs. new ∷ rs) rest.rows_behind; tickets_behind = rest.tickets_behind }
       by_after (Ends ticket) rest = record { rows_before = ap (λ rs. row ∷ rs) rest.rows_before; rows_behind = rest.rows_behind; tickets_behind = ap (λ ts. ticket ∷ ts) rest.tickets_behind }
 
-module _ {T : Type 0} (plan : T → Script) (setting : Setting) (past : Past) (server link moment most : ℕ) (may : attempts setting past ≡ most) (few : most ≤ 80) where
-  follow : (row : Row T) (o : Option Flying) → flying_of row ≡ o → (b : Bool) → flying_over server link o ≡ b → RowStands plan setting past row
-      → Follows number_of ticket_number flown setting (Fault server link moment) past (outcome_after row (if b then after setting.options.flags (Failed ConnRefused) most row (if b then answer_behind setting.options (Failed ConnRefused) [] most row else None) else Stays row))
-      × Stands plan setting (Fault server link moment) past (outcome_after row (if b then after setting.options.flags (Failed ConnRefused) most row (if b then answer_behind setting.options (Failed ConnRefused) [] most row else None) else Stays row))
-  follow row None is true over stands = absurd (true≢false (sym over))
-  follow row (Some flying) is true over stands = row_after plan setting (Fault server link moment) past row flying (Failed ConnRefused) [] most stands is over refl refl refl refl may few (answer_behind setting.options (Failed ConnRefused) [] most row) refl
-  follow row o is false over stands =
-      let spared = fault_spares setting past (leg_of_row row) server link moment (subst (λ f. IfSome f (λ a. IsFalse (closes setting a (Fault server link moment) past))) (sym (ap (λ (f : LegFacts). f.flies) stands.leg.facts ∙ ap (flown_by (leg_of_row row)) is)) (not_over o over)) in
-      let none = spared_uncompleted plan setting (Fault server link moment) past row refl spared stands in
-      (spared_follows plan setting (Fault server link moment) past row (record { spared = spared; others = λ k. tt; uncompleted = none }) stands, row_spared plan setting (Fault server link moment) past row spared (λ k. tt) none stands)
+module _ (setting : Setting) (past : Past) (server link moment : ℕ) where
+  -- a Fault closes the attempt of a side that went over the link, and leaves others
+  over_meets : (second : Bool) (side : Side) (bytes : List ℕ) → bytes ≡ [] → LegOf setting past side → Meets setting (Fault server link moment) past (Over server link) (Failed ConnRefused) second bytes side
+  over_meets second side bytes none stands = record { hit = λ over. hit_by (flying_of side) refl over; missed = λ over. missed_by (flying_of side) refl over }
     where
-      not_over : (f : Option Flying) → flying_over server link f ≡ false → IfSome (option_map (attempt_of (leg_of_row row)) f) (λ a. IsFalse (closes setting a (Fault server link moment) past))
+      hit_by : (o : Option Flying) → flying_of side ≡ o → flying_over server link o ≡ true → Closes setting (Fault server link moment) past (Over server link) (Failed ConnRefused) side bytes
+      hit_by None is over = absurd cc
+      hit_by (Some flying) is over = record { flying = flying; flies = is; closed = over; means = refl; brings = sym none }
+
+      not_over : (o : Option Flying) → flying_over server link o ≡ false → IfSome (option_map (attempt_of (leg_of_side side)) o) (λ a. IsFalse (closes setting a (Fault server link moment) past))
       not_over None e = tt
       not_over (Some flying) e = e
+
+      missed_by : (o : Option Flying) → flying_of side ≡ o → flying_over server link o ≡ false → Spares setting (Fault server link moment) past (leg_of_side side)
+      missed_by o is over =
+          fault_spares setting past (leg_of_side side) server link moment
+          (subst (λ f. IfSome f (λ a. IsFalse (closes setting a (Fault server link moment) past))) (sym (ap (λ (f : LegFacts). f.flies) stands.facts ∙ ap (flown_by (leg_of_side side)) is)) (not_over o over))
+
+  over_count : (ss : List Side) → length (filter (λ a. went_over a server link) (flat_map flown_side ss)) ≡ count_by (flew_over server link) ss
+  over_count [] = refl
+  over_count (side ∷ ss) = by_attempt (leg_of_side side) (flying_of side) (over_count ss) ∙ sym (sum_by-cons (λ (s : Side). cond (flew_over server link s) 1 0) side ss)
+    where
+      by_test : (a : Attempt) (b : Bool) → length (filter (λ a. went_over a server link) (flat_map flown_side ss)) ≡ count_by (flew_over server link) ss
+          → length (cond b (a ∷ filter (λ a. went_over a server link) (flat_map flown_side ss)) (filter (λ a. went_over a server link) (flat_map flown_side ss))) ≡ cond b 1 0 + count_by (flew_over server link) ss
+      by_test a true rest = omega (arith, rest)
+      by_test a false rest = omega (arith, rest)
+
+      by_attempt : (leg : Leg) (o : Option Flying) → length (filter (λ a. went_over a server link) (flat_map flown_side ss)) ≡ count_by (flew_over server link) ss
+          → length (filter (λ a. went_over a server link) (option_to_list (flown_by leg o) ++ flat_map flown_side ss)) ≡ cond (flying_over server link o) 1 0 + count_by (flew_over server link) ss
+      by_attempt leg None rest = omega (arith, rest)
+      by_attempt leg (Some flying) rest = by_test (attempt_of leg flying) (flying_over server link (Some flying)) rest
+
+  none_over : (ss : List Side) → count_by (flew_over server link) ss ≡ 0 → list_any (flew_over server link) ss ≡ false
+  none_over [] none = refl
+  none_over (side ∷ ss) none = by_test (flew_over server link side) (sym (sum_by-cons (λ (s : Side). cond (flew_over server link s) 1 0) side ss) ∙ none) (none_over ss)
+    where
+      by_test : (b : Bool) → cond b 1 0 + count_by (flew_over server link) ss ≡ 0 → (count_by (flew_over server link) ss ≡ 0 → list_any (flew_over server link) ss ≡ false) → (b || list_any (flew_over server link) ss) ≡ false
+      by_test true none rest = absurd (omega (arith, none))
+      by_test false none rest = rest (omega (arith, none))
+
+  -- an attempt in flight that went over the link
+  record IsOver : Type 0 where
+    attempt : Attempt
+    flies : flight setting attempt.leg past ≡ Some attempt
+    over : went_over attempt server link ≡ true
+
+  some_over : (ss : List Side) → AllByRecursion (LegOf setting past) ss → count_by (flew_over server link) ss ≢ 0 → IsOver
+  some_over [] each some = absurd (some refl)
+  some_over (side ∷ ss) each some = by_test (flew_over server link side) refl (λ none. some (sum_by-cons (λ (s : Side). cond (flew_over server link s) 1 0) side ss ∙ none)) (some_over ss each.1)
+    where
+      by_flying : (o : Option Flying) → flying_of side ≡ o → flying_over server link o ≡ true → IsOver
+      by_flying None is e = absurd cc
+      by_flying (Some flying) is e = record { attempt = attempt_of (leg_of_side side) flying; flies = ap (λ (f : LegFacts). f.flies) each.0.facts ∙ ap (flown_by (leg_of_side side)) is; over = e }
+
+      by_test : (b : Bool) → flew_over server link side ≡ b → cond b 1 0 + count_by (flew_over server link) ss ≢ 0 → (count_by (flew_over server link) ss ≢ 0 → IsOver) → IsOver
+      by_test true e some rest = by_flying (flying_of side) refl e
+      by_test false e some rest = rest (λ none. some (omega (arith, none)))
+
+module _ {T : Type 0} (plan : T → Script) (setting : Setting) (past : Past) (server link moment most : ℕ) (may : attempts setting past ≡ most) (few : most ≤ 80) where
+  follow : (row : Row T) → RowStands plan setting past row
+      → Follows number_of ticket_number flown setting (Fault server link moment) past (outcome_after row (fails_at setting.options server link most row)) × Stands plan setting (Fault server link moment) past (outcome_after row (fails_at setting.options server link most row))
+  follow row stands =
+      let legs = legs_stand plan setting past row stands in
+      row_after plan setting (Fault server link moment) past row (Over server link) (Failed ConnRefused) [] most stands refl refl may few
+      (over_meets setting past server link moment false row.first [] refl legs.0)
+      (if_second row.second (λ it at. over_meets setting past server link moment true it (if flew_over server link row.first then [] else []) (no_bytes (flew_over server link row.first)) (side_of_each (LegOf setting past) row legs true it at)))
+      (answer_over setting.options server link most row) refl
 
   each_follows : (rows : List (Row T)) → AllByRecursion (RowStands plan setting past) rows → AllByRecursion (Follows number_of ticket_number flown setting (Fault server link moment) past) (outcomes setting.options server link most rows) × AllByRecursion (Stands plan setting (Fault server link moment) past) (outcomes setting.options server link most rows)
   unfolding outcomes
   each_follows [] each = (tt, tt)
   each_follows (row ∷ rows) each =
-      let one = follow row (flying_of row) refl (flew_over server link row) refl each.0 in
+      let one = follow row each.0 in
       let rest = each_follows rows each.1 in
       ((one.0, rest.0), (one.1, rest.1))
 
@@ -90,56 +147,17 @@ module _ {T : Type 0} (plan : T → Script) (setting : Setting) (past : Past) (s
       table_behind plan setting (Fault server link moment) past (outcomes setting.options server link most rows) rows (filter_map kept_of (map (fails_at setting.options server link most) rows)) tickets (filter_map ticket_made (map (fails_at setting.options server link most) rows))
       refl refl refl (becomes setting.options server link most rows) each.0 each.1 table
 
-  over_count : (rows : List (Row T)) → length (filter (λ a. went_over a server link) (flat_map flown rows)) ≡ count_by (flew_over server link) rows
-  over_count [] = refl
-  over_count (row ∷ rows) = by_attempt (leg_of_row row) (flying_of row) (over_count rows) ∙ sym (sum_by-cons (λ (r : Row T). cond (flew_over server link r) 1 0) row rows)
-    where
-      by_test : (a : Attempt) (b : Bool) → length (filter (λ a. went_over a server link) (flat_map flown rows)) ≡ count_by (flew_over server link) rows
-          → length (cond b (a ∷ filter (λ a. went_over a server link) (flat_map flown rows)) (filter (λ a. went_over a server link) (flat_map flown rows))) ≡ cond b 1 0 + count_by (flew_over server link) rows
-      by_test a true rest = omega (arith, rest)
-      by_test a false rest = omega (arith, rest)
-
-      by_attempt : (leg : Leg) (o : Option Flying) → length (filter (λ a. went_over a server link) (flat_map flown rows)) ≡ count_by (flew_over server link) rows
-          → length (filter (λ a. went_over a server link) (option_to_list (flown_by leg o) ++ flat_map flown rows)) ≡ cond (flying_over server link o) 1 0 + count_by (flew_over server link) rows
-      by_attempt leg None rest = omega (arith, rest)
-      by_attempt leg (Some flying) rest = by_test (attempt_of leg flying) (flying_over server link (Some flying)) rest
-
   -- and so many there were
-  pub failed_count : (rows : List (Row T)) (tickets : List (Ticket T)) → TableStands plan setting past rows tickets → length (filter (λ a. went_over a server link) (in_flight setting past)) ≡ count_by (flew_over server link) rows
+  pub failed_count : (rows : List (Row T)) (tickets : List (Ticket T)) → TableStands plan setting past rows tickets → length (filter (λ a. went_over a server link) (in_flight setting past)) ≡ sum_by (over_in server link) rows
   failed_count rows tickets table =
-      as_many-length _ _ (as_many-filter (λ a. went_over a server link) (in_flight setting past) (flat_map flown rows) table.stand.flying_are) ∙ over_count rows
-
-  none_over : (rows : List (Row T)) → count_by (flew_over server link) rows ≡ 0 → list_any (flew_over server link) rows ≡ false
-  none_over [] none = refl
-  none_over (row ∷ rows) none = by_test (flew_over server link row) (sym (sum_by-cons (λ (r : Row T). cond (flew_over server link r) 1 0) row rows) ∙ none) (none_over rows)
-    where
-      by_test : (b : Bool) → cond b 1 0 + count_by (flew_over server link) rows ≡ 0 → (count_by (flew_over server link) rows ≡ 0 → list_any (flew_over server link) rows ≡ false) → (b || list_any (flew_over server link) rows) ≡ false
-      by_test true none rest = absurd (omega (arith, none))
-      by_test false none rest = rest (omega (arith, none))
-
-  -- an attempt in flight that went over the link
-  record IsOver : Type 0 where
-    attempt : Attempt
-    flies : flight setting attempt.leg past ≡ Some attempt
-    over : went_over attempt server link ≡ true
-
-  some_over : (rows : List (Row T)) → AllByRecursion (RowStands plan setting past) rows → count_by (flew_over server link) rows ≢ 0 → IsOver
-  some_over [] each some = absurd (some refl)
-  some_over (row ∷ rows) each some = by_test (flew_over server link row) refl (λ none. some (sum_by-cons (λ (r : Row T). cond (flew_over server link r) 1 0) row rows ∙ none)) (some_over rows each.1)
-    where
-      by_flying : (o : Option Flying) → flying_of row ≡ o → flying_over server link o ≡ true → IsOver
-      by_flying None is e = absurd cc
-      by_flying (Some flying) is e = record { attempt = attempt_of (leg_of_row row) flying; flies = ap (λ (f : LegFacts). f.flies) each.0.leg.facts ∙ ap (flown_by (leg_of_row row)) is; over = e }
-
-      by_test : (b : Bool) → flew_over server link row ≡ b → cond b 1 0 + count_by (flew_over server link) rows ≢ 0 → (count_by (flew_over server link) rows ≢ 0 → IsOver) → IsOver
-      by_test true e some rest = by_flying (flying_of row) refl e
-      by_test false e some rest = rest (λ none. some (omega (arith, none)))
+      as_many-length _ _ (as_many-filter (λ a. went_over a server link) (in_flight setting past) (flat_map flown_side (all_sides rows)) (flying_sides plan setting past rows tickets table))
+      ∙ over_count setting past server link moment (all_sides rows) ∙ sym (count_sides (flew_over server link) rows)
 
   -- where there are such attempts, their server has a count
   pub counted_over : (rows : List (Row T)) (tickets : List (Ticket T)) (list : List ServerKey) (counts : List Failing) (key greatest starts : ℕ) → TableStands plan setting past rows tickets → AreCounted setting past list counts key greatest starts → AreWithinLimits setting.options → IsLawfulPast setting past
-      → count_by (flew_over server link) rows ≢ 0 → list_any (λ (item : Failing). item.server == server) counts ≡ true
+      → sum_by (over_in server link) rows ≢ 0 → list_any (λ (item : Failing). item.server == server) counts ≡ true
   counted_over rows tickets list counts key greatest starts table counted limits lawful some =
-      let one = some_over rows table.each_row some in
+      let one = some_over setting past server link moment (all_sides rows) (all_legs_stand plan setting past rows table.each_row) (λ none. some (count_sides (flew_over server link) rows ∙ none)) in
       let at : one.attempt.server ≡ server = eqb-true one.attempt.server server (and_parts (one.attempt.server == server) (one.attempt.link == link) one.over).0 in
       let there = (listed setting past lawful limits.some_server one.attempt.leg).flies one.attempt one.flies in
       subst (λ (cs : List Failing). list_any (λ (item : Failing). item.server == server) cs ≡ true) counted.failed
@@ -147,16 +165,19 @@ module _ {T : Type 0} (plan : T → Script) (setting : Setting) (past : Past) (s
 
   -- the count of the server's failures behind a Fault
   pub counted_faulted : (rows : List (Row T)) (tickets : List (Ticket T)) (list : List ServerKey) (counts : List Failing) (key greatest starts count : ℕ) → TableStands plan setting past rows tickets → AreCounted setting past list counts key greatest starts → length past + 1 < 2 ^ 64
-      → count ≡ count_by (flew_over server link) rows → AreCounted setting (Fault server link moment ∷ past) list (if count == 0 then counts else recounted server one_more counts) key greatest starts
+      → count ≡ sum_by (over_in server link) rows → AreCounted setting (Fault server link moment ∷ past) list (if count == 0 then counts else recounted server one_more counts) key greatest starts
   counted_faulted rows tickets list counts key greatest starts count table counted small is = by_test (count == 0) refl
     where
+      all : count ≡ count_by (flew_over server link) (all_sides rows)
+      all = is ∙ count_sides (flew_over server link) rows
+
       by_test : (b : Bool) → (count == 0) ≡ b → AreCounted setting (Fault server link moment ∷ past) list (cond b counts (recounted server one_more counts)) key greatest starts
       by_test true e =
-          let none = none_over rows (sym is ∙ eqb-true count 0 e) in
+          let none = none_over setting past server link moment (all_sides rows) (sym all ∙ eqb-true count 0 e) in
           counted_kept setting (Fault server link moment) past list counts key greatest starts counted refl refl
-          (λ a flies. in_flight-none setting (λ b. went_over b server link) a.leg past a flies (busy_rows plan setting past server link rows tickets table ∙ none))
+          (λ a flies. in_flight-none setting (λ b. went_over b server link) a.leg past a flies (busy_rows plan setting past server link rows tickets table ∙ any_sides (flew_over server link) rows ∙ none))
       by_test false e =
-          let one = some_over rows table.each_row (λ none. true≢false (sym (eq-eqb count 0 (is ∙ none)) ∙ e)) in
+          let one = some_over setting past server link moment (all_sides rows) (all_legs_stand plan setting past rows table.each_row) (λ none. true≢false (sym (eq-eqb count 0 (all ∙ none)) ∙ e)) in
           counted_changed setting (Fault server link moment) past list counts key greatest starts counted refl refl server (Some (Failed ConnRefused)) one_more one.attempt (λ n few. one_more-is n (length past) few small) one.flies
           (eqb-true one.attempt.server server (and_parts (one.attempt.server == server) (one.attempt.link == link) one.over).0) one.over
           (λ b flies closed. (eqb-true b.server server (and_parts (b.server == server) (b.link == link) closed).0, refl))
@@ -165,6 +186,12 @@ module _ {T : Type 0} (plan : T → Script) (setting : Setting) (past : Past) (s
 pub fails_failed : (server link at : ℕ) (result : Result ℕ NoMemory) (setting : Setting) (past : Past) → IsErr result → Fails server link at result setting past None
 fails_failed server link at (Ok count) setting past failed = absurd (cc failed)
 fails_failed server link at (Err fault) setting past failed = refl
+
+-- what was made of each row begins with what was made of the first
+pub answers_left : {X Y : Type 0} (f : X → Y) {answers : List Y} {rows rest : List X} {x : X} (d : Y) → answers ≡ map f rows → rows ≡ x ∷ rest → (get_or answers 0 d ≡ f x) × (drop 1 answers ≡ map f rest)
+answers_left f d are steps =
+    let all = are ∙ ap (map f) steps in
+    (ap (λ them. get_or them 0 d) all, ap (drop 1) all)
 
 -- one more row of those that failed or stayed
 module _ {T : Type 0} (f : Row T → After T) (ys : List (Row T)) (x : Row T) where

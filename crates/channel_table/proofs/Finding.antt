@@ -3,17 +3,22 @@ use Rattle.std.proofs.Common.{◌≡◌, ◌∙◌, ℕ, ◌+◌, ◌-◌, ◌<�
 use Rattle.std.proofs.lemmas.Bool.{leb-false, leb-true}
 use Rattle.std.proofs.lemmas.Grind.{flat_map-append}
 use Rattle.std.proofs.lemmas.List.{take_more}
-use Rattle.std.specs.Prelude.{flat_map, is_some}
+use Rattle.std.specs.Prelude.{flat_map, is_some, not, ◌||◌}
 use Rattle.channel_model.specs.Lawful.{first}
 use Rattle.query_machine.specs.Legs.{IsWaiting, flying_in, status_in}
 use Rattle.query_machine.specs.declared.leg.Phase.{Phase}
 use Rattle.query_machine.specs.declared.leg.Phase.TheVariants as phases
 use Rattle.channel_table.proofs.Ending.{split_at}
 
+-- the first of a list is the first of a longer one
+first_of : {Y : Type 0} (xs ys : List Y) (y : Y) → first xs ≡ Some y → first (xs ++ ys) ≡ Some y
+first_of [] ys y e = absurd cc
+first_of (x ∷ xs) ys y e = e
+
 module _ {X Y : Type 0} (f : X → List Y) (xs : List X) (i : ℕ) (x : X) (inside : i < length xs) (is : x ≡ get_or xs i x) (none : flat_map f (take i xs) ≡ []) where
   -- an item that gives something behind those that give nothing gives the first
-  pub found_first : (y : Y) → f x ≡ y ∷ [] → first (flat_map f xs) ≡ Some y
-  found_first y e = ap (λ zs. first (flat_map f zs)) (split_at xs i x inside is) ∙ ap first (flat_map-append f (take i xs) (x ∷ drop (i + 1) xs)) ∙ rw (none, e) refl
+  pub found_first : (y : Y) → first (f x) ≡ Some y → first (flat_map f xs) ≡ Some y
+  found_first y e = ap (λ zs. first (flat_map f zs)) (split_at xs i x inside is) ∙ ap first (flat_map-append f (take i xs) (x ∷ drop (i + 1) xs)) ∙ rw none (first_of (f x) (flat_map f (drop (i + 1) xs)) y e)
 
   -- and one that gives nothing is passed
   pub passed : f x ≡ [] → flat_map f (take (i + 1) xs) ≡ []
@@ -32,8 +37,8 @@ pub no_attempt : {A : Type 0} (o : Option A) → is_some o ≡ false → o ≡ N
 no_attempt None e = refl
 no_attempt (Some x) e = absurd cc
 
--- a leg that isn't in flight and hasn't ended waits
-pub waits_so : (phase : Phase) → flying_in phase ≡ None → status_in phase ≡ None → IsWaiting phase
-waits_so phases.Waiting lands unended = tt
-waits_so (phases.InFlight flying) lands unended = absurd cc
-waits_so (phases.Ended status) lands unended = absurd cc
+-- a side that waits isn't in flight and hasn't ended
+pub waiting_says : (phase : Phase) → not (is_some (flying_in phase) || is_some (status_in phase)) ≡ true → IsWaiting phase × (flying_in phase ≡ None) × (status_in phase ≡ None)
+waiting_says phases.Waiting e = (tt, refl, refl)
+waiting_says (phases.InFlight flying) e = absurd cc
+waiting_says (phases.Ended status) e = absurd cc

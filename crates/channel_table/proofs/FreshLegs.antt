@@ -59,10 +59,9 @@ module _ (setting : Setting) (past : Past) (leg : Leg) (unstarted : has_leg leg 
       λ k. record { flies = idle k; due = option_map (λ (a : Attempt). deadline setting leg past) (idle k); spends = spent (unclosed k); over_tcp = is_over_tcp setting (unclosed k); with_opt = has_opt setting (unclosed k); forced = free k } in
       same ∙ ap₂ (λ (b c : Bool). record { flies = None; due = None; spends = 0; over_tcp = b; with_opt = c; forced = None }) (or_nothing setting.options.flags.usevc) (and_all setting.options.flags.edns)
 
-  pub unstarted_stands : LegStands setting past leg (fresh_leg setting.options.flags)
+  pub unstarted_stands : LegStands setting past leg (fresh_leg setting.options.flags) []
   unstarted_stands = record {
     facts = fresh_facts;
-    open' = ap end_of unclosed;
-    unended = refl;
-    few = omega arith;
+    ends = ap end_of unclosed;
+    few = λ on. omega arith;
   }

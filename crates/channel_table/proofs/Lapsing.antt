@@ -1,14 +1,15 @@
 -- How a table follows an Expire.
-use Rattle.std.proofs.Common.{◌≡◌, ◌∙◌, ℕ, ◌+◌, ◌≤◌, List, [], ◌∷◌, Option, Some, None, Result, Ok, Err, refl, ap, sym, subst, map, take, drop}
+use Rattle.std.proofs.Common.{◌≡◌, ◌∙◌, ℕ, ◌+◌, ◌≤◌, Bool, true, false, List, [], ◌∷◌, Option, Some, None, Result, Ok, Err, refl, ap, sym, subst, map, take, drop}
 use Rattle.std.specs.List.{AllByRecursion}
-use Rattle.std.specs.Prelude.{IsSomeAnd, option_map}
+use Rattle.std.specs.Option.{option_and_then}
+use Rattle.std.specs.Prelude.{IsSomeAnd, if◌then◌else◌, option_map}
 use Rattle.std.specs.Result.{IsErr}
 use Rattle.chan_types.specs.declared.answer.Answer.{Answer}
 use Rattle.chan_types.specs.declared.journal.What.TheVariants.{Expire}
 use Rattle.chan_types.specs.declared.script.Script.{Script}
 use Rattle.chan_types.specs.declared.status.Status.TheVariants.{TimedOut}
 use Rattle.chan_types.specs.declared.ticket.Ticket.{Ticket}
-use Rattle.channel_model.proofs.Theorems.{expire_spares, is_leg-itself}
+use Rattle.channel_model.proofs.Theorems.{Spares, expire_spares, is_leg-itself}
 use Rattle.channel_model.specs.Journal.{Past}
 use Rattle.channel_model.specs.Lawful.{Due, IsLawfulPast, first_due}
 use Rattle.channel_model.specs.Legs.{Leg, leg_of}
@@ -20,47 +21,76 @@ use Rattle.channel_model.specs.declared.judged.Judged.TheVariants.{Failed}
 use Rattle.item_list.specs.declared.no_memory.NoMemory.{NoMemory}
 use Rattle.query_machine.specs.declared.leg.Flying.{Flying}
 use Rattle.channel_table.proofs.OneRow.{each-split}
-use Rattle.channel_table.proofs.RowEnding.{IsOther, other_leg, others_apart, table_row_ended}
+use Rattle.channel_table.proofs.RowEnding.{IsOther, others_apart, table_row_ended}
 use Rattle.channel_table.proofs.RowFrames.{IsSpared, spared_uncompleted}
 use Rattle.channel_table.specs.After.{answer_behind}
 use Rattle.channel_table.specs.Ends.{EndsRow}
-use Rattle.channel_table.specs.Rows.{RowStands, TableStands, flying_of, leg_of_row, number_of}
-use Rattle.channel_table.specs.Soonest.{due_of_row, due_of_soonest}
+use Rattle.channel_table.specs.Rows.{RowStands, TableStands, number_of, side_at}
+use Rattle.channel_table.specs.Sides.{at_side, flying_of, hits, leg_of_side}
+use Rattle.channel_table.specs.Soonest.{due_of_side, due_of_soonest}
+use Rattle.channel_table.specs.declared.side.Side.{Side}
+use Rattle.channel_table.proofs.RowEnds.{Meets}
+use Rattle.channel_table.proofs.RowSides.{if_second, meets_at, no_bytes, other_of_row, other_sides, side_numbered}
+use Rattle.channel_model.specs.Legs.{is_leg}
 use Rattle.channel_table.specs.declared.row.Row.{Row}
 use Rattle.channel_table.specs.declared.table.seeking.Soonest.{Soonest}
 
--- the row has an attempt in flight, and its leg is the one that was found
-pub record IsFound {T : Type 0} (row : Row T) (leg : Leg) : Type 0 where
+-- a side of the row has an attempt in flight, and its leg is the one that was found
+pub record IsFound {T : Type 0} (row : Row T) (second : Bool) (leg : Leg) : Type 0 where
+  pub side : Side
+  pub at : side_at second row ≡ Some side
   pub flying : Flying
-  pub flies : flying_of row ≡ Some flying
-  pub own : leg ≡ leg_of_row row
+  pub flies : flying_of side ≡ Some flying
+  pub own : leg ≡ leg_of_side side
 
-pub found_says : {T : Type 0} (row : Row T) (found : Soonest) (o : Option Flying) → flying_of row ≡ o
-    → option_map (λ (flying : Flying). record { at = flying.due; leg = leg_of_row row }) o ≡ Some (due_of_soonest found) → IsFound row (leg_of found.number found.leg_number)
-found_says row found None is e = absurd cc
-found_says row found (Some flying) is e =
-    let same : ◌≡◌ {A = Due} (record { at = flying.due; leg = leg_of_row row }) (due_of_soonest found) = cc in
-    record { flying = flying; flies = is; own = sym (ap (λ (d : Due). d.leg) same) }
+pub found_says : {T : Type 0} (row : Row T) (found : Soonest) → option_and_then due_of_side (side_at found.is_second row) ≡ Some (due_of_soonest found) → IsFound row found.is_second (leg_of found.number found.leg_number)
+found_says row found e = by_side (side_at found.is_second row) refl e
+  where
+    by_flying : (side : Side) → side_at found.is_second row ≡ Some side → (o : Option Flying) → flying_of side ≡ o → option_map (λ (flying : Flying). record { at = flying.due; leg = leg_of_side side }) o ≡ Some (due_of_soonest found) → IsFound row found.is_second (leg_of found.number found.leg_number)
+    by_flying side at None is e = absurd cc
+    by_flying side at (Some flying) is e =
+        let same : ◌≡◌ {A = Due} (record { at = flying.due; leg = leg_of_side side }) (due_of_soonest found) = cc in
+        record { side = side; at = at; flying = flying; flies = is; own = sym (ap (λ (d : Due). d.leg) same) }
+
+    by_side : (o : Option Side) → side_at found.is_second row ≡ o → option_and_then due_of_side o ≡ Some (due_of_soonest found) → IsFound row found.is_second (leg_of found.number found.leg_number)
+    by_side None at e = absurd cc
+    by_side (Some side) at e = by_flying side at (flying_of side) refl e
 
 module _ {T : Type 0} (plan : T → Script) (setting : Setting) (past : Past) (number leg at : ℕ) where
+  -- an Expire of another leg doesn't concern a side
+  spared_side : (side : Side) → is_leg (leg_of_side side) number leg ≡ false → Spares setting (Expire number leg at) past (leg_of_side side)
+  spared_side side other = expire_spares setting past (leg_of_side side) number leg at other
+
   spared_all : (rows : List (Row T)) → AllByRecursion (IsOther number) rows → AllByRecursion (RowStands plan setting past) rows → AllByRecursion (IsSpared plan setting (Expire number leg at) past) rows
   spared_all [] apart each = tt
   spared_all (row ∷ rows) apart each =
-      let spared = expire_spares setting past (leg_of_row row) number leg at (other_leg row.number number row.leg_number leg apart.0) in
+      let spared = other_sides plan setting past row each.0 number leg apart.0 (λ side. Spares setting (Expire number leg at) past (leg_of_side side)) spared_side in
       (record { spared = spared; others = λ k. tt; uncompleted = spared_uncompleted plan setting (Expire number leg at) past row refl spared each.0 }, spared_all rows apart.1 each.1)
+
+  -- an Expire of one of its sides' legs meets both
+  meets_expired : (row : Row T) (stands : RowStands plan setting past row) (second : Bool) (side : Side) → side_at second row ≡ Some side → (flying : Flying) → flying_of side ≡ Some flying → leg_of_side side ≡ leg_of number leg
+      → (other : Bool) (it : Side) → side_at other row ≡ Some it → (bytes : List ℕ) → (other ≡ second → bytes ≡ []) → Meets setting (Expire number leg at) past (at_side second) (Failed TimedOut) other bytes it
+  meets_expired row stands second side at_ flying flies own other it at_it bytes none =
+      meets_at plan setting past row stands (Expire number leg at) (Failed TimedOut) [] flying second side at_ flies
+      (record { flying = flying; flies = flies; closed = ap (λ (l : Leg). is_leg l number leg) own ∙ is_leg-itself (leg_of number leg); means = refl; brings = refl })
+      (λ it at_it. spared_side it (other_of_row plan setting past row stands number leg second side it at_ at_it own)) other it at_it bytes none
 
 -- the attempt that was found expires
 pub table_expired : {T : Type 0} (plan : T → Script) (setting : Setting) (past : Past) (found : Soonest) (at most : ℕ) (answer : Option Answer) (rows new_rows : List (Row T)) (tickets new_tickets : List (Ticket T)) → IsLawfulPast setting past
-    → (ends : EndsRow setting.options.flags (Failed TimedOut) answer most found.index rows tickets new_rows new_tickets) → due_of_row ends.row ≡ Some (due_of_soonest found) → attempts setting past ≡ most → most ≤ 80 → answer ≡ answer_behind setting.options (Failed TimedOut) [] most ends.row
+    → (ends : EndsRow setting.options.flags (at_side found.is_second) (Failed TimedOut) [] most answer found.index rows tickets new_rows new_tickets) → option_and_then due_of_side (side_at found.is_second ends.row) ≡ Some (due_of_soonest found) → attempts setting past ≡ most → most ≤ 80
+    → answer ≡ answer_behind setting.options (at_side found.is_second) (Failed TimedOut) [] most ends.row
     → TableStands plan setting past rows tickets → TableStands plan setting (Expire found.number found.leg_number at ∷ past) new_rows new_tickets
 table_expired plan setting past found at most answer rows new_rows tickets new_tickets lawful ends due may few answers table =
-    let is = found_says ends.row found (flying_of ends.row) refl due in
+    let is = found_says ends.row found due in
     let parts = each-split (RowStands plan setting past) (take found.index rows) ends.row (drop (found.index + 1) rows) (subst (AllByRecursion (RowStands plan setting past)) ends.parts table.each_row) in
     let apart = others_apart setting past (take found.index rows) (drop (found.index + 1) rows) ends.row lawful (table.stand.pending_are ∙ ap (map number_of) ends.parts) in
-    subst (λ (l : Leg). TableStands plan setting (Expire l.request l.number at ∷ past) new_rows new_tickets) (sym is.own)
-    (table_row_ended plan setting (Expire ends.row.number ends.row.leg_number at) past (Failed TimedOut) [] answer most found.index rows new_rows tickets new_tickets ends table refl refl refl
-    (spared_all plan setting past ends.row.number ends.row.leg_number at (take found.index rows) apart.0 parts.0) (spared_all plan setting past ends.row.number ends.row.leg_number at (drop (found.index + 1) rows) apart.1 parts.2)
-    is.flying is.flies (is_leg-itself (leg_of_row ends.row)) refl refl refl may few answers)
+    let own : found.number ≡ ends.row.number = ap (λ (l : Leg). l.request) is.own ∙ side_numbered plan setting past ends.row parts.1 found.is_second is.side is.at in
+    let apart_before = subst (λ n. AllByRecursion (IsOther n) (take found.index rows)) (sym own) apart.0 in
+    let apart_behind = subst (λ n. AllByRecursion (IsOther n) (drop (found.index + 1) rows)) (sym own) apart.1 in
+    let meets = meets_expired plan setting past found.number found.leg_number at ends.row parts.1 found.is_second is.side is.at is.flying is.flies (sym is.own) in
+    table_row_ended plan setting (Expire found.number found.leg_number at) past (at_side found.is_second) (Failed TimedOut) [] most answer found.index rows new_rows tickets new_tickets ends table refl refl refl
+    (spared_all plan setting past found.number found.leg_number at (take found.index rows) apart_before parts.0) (spared_all plan setting past found.number found.leg_number at (drop (found.index + 1) rows) apart_behind parts.2)
+    refl may few (meets false ends.row.first refl [] (λ e. refl)) (if_second ends.row.second (λ it at_it. meets true it at_it (if hits (at_side found.is_second) false ends.row.first then [] else []) (λ e. no_bytes (hits (at_side found.is_second) false ends.row.first)))) answers
 
 -- an expiry that found no memory had one that was due
 pub expires_failed : (at : ℕ) (result : Result Lapse NoMemory) (setting : Setting) (past : Past) → IsErr result → IsSomeAnd (first_due setting past) (λ due. due.at ≤ at) → Expires at result setting past None

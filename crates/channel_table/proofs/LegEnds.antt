@@ -1,5 +1,5 @@
 -- How a leg follows the entry that closes its attempt.
-use Rattle.std.proofs.Common.{◌≡◌, ◌∙◌, ℕ, ◌+◌, ◌<◌, ◌≤◌, Bool, true, false, ◌∷◌, Option, Some, None, refl, ap, ap₂, sym, cond, arith}
+use Rattle.std.proofs.Common.{◌≡◌, ◌∙◌, ℕ, ◌+◌, ◌<◌, ◌≤◌, Bool, true, false, List, ◌∷◌, Option, Some, None, refl, ap, ap₂, sym, cond, arith}
 use Rattle.std.proofs.lemmas.Bool.{leb-false}
 use Rattle.std.specs.Bool.{then_some}
 use Rattle.std.specs.Prelude.{nat_le, not, option_map, ◌&&◌, ◌||◌}
@@ -19,6 +19,8 @@ use Rattle.channel_model.specs.declared.judged.Judged.TheVariants.{Failed, Final
 use Rattle.query_machine.specs.Legs.{flying_in, forced_with, leg_behind, phase_with, spent_with, status_in}
 use Rattle.query_machine.specs.declared.leg.Flying.{Flying}
 use Rattle.query_machine.specs.declared.leg.Leg as machine
+use Rattle.query_machine.specs.declared.leg.Phase.{Phase}
+use Rattle.query_machine.specs.declared.leg.Phase.TheVariants as phases
 use Rattle.channel_table.specs.Legs.{LegStands, attempt_of, facts_of, flown_by}
 
 or_comm : (a b : Bool) → (a || b) ≡ (b || a)
@@ -86,9 +88,21 @@ facts_behind leg state flying judged most is few =
       forced = forced k;
     }
 
-module _ (setting : Setting) (what : What) (past : Past) (leg : Leg) (state : machine.Leg) (flying : Flying) (judged : Judged) (most : ℕ) (stands : LegStands setting past leg state) (is : flying_in state.phase ≡ Some flying)
+-- a leg in flight hasn't ended
+pub flying_open : (phase : Phase) (flying : Flying) → flying_in phase ≡ Some flying → status_in phase ≡ None
+flying_open phases.Waiting flying is = refl
+flying_open (phases.InFlight other) flying is = refl
+flying_open (phases.Ended status) flying is = absurd cc
+
+module _ (setting : Setting) (what : What) (past : Past) (leg : Leg) (state : machine.Leg) (before : List ℕ) (flying : Flying) (judged : Judged) (most : ℕ) (stands : LegStands setting past leg state before) (is : flying_in state.phase ≡ Some flying)
     (closed : closes setting (attempt_of leg flying) what past ≡ true) (begins : begun_by what ≡ None)
     (means : outcome_of setting (attempt_of leg flying) what past (closings setting leg past) ≡ Some judged) (may : attempts setting past ≡ most) (few : most ≤ 80) where
+  unended : status_in state.phase ≡ None
+  unended = flying_open state.phase flying is
+
+  open_ : leg_end setting leg past ≡ None
+  open_ = stands.ends ∙ ap (option_map (λ (s : Status). record { status = s; reply = before })) unended
+
   flies : flight setting leg past ≡ Some (attempt_of leg flying)
   flies = ap (λ (f : LegFacts). f.flies) stands.facts ∙ ap (flown_by leg) is
 
@@ -99,20 +113,15 @@ module _ (setting : Setting) (what : What) (past : Past) (leg : Leg) (state : ma
       ≡ status_in (leg_behind judged most state).phase
   status =
       ap₂ (λ o n. ending_status o (cond (is_failed o) 1 0 + n) (attempts setting past)) means spends
-      ∙ ap₂ (λ n m. ending_status (Some judged) n m) (sym (spent_same judged state.spent stands.few)) may
+      ∙ ap₂ (λ n m. ending_status (Some judged) n m) (sym (spent_same judged state.spent (stands.few unended))) may
       ∙ sym (status_of_phase (ending_status (Some judged) (spent_with judged state.spent) most))
 
-  -- the leg has ended exactly where its state says so
-  pub leg_ended : leg_end setting leg (what ∷ past) ≡ option_map (λ (s : Status). record { status = s; reply = bytes_of what }) (status_in (leg_behind judged most state).phase)
-  leg_ended =
-      closed-end setting what past leg (attempt_of leg flying) flies closed stands.open'
-      ∙ ap (option_map (λ (s : Status). record { status = s; reply = bytes_of what })) status
-
-  -- a leg that goes on stands as its state says
-  pub leg_goes_on : status_in (leg_behind judged most state).phase ≡ None → LegStands setting (what ∷ past) leg (leg_behind judged most state)
-  leg_goes_on on = record {
-    facts = closed-facts setting what past leg (attempt_of leg flying) flies closed begins ∙ ap₂ (λ o f. facts_closed flying.server o f) means stands.facts ∙ facts_behind leg state flying judged most is stands.few;
-    open' = leg_ended ∙ ap (option_map (λ (s : Status). record { status = s; reply = bytes_of what })) on;
-    unended = on;
-    few = still_few judged state.spent (spent_with judged state.spent) most (spent_same judged state.spent stands.few) stands.few few (sym (status_of_phase (ending_status (Some judged) (spent_with judged state.spent) most)) ∙ on);
+  -- the leg stands as its state says, which has ended where the leg has
+  pub leg_closed : (reply : List ℕ) → bytes_of what ≡ reply → LegStands setting (what ∷ past) leg (leg_behind judged most state) reply
+  leg_closed reply brings = record {
+    facts = closed-facts setting what past leg (attempt_of leg flying) flies closed begins ∙ ap₂ (λ o f. facts_closed flying.server o f) means stands.facts ∙ facts_behind leg state flying judged most is (stands.few unended);
+    ends =
+        closed-end setting what past leg (attempt_of leg flying) flies closed open_
+        ∙ ap₂ (λ o bytes. option_map (λ (s : Status). record { status = s; reply = bytes }) o) status brings;
+    few = λ on. still_few judged state.spent (spent_with judged state.spent) most (spent_same judged state.spent (stands.few unended)) (stands.few unended) few (sym (status_of_phase (ending_status (Some judged) (spent_with judged state.spent) most)) ∙ on);
   }

@@ -1,4 +1,7 @@
 mod SearchSteps
+mod SideLists
+mod SideLemmas
+mod RowAnswers
 mod Outcomes
 mod TableSteps
 mod RowFrames
@@ -15,6 +18,7 @@ mod RowEnds
 mod OneRow
 mod RowEnding
 mod Ending
+mod RowSides
 mod Lapsing
 mod FailureSteps
 mod Attempts

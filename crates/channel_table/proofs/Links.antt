@@ -17,8 +17,12 @@ use Rattle.channel_model.specs.Setting.{Setting}
 use Rattle.channel_model.specs.Verdict.{has_item}
 use Rattle.query_machine.specs.declared.leg.Flying.{Flying}
 use Rattle.channel_table.specs.Legs.{attempt_of, flown_by}
-use Rattle.channel_table.specs.Rows.{RowStands, TableStands, flown, flying_of, leg_of_row}
-use Rattle.channel_table.specs.Starting.{link_on, link_with, links_on}
+use Rattle.channel_table.proofs.SideLists.{LegOf, all_legs_stand, flat_sides}
+use Rattle.channel_table.proofs.Telling.{flying_sides}
+use Rattle.channel_table.specs.Rows.{TableStands, all_sides}
+use Rattle.channel_table.specs.Sides.{flown_side, flying_of, leg_of_side}
+use Rattle.channel_table.specs.Starting.{link_on, link_with, links_on, row_links}
+use Rattle.channel_table.specs.declared.side.Side.{Side}
 use Rattle.channel_table.specs.declared.row.Row.{Row}
 
 -- the link of an attempt in flight is no greater than the greatest
@@ -42,60 +46,61 @@ none_first (x ∷ xs) e = absurd cc
 no_item : {X : Type 0} (xs : List X) → xs ≡ [] → has_item xs ≡ false
 no_item xs e = ap has_item e
 
-module _ {T : Type 0} (plan : T → Script) (setting : Setting) (past : Past) (server : ℕ) where
-  has_append : {X : Type 0} (xs ys : List X) → has_item (xs ++ ys) ≡ (has_item xs || has_item ys)
-  has_append [] ys = refl
-  has_append (x ∷ xs) ys = refl
-
-  on_same : (rows : List (Row T)) → list_any (is_on_tcp setting server) (flat_map flown rows) ≡ has_item (flat_map (links_on server) rows)
+module _ (setting : Setting) (past : Past) (server : ℕ) where
+  on_same : (ss : List Side) → list_any (is_on_tcp setting server) (flat_map flown_side ss) ≡ has_item (flat_map (links_on server) ss)
   on_same [] = refl
-  on_same (row ∷ rows) = by_attempt (leg_of_row row) (flying_of row) (on_same rows)
+  on_same (side ∷ ss) = by_attempt (leg_of_side side) (flying_of side) (on_same ss)
     where
-      one : (b : Bool) (link : ℕ) → list_any (is_on_tcp setting server) (flat_map flown rows) ≡ has_item (flat_map (links_on server) rows) → (b || list_any (is_on_tcp setting server) (flat_map flown rows)) ≡ has_item (option_to_list (cond b (Some link) None) ++ flat_map (links_on server) rows)
+      one : (b : Bool) (link : ℕ) → list_any (is_on_tcp setting server) (flat_map flown_side ss) ≡ has_item (flat_map (links_on server) ss) → (b || list_any (is_on_tcp setting server) (flat_map flown_side ss)) ≡ has_item (option_to_list (cond b (Some link) None) ++ flat_map (links_on server) ss)
       one true link rest = refl
       one false link rest = rest
 
-      by_attempt : (leg : Leg) (o : Option Flying) → list_any (is_on_tcp setting server) (flat_map flown rows) ≡ has_item (flat_map (links_on server) rows)
-          → list_any (is_on_tcp setting server) (option_to_list (flown_by leg o) ++ flat_map flown rows) ≡ has_item (option_to_list (link_on server o) ++ flat_map (links_on server) rows)
+      by_attempt : (leg : Leg) (o : Option Flying) → list_any (is_on_tcp setting server) (flat_map flown_side ss) ≡ has_item (flat_map (links_on server) ss)
+          → list_any (is_on_tcp setting server) (option_to_list (flown_by leg o) ++ flat_map flown_side ss) ≡ has_item (option_to_list (link_on server o) ++ flat_map (links_on server) ss)
       by_attempt leg None rest = rest
       by_attempt leg (Some flying) rest = one ((flying.server == server) && not (flying.link == 0)) flying.link rest
 
   -- an attempt in flight over TCP to the server, over this link
-  record IsOn (link : ℕ) : Type 0 where
-    attempt : Attempt
-    flies : flight setting attempt.leg past ≡ Some attempt
-    there : attempt.server ≡ server
-    over : attempt.link ≡ link
-    tcp : link ≢ 0
+  pub record IsOn (link : ℕ) : Type 0 where
+    pub attempt : Attempt
+    pub flies : flight setting attempt.leg past ≡ Some attempt
+    pub there : attempt.server ≡ server
+    pub over : attempt.link ≡ link
+    pub tcp : link ≢ 0
 
-  on_first : (link : ℕ) (rows : List (Row T)) → AllByRecursion (RowStands plan setting past) rows → first (flat_map (links_on server) rows) ≡ Some link → IsOn link
+  on_first : (link : ℕ) (ss : List Side) → AllByRecursion (LegOf setting past) ss → first (flat_map (links_on server) ss) ≡ Some link → IsOn link
   on_first link [] each e = absurd cc
-  on_first link (row ∷ rows) each e = by_attempt (flying_of row) refl e (on_first link rows each.1)
+  on_first link (side ∷ ss) each e = by_attempt (flying_of side) refl e (on_first link ss each.1)
     where
-      by_test : (flying : Flying) → flying_of row ≡ Some flying → (b : Bool) → ((flying.server == server) && not (flying.link == 0)) ≡ b → first (option_to_list (cond b (Some flying.link) None) ++ flat_map (links_on server) rows) ≡ Some link
-          → (first (flat_map (links_on server) rows) ≡ Some link → IsOn link) → IsOn link
+      by_test : (flying : Flying) → flying_of side ≡ Some flying → (b : Bool) → ((flying.server == server) && not (flying.link == 0)) ≡ b → first (option_to_list (cond b (Some flying.link) None) ++ flat_map (links_on server) ss) ≡ Some link
+          → (first (flat_map (links_on server) ss) ≡ Some link → IsOn link) → IsOn link
       by_test flying is true fits e rest =
           let parts = and_parts (flying.server == server) (not (flying.link == 0)) fits in
           let same : flying.link ≡ link = cc in
           record {
-            attempt = attempt_of (leg_of_row row) flying;
-            flies = ap (λ (f : LegFacts). f.flies) each.0.leg.facts ∙ ap (flown_by (leg_of_row row)) is;
+            attempt = attempt_of (leg_of_side side) flying;
+            flies = ap (λ (f : LegFacts). f.flies) each.0.facts ∙ ap (flown_by (leg_of_side side)) is;
             there = eqb-true flying.server server parts.0;
             over = same;
             tcp = λ zero. true≢false (sym parts.1 ∙ ap not (eq-eqb flying.link 0 (same ∙ zero)));
           }
       by_test flying is false off e rest = rest e
 
-      by_attempt : (o : Option Flying) → flying_of row ≡ o → first (option_to_list (link_on server o) ++ flat_map (links_on server) rows) ≡ Some link → (first (flat_map (links_on server) rows) ≡ Some link → IsOn link) → IsOn link
+      by_attempt : (o : Option Flying) → flying_of side ≡ o → first (option_to_list (link_on server o) ++ flat_map (links_on server) ss) ≡ Some link → (first (flat_map (links_on server) ss) ≡ Some link → IsOn link) → IsOn link
       by_attempt None is e rest = rest e
       by_attempt (Some flying) is e rest = by_test flying is ((flying.server == server) && not (flying.link == 0)) refl e rest
 
-  link_rows : (rows : List (Row T)) (tickets : List (Ticket T)) → TableStands plan setting past rows tickets → IsLawfulPast setting past → (o : Option ℕ) → first (flat_map (links_on server) rows) ≡ o → unwrap_or o (greatest_link past + 1) ≡ tcp_link setting server past
+module _ {T : Type 0} (plan : T → Script) (setting : Setting) (past : Past) (server : ℕ) where
+  -- the links of all rows are those of all sides
+  pub links_are : (rows : List (Row T)) → flat_map (row_links server) rows ≡ flat_map (links_on server) (all_sides rows)
+  links_are rows = flat_sides (links_on server) rows
+
+  link_rows : (rows : List (Row T)) (tickets : List (Ticket T)) → TableStands plan setting past rows tickets → IsLawfulPast setting past → (o : Option ℕ) → first (flat_map (links_on server) (all_sides rows)) ≡ o → unwrap_or o (greatest_link past + 1) ≡ tcp_link setting server past
   link_rows rows tickets table lawful None e =
-      let none = as_many-any (is_on_tcp setting server) (in_flight setting past) (flat_map flown rows) table.stand.flying_are ∙ on_same rows ∙ no_item (flat_map (links_on server) rows) (none_first (flat_map (links_on server) rows) e) in
+      let none = as_many-any (is_on_tcp setting server) (in_flight setting past) (flat_map flown_side (all_sides rows)) (flying_sides plan setting past rows tickets table) ∙ on_same setting past server (all_sides rows) ∙ no_item (flat_map (links_on server) (all_sides rows)) (none_first (flat_map (links_on server) (all_sides rows)) e) in
       ap (λ (f : Option Attempt). unwrap_or (option_map (λ (a : Attempt). a.link) f) (greatest_link past + 1)) (sym (find_none (is_on_tcp setting server) (in_flight setting past) none))
   link_rows rows tickets table lawful (Some link) e =
-      let on = on_first link rows table.each_row e in
+      let on = on_first setting past server link (all_sides rows) (all_legs_stand plan setting past rows table.each_row) e in
       let tcp : on.attempt.link ≢ 0 = λ zero. on.tcp (sym on.over ∙ zero) in
       let told = tcp_link-is setting past on.attempt.leg on.attempt on.flies tcp (λ c flies same over. one_link setting past lawful c.leg on.attempt.leg c on.attempt flies on.flies same over tcp) in
       sym on.over ∙ sym told ∙ ap (λ s. tcp_link setting s past) on.there
@@ -104,13 +109,13 @@ module _ {T : Type 0} (plan : T → Script) (setting : Setting) (past : Past) (s
 pub link_is : {T : Type 0} (plan : T → Script) (setting : Setting) (past : Past) (rows : List (Row T)) (tickets : List (Ticket T)) → TableStands plan setting past rows tickets → IsLawfulPast setting past → (leg : Leg) (server : ℕ) (over_tcp : Bool) (greatest : ℕ)
     → is_over_tcp setting (closings setting leg past) ≡ over_tcp → greatest_link past ≡ greatest → link_with rows over_tcp server greatest ≡ chosen_link setting leg server past
 link_is plan setting past rows tickets table lawful leg server over_tcp greatest is greatest_is =
-    ap₂ (λ (b : Bool) n. if b then n else 0) (sym is) (ap (λ n. unwrap_or (first (flat_map (links_on server) rows)) (n + 1)) (sym greatest_is) ∙ link_rows plan setting past server rows tickets table lawful (first (flat_map (links_on server) rows)) refl)
+    ap₂ (λ (b : Bool) n. if b then n else 0) (sym is) (ap₂ (λ (ls : List ℕ) n. unwrap_or (first ls) (n + 1)) (links_are plan setting past server rows) (sym greatest_is) ∙ link_rows plan setting past server rows tickets table lawful (first (flat_map (links_on server) (all_sides rows))) refl)
 
 -- and no greater than one more than the greatest
 pub link_few : {T : Type 0} (plan : T → Script) (setting : Setting) (past : Past) (rows : List (Row T)) (tickets : List (Ticket T)) → TableStands plan setting past rows tickets → (over_tcp : Bool) (server greatest : ℕ) → greatest_link past ≡ greatest → link_with rows over_tcp server greatest ≤ greatest + 1
-link_few plan setting past rows tickets table true server greatest greatest_is = by_first (first (flat_map (links_on server) rows)) refl
+link_few plan setting past rows tickets table true server greatest greatest_is = by_first (first (flat_map (row_links server) rows)) refl
   where
-    by_first : (o : Option ℕ) → first (flat_map (links_on server) rows) ≡ o → unwrap_or o (greatest + 1) ≤ greatest + 1
+    by_first : (o : Option ℕ) → first (flat_map (row_links server) rows) ≡ o → unwrap_or o (greatest + 1) ≤ greatest + 1
     by_first None e = omega arith
-    by_first (Some link) e = let on = on_first plan setting past server link rows table.each_row e in omega (arith, on.over, link_within setting on.attempt.leg past on.attempt on.flies, greatest_is)
+    by_first (Some link) e = let on = on_first setting past server link (all_sides rows) (all_legs_stand plan setting past rows table.each_row) (ap first (sym (links_are plan setting past server rows)) ∙ e) in omega (arith, on.over, link_within setting on.attempt.leg past on.attempt on.flies, greatest_is)
 link_few plan setting past rows tickets table false server greatest greatest_is = omega arith

@@ -2,8 +2,8 @@
 use Rattle.std.proofs.Common.{◌≡◌, ◌∙◌, ℕ, ◌+◌, ◌-◌, ◌^◌, ◌<◌, ◌≤◌, Bool, true, false, List, [], ◌∷◌, ◌++◌, Option, Some, None, Result, Ok, Err, refl, ap, ap₂, sym, subst, map, length, cond, arith, true≢false}
 use Rattle.std.proofs.lemmas.List.{append-nil, length-map}
 use Rattle.std.proofs.lemmas.List.Sums.{sum_by-cons}
-use Rattle.std.specs.List.{AllByRecursion}
-use Rattle.std.specs.Prelude.{IsFalse, count_by, filter, flat_map, max, not, option_to_list}
+use Rattle.std.specs.List.{AllByRecursion, sum_by}
+use Rattle.std.specs.Prelude.{IsFalse, count_by, filter, flat_map, max, not, option_map, option_to_list}
 use Rattle.chan_types.specs.declared.journal.What.TheVariants.{Servers}
 use Rattle.chan_types.specs.declared.script.Script.{Script}
 use Rattle.chan_types.specs.declared.server_key.ServerKey.{ServerKey}
@@ -16,7 +16,7 @@ use Rattle.channel_model.specs.Journal.{Past, is_destroyed}
 use Rattle.channel_model.specs.Lawful.{MaySet}
 use Rattle.channel_model.specs.LegFacts.{LegFacts, facts_closed, facts_set}
 use Rattle.channel_model.specs.Legs.{Leg}
-use Rattle.channel_model.specs.Servers.{KeysDiffer, greatest_key, greatest_of, has_key, keys_for, servers_at}
+use Rattle.channel_model.specs.Servers.{KeysDiffer, greatest_key, greatest_of, has_key, keys_for, rekeyed, servers_at}
 use Rattle.channel_model.specs.Meanings.{SetsServers}
 use Rattle.channel_model.specs.Setting.{Setting}
 use Rattle.channel_model.specs.declared.answers.SetFault.{SetFault}
@@ -34,8 +34,19 @@ use Rattle.channel_table.proofs.SearchSteps.{passed_stay}
 use Rattle.channel_table.proofs.TableSteps.{Stands, table_behind}
 use Rattle.channel_table.specs.Counted.{AreCounted}
 use Rattle.channel_table.specs.Legs.{LegStands, attempt_of, facts_of, flown_by}
-use Rattle.channel_table.specs.Listing.{flying_left, has_left, kept_in, leg_set, row_set}
-use Rattle.channel_table.specs.Rows.{RowStands, TableStands, flown, flying_of, leg_of_row, number_of, ticket_number}
+use Rattle.channel_table.specs.Listing.{flying_left, has_left, kept_in, left_in, leg_set, row_set, side_set}
+use Rattle.channel_table.specs.Aims.{answer_of_ends}
+use Rattle.channel_table.specs.Rows.{RowStands, SideStands, TableStands, all_sides, flown, number_of, ticket_number}
+use Rattle.channel_table.specs.Sides.{end_of_side, flown_side, flying_of, leg_of_side, number_of_leg}
+use Rattle.channel_table.specs.declared.side.Side.{Side}
+use Rattle.channel_table.proofs.LegEnds.{flying_open}
+use Rattle.channel_table.proofs.SideLists.{count_sides}
+use Rattle.channel_table.proofs.Telling.{flying_sides}
+use Rattle.chan_types.specs.declared.spec.Spec.{Spec}
+use Rattle.chan_types.specs.declared.status.Status.{Status}
+use Rattle.dns_message.specs.declared.name.Name.{Name}
+use Rattle.std.proofs.lemmas.List.Elements.{filter-append}
+use Rattle.std.specs.Option.{option_and_then}
 use Rattle.channel_table.specs.declared.row.Row.{Row}
 
 module _ (list : List ServerKey) (leg : Leg) (state : machine.Leg) where
@@ -62,23 +73,30 @@ module _ (list : List ServerKey) (leg : Leg) (state : machine.Leg) where
       by_test true = refl
       by_test false = ap (λ (n : ℕ). record { flies = None; due = None; spends = n; over_tcp = state.over_tcp; with_opt = state.has_opt; forced = None }) (no_sum state.spent)
 
-  unended_after : (b : Bool) → status_in state.phase ≡ None → status_in (cond b (record state { phase = phases.Waiting; forced = None }) (record state { forced = kept_in list state.forced })).phase ≡ None
-  unended_after true is = refl
-  unended_after false is = is
+  -- its status is the same
+  status_after : (o : Option Flying) → flying_in state.phase ≡ o → status_in (cond (flying_left list o) (record state { phase = phases.Waiting; forced = None }) (record state { forced = kept_in list state.forced })).phase ≡ status_in state.phase
+  status_after None is = refl
+  status_after (Some flying) is = by_test (flying_left list (Some flying))
+    where
+      by_test : (b : Bool) → status_in (cond b (record state { phase = phases.Waiting; forced = None }) (record state { forced = kept_in list state.forced })).phase ≡ status_in state.phase
+      by_test true = sym (flying_open state.phase flying is)
+      by_test false = refl
+
+  pub status_set : status_in (leg_set list state).phase ≡ status_in state.phase
+  status_set = status_after (flying_in state.phase) refl
 
   few_after : (b : Bool) → state.spent < 80 → (cond b (record state { phase = phases.Waiting; forced = None }) (record state { forced = kept_in list state.forced })).spent < 80
   few_after true few = few
   few_after false few = few
 
   -- a leg stands behind a new list as it is set
-  pub leg_set_stands : (setting : Setting) (past : Past) → LegStands setting past leg state → LegStands setting (Servers list ∷ past) leg (leg_set list state)
-  leg_set_stands setting past stands = record {
+  pub leg_set_stands : (setting : Setting) (past : Past) (reply : List ℕ) → LegStands setting past leg state reply → LegStands setting (Servers list ∷ past) leg (leg_set list state) reply
+  leg_set_stands setting past reply stands = record {
     facts =
         set-facts setting list past leg ∙ ap₂ (facts_set list) (ap (λ (f : LegFacts). f.flies) stands.facts) stands.facts
         ∙ facts_after (flying_in state.phase) refl;
-    open' = set-end setting list past leg ∙ stands.open';
-    unended = unended_after (flying_left list (flying_in state.phase)) stands.unended;
-    few = few_after (flying_left list (flying_in state.phase)) stands.few;
+    ends = set-end setting list past leg ∙ stands.ends ∙ ap (option_map (λ (s : Status). record { status = s; reply = reply })) (sym status_set);
+    few = λ open_. few_after (flying_left list (flying_in state.phase)) (stands.few (sym status_set ∙ open_));
   }
 
   -- its attempt is what the list leaves of it
@@ -91,12 +109,46 @@ module _ (list : List ServerKey) (leg : Leg) (state : machine.Leg) where
       by_test true = ap (flown_by leg) is
       by_test false = refl
 
-module _ {T : Type 0} (plan : T → Script) (setting : Setting) (past : Past) (list : List ServerKey) where
-  row_follows : (row : Row T) → RowStands plan setting past row
-      → flown (row_set list row) ≡ filter (λ a. not (closes setting a (Servers list) past)) (flown row)
-  row_follows row stands =
-      ap option_to_list (flown_after list (leg_of_row row) row.leg setting past (flying_of row) refl) ∙ sym (left_one plan setting (Servers list) past (flown_by (leg_of_row row) (flying_of row)))
+module _ (setting : Setting) (past : Past) (list : List ServerKey) where
+  side_follows : (side : Side) → flown_side (side_set list side) ≡ filter (λ a. not (closes setting a (Servers list) past)) (flown_side side)
+  side_follows side =
+      ap option_to_list (flown_after list (leg_of_side side) side.leg setting past (flying_of side) refl) ∙ sym (left_one setting (Servers list) past (flown_by (leg_of_side side) (flying_of side)))
 
+  side_stands_set : (number : ℕ) (spec : Spec) (name : Name) (rest : List Name) (side : Side) → SideStands setting past number spec name rest side → SideStands setting (Servers list ∷ past) number spec name rest (side_set list side)
+  side_stands_set number spec name rest side stands = record {
+    numbered = stands.numbered;
+    current = stands.current;
+    behind = stands.behind;
+    asks = stands.asks;
+    leg = leg_set_stands list (leg_of_side side) side.leg setting past side.reply stands.leg;
+    begun = stands.begun;
+  }
+
+  sides_follow : (first : Side) (second : Option Side)
+      → flat_map flown_side (side_set list first ∷ option_to_list (option_map (side_set list) second)) ≡ filter (λ a. not (closes setting a (Servers list) past)) (flat_map flown_side (first ∷ option_to_list second))
+  sides_follow first None = ap (λ xs. xs ++ []) (side_follows first) ∙ sym (filter-append (λ a. not (closes setting a (Servers list) past)) (flown_side first) [])
+  sides_follow first (Some side) =
+      ap₂ (λ xs ys. xs ++ (ys ++ [])) (side_follows first) (side_follows side)
+      ∙ sym (filter-append (λ a. not (closes setting a (Servers list) past)) (flown_side first) (flown_side side ++ [])
+      ∙ ap (λ xs. filter (λ a. not (closes setting a (Servers list) past)) (flown_side first) ++ xs) (filter-append (λ a. not (closes setting a (Servers list) past)) (flown_side side) []))
+
+  sides_set : (number : ℕ) (spec : Spec) (name : Name) (rest : List Name) (first : Side) (second : Option Side) → AllByRecursion (SideStands setting past number spec name rest) (first ∷ option_to_list second)
+      → AllByRecursion (SideStands setting (Servers list ∷ past) number spec name rest) (side_set list first ∷ option_to_list (option_map (side_set list) second))
+  sides_set number spec name rest first None each = (side_stands_set number spec name rest first each.0, tt)
+  sides_set number spec name rest first (Some side) each = (side_stands_set number spec name rest first each.0, (side_stands_set number spec name rest side each.1.0, tt))
+
+numbers_set : (list : List ServerKey) (first : Side) (second : Option Side) → map number_of_leg (side_set list first ∷ option_to_list (option_map (side_set list) second)) ≡ map number_of_leg (first ∷ option_to_list second)
+numbers_set list first None = refl
+numbers_set list first (Some side) = refl
+
+end_set : (list : List ServerKey) (side : Side) → end_of_side (side_set list side) ≡ end_of_side side
+end_set list side = ap (option_map (λ (s : Status). record { status = s; reply = side.reply })) (status_set list (leg_of_side side) side.leg)
+
+second_end_set : (list : List ServerKey) (o : Option Side) → option_and_then end_of_side (option_map (side_set list) o) ≡ option_and_then end_of_side o
+second_end_set list None = refl
+second_end_set list (Some side) = end_set list side
+
+module _ {T : Type 0} (plan : T → Script) (setting : Setting) (past : Past) (list : List ServerKey) where
   row_stands_set : (row : Row T) → RowStands plan setting past row → RowStands plan setting (Servers list ∷ past) (row_set list row)
   row_stands_set row stands =
       let stay = passed_stay setting row.number stands.spec (Servers list) past 0 stands.passed stands.came in
@@ -104,16 +156,17 @@ module _ {T : Type 0} (plan : T → Script) (setting : Setting) (past : Past) (l
         spec = stands.spec;
         aims = stands.aims;
         passed = stands.passed;
+        name = stands.name;
+        rest = stands.rest;
         candidates = stands.candidates;
         few = stands.few;
-        legged = stands.legged;
+        legged = stands.legged ∙ sym (numbers_set list row.first row.second);
         came = stay.0;
         emptied = stay.1 ∙ stands.emptied;
-        asks = stands.asks;
         accepts = request_of-later row.number (Servers list) past _ stands.accepts;
         undecided = fate-kept setting (Servers list) past row.number refl ∙ stands.undecided;
-        leg = leg_set_stands list (leg_of_row row) row.leg setting past stands.leg;
-        begun = stands.begun;
+        each_side = sides_set setting past list row.number stands.spec stands.name stands.rest row.first row.second stands.each_side;
+        unanswered = ap₂ (answer_of_ends setting.options row.number row.aim row.first.question.name) (end_set list row.first) (second_end_set list row.second) ∙ stands.unanswered;
         later = stands.later;
       }
 
@@ -131,7 +184,7 @@ module _ {T : Type 0} (plan : T → Script) (setting : Setting) (past : Past) (l
   set_all-follow : (rows : List (Row T)) → AllByRecursion (RowStands plan setting past) rows → AllByRecursion (Follows number_of ticket_number flown setting (Servers list) past) (set_all rows)
   unfolding set_all
   set_all-follow [] each = tt
-  set_all-follow (row ∷ rows) each = ((refl, refl, row_follows row each.0), set_all-follow rows each.1)
+  set_all-follow (row ∷ rows) each = ((refl, refl, sides_follow setting past list row.first row.second), set_all-follow rows each.1)
 
   set_all-stand : (rows : List (Row T)) → AllByRecursion (RowStands plan setting past) rows → AllByRecursion (Stands plan setting (Servers list) past) (set_all rows)
   unfolding set_all
@@ -144,24 +197,25 @@ module _ {T : Type 0} (plan : T → Script) (setting : Setting) (past : Past) (l
       subst (TableStands plan setting (Servers list ∷ past) (map (row_set list) rows)) (append-nil tickets)
       (table_behind plan setting (Servers list) past (set_all rows) rows (map (row_set list) rows) tickets [] refl refl refl (set_all-becomes rows) (set_all-follow rows table.each_row) (set_all-stand rows table.each_row) table)
 
-  left_count : (rows : List (Row T)) → length (filter (λ (a : Attempt). not (has_key a.server list)) (flat_map flown rows)) ≡ count_by (has_left list) rows
+  left_count : (ss : List Side) → length (filter (λ (a : Attempt). not (has_key a.server list)) (flat_map flown_side ss)) ≡ count_by (has_left list) ss
   left_count [] = refl
-  left_count (row ∷ rows) = by_attempt (leg_of_row row) (flying_of row) (left_count rows) ∙ sym (sum_by-cons (λ (r : Row T). cond (has_left list r) 1 0) row rows)
+  left_count (side ∷ ss) = by_attempt (leg_of_side side) (flying_of side) (left_count ss) ∙ sym (sum_by-cons (λ (s : Side). cond (has_left list s) 1 0) side ss)
     where
-      by_test : (a : Attempt) (b : Bool) → length (filter (λ (a : Attempt). not (has_key a.server list)) (flat_map flown rows)) ≡ count_by (has_left list) rows
-          → length (cond b (a ∷ filter (λ (a : Attempt). not (has_key a.server list)) (flat_map flown rows)) (filter (λ (a : Attempt). not (has_key a.server list)) (flat_map flown rows))) ≡ cond b 1 0 + count_by (has_left list) rows
+      by_test : (a : Attempt) (b : Bool) → length (filter (λ (a : Attempt). not (has_key a.server list)) (flat_map flown_side ss)) ≡ count_by (has_left list) ss
+          → length (cond b (a ∷ filter (λ (a : Attempt). not (has_key a.server list)) (flat_map flown_side ss)) (filter (λ (a : Attempt). not (has_key a.server list)) (flat_map flown_side ss))) ≡ cond b 1 0 + count_by (has_left list) ss
       by_test a true rest = omega (arith, rest)
       by_test a false rest = omega (arith, rest)
 
-      by_attempt : (leg : Leg) (o : Option Flying) → length (filter (λ (a : Attempt). not (has_key a.server list)) (flat_map flown rows)) ≡ count_by (has_left list) rows
-          → length (filter (λ (a : Attempt). not (has_key a.server list)) (option_to_list (flown_by leg o) ++ flat_map flown rows)) ≡ cond (flying_left list o) 1 0 + count_by (has_left list) rows
+      by_attempt : (leg : Leg) (o : Option Flying) → length (filter (λ (a : Attempt). not (has_key a.server list)) (flat_map flown_side ss)) ≡ count_by (has_left list) ss
+          → length (filter (λ (a : Attempt). not (has_key a.server list)) (option_to_list (flown_by leg o) ++ flat_map flown_side ss)) ≡ cond (flying_left list o) 1 0 + count_by (has_left list) ss
       by_attempt leg None rest = omega (arith, rest)
       by_attempt leg (Some flying) rest = by_test (attempt_of leg flying) (flying_left list (Some flying)) rest
 
   -- and so many attempts end
-  pub set_count : (rows : List (Row T)) (tickets : List (Ticket T)) → TableStands plan setting past rows tickets → length (filter (λ (a : Attempt). not (has_key a.server list)) (in_flight setting past)) ≡ count_by (has_left list) rows
+  pub set_count : (rows : List (Row T)) (tickets : List (Ticket T)) → TableStands plan setting past rows tickets → length (filter (λ (a : Attempt). not (has_key a.server list)) (in_flight setting past)) ≡ sum_by (left_in list) rows
   set_count rows tickets table =
-      as_many-length _ _ (as_many-filter (λ (a : Attempt). not (has_key a.server list)) (in_flight setting past) (flat_map flown rows) table.stand.flying_are) ∙ left_count rows
+      as_many-length _ _ (as_many-filter (λ (a : Attempt). not (has_key a.server list)) (in_flight setting past) (flat_map flown_side (all_sides rows)) (flying_sides plan setting past rows tickets table))
+      ∙ left_count (all_sides rows) ∙ sym (count_sides (has_left list) rows)
 
 -- what a table has beside its requests
 pub counted_set : (setting : Setting) (past : Past) (list before : List ServerKey) (counts : List Failing) (key link starts : ℕ) → AreCounted setting past before counts key link starts → AreCounted setting (Servers list ∷ past) list (renewed list counts) (greatest_of key list) link starts
@@ -175,6 +229,10 @@ counted_set setting past list before counts key link starts counted = record {
   where
     no_link : (n : ℕ) → max 0 n ≡ n
     no_link n = omega arith
+
+-- the list that a table makes of its own one is that of the rule
+pub keys_are : {setting : Setting} {past : Past} (addresses : List ServerAddr) {old list : List ServerKey} {counts : List Failing} {key link starts : ℕ} → AreCounted setting past old counts key link starts → list ≡ rekeyed addresses old key → list ≡ keys_for setting addresses past
+keys_are addresses counted is = is ∙ ap₂ (rekeyed addresses) (sym counted.listed) (sym counted.keyed)
 
 -- a new list, as it is made: it has its servers by the rule, and may become the channel's
 module _ (setting : Setting) (past : Past) (addresses : List ServerAddr) (list : List ServerKey) (is : list ≡ keys_for setting addresses past) where

@@ -9,7 +9,7 @@ use Rattle.chan_types.specs.declared.status.Status.{Status}
 use Rattle.chan_types.specs.declared.status.Status.TheVariants.{BadName, NoData, NotFound, Success}
 use Rattle.chan_types.specs.declared.ticket.Ticket.{Ticket}
 use Rattle.std.specs.Option.{option_or}
-use Rattle.std.specs.Prelude.{IfSome, codes, option_map}
+use Rattle.std.specs.Prelude.{IfSome, codes, option_map, option_to_list}
 use Rattle.dns_message.specs.Name.{last_is}
 use Rattle.dns_message.specs.NameText.{name_text}
 use Rattle.dns_message.specs.Numbers.{class_in, kind_a, kind_aaaa, kind_ptr}
@@ -29,27 +29,30 @@ use Rattle.channel_model.specs.Questions.{candidates_of, name_of_text, question_
 use Rattle.channel_model.specs.Setting.{Setting}
 use Rattle.channel_model.specs.Verdict.{has_item}
 use Rattle.resolv_options.specs.Values.{AreWithinLimits}
-use Rattle.channel_table.proofs.AcceptSteps.{row_stands, table_answered, table_asked}
+use Rattle.channel_table.proofs.AcceptSteps.{new_flown, row_stands, table_answered, table_asked}
 use Rattle.channel_table.proofs.Candidates.{few_candidates}
 use Rattle.channel_model.specs.Legs.{legs_of}
 use Rattle.channel_table.specs.Aims.{aim_of, first_number}
-use Rattle.channel_table.specs.Opening.{AreAsked, Opens, OpensHost, OpensName, OpensRead, itself, searched}
+use Rattle.channel_table.specs.Opening.{AreAsked, Opens, OpensHost, OpensName, OpensRead, OpensText, itself, searched, with_second}
+use Rattle.channel_table.specs.Sides.{asked_with_kind}
+use Rattle.channel_table.specs.declared.side.Asked.{Asked}
 use Rattle.channel_table.specs.Places.{IsNewRow, Places}
 use Rattle.channel_table.specs.Rows.{TableStands}
 use Rattle.channel_table.specs.declared.row.Row.{Row}
 use Rattle.channel_table.specs.declared.table.accepting.Opening.{Opening}
 use Rattle.channel_table.specs.declared.table.accepting.Opening.TheVariants.{Answered, Asks, Ends}
 
--- a request that asks: what its answer is made of, its first leg, the first candidate, which asks this question, and it isn't answered at once
-record AsksQuestion (setting : Setting) (number : ℕ) (spec : Spec) (question : Question) (names : List Name) : Type 0 where
-  legs : legs_of spec 0 ≡ first_number (aim_of spec) ∷ []
-  candidates : candidates_of setting spec ≡ question.name ∷ names
-  asks : question_for spec (first_number (aim_of spec)) question.name ≡ question
+-- a request that asks: its legs, the first candidate, for which these questions ask, and it isn't answered at once
+record AsksQuestion (setting : Setting) (number : ℕ) (spec : Spec) (asked : Asked) (second : Option Asked) : Type 0 where
+  legs : legs_of spec 0 ≡ first_number (aim_of spec) ∷ option_to_list (option_map (λ (a : Asked). 1) second)
+  candidates : candidates_of setting spec ≡ asked.question.name ∷ asked.names
+  asks : question_for spec (first_number (aim_of spec)) asked.question.name ≡ asked.question
+  too : IfSome second (λ (a : Asked). (a.question.name ≡ asked.question.name) × (a.names ≡ asked.names) × (question_for spec 1 a.question.name ≡ a.question))
   not_at_once : at_once setting number spec ≡ None
 
 -- a name outside `onion` comes to the names that are asked for it
 pub opens_asked : (names : List Name) (name : Name) (kind class : ℕ) (opening : Opening) → last_is (codes "onion") name ≡ false → AreAsked names kind class opening → OpensName names name kind class opening
-opens_asked names name kind class (Asks question rest) outside asked = (outside, asked)
+opens_asked names name kind class (Asks asked second) outside are = (outside, are.0, are.1)
 opens_asked names name kind class (Ends status) outside asked = absurd asked
 opens_asked names name kind class (Answered answer) outside asked = absurd asked
 
@@ -57,52 +60,93 @@ opens_asked names name kind class (Answered answer) outside asked = absurd asked
 made_of : (question : Question) (kind class : ℕ) → question.kind ≡ kind → question.class ≡ class → ◌≡◌ {A = Question} (record { name = question.name; kind = kind; class = class }) question
 made_of question kind class of_kind of_class = λ k. record { name = question.name; kind = sym of_kind k; class = sym of_class k }
 
-asks_question : (setting : Setting) (number : ℕ) (spec : Spec) (question : Question) (names : List Name) → Opens setting number spec (Asks question names) → AsksQuestion setting number spec question names
-asks_question setting number (Query text kind class) question names opens = by_read (name_text text) refl opens
-  where
-    by_read : (read : Option (Name × Bool)) → name_text text ≡ read → OpensRead itself read kind class (Asks question names) → AsksQuestion setting number (Query text kind class) question names
-    by_read None is opens = absurd cc
-    by_read (Some read) is opens = record {
-      legs = refl;
-      candidates = rw is opens.1.are;
-      asks = made_of question kind class opens.1.of_kind opens.1.of_class;
-      not_at_once = rw (is, opens.0) refl;
+-- a text that is asked for under one question, by what it was read as
+record TextAsked (names : NameText → List Name) (read : Option (Name × Bool)) (kind class : ℕ) (asked : Asked) (second : Option Asked) : Type 0 where
+  name : Name × Bool
+  is : read ≡ Some name
+  outside : last_is (codes "onion") name.0 ≡ false
+  are : names (record { name = name.0; absolute = name.1 }) ≡ asked.question.name ∷ asked.names
+  question : ◌≡◌ {A = Question} (record { name = asked.question.name; kind = kind; class = class }) asked.question
+  alone : second ≡ None
+
+text_asked : (names : NameText → List Name) (read : Option (Name × Bool)) (kind class : ℕ) (asked : Asked) (second : Option Asked) → OpensRead names read kind class (Asks asked second) → TextAsked names read kind class asked second
+text_asked names None kind class asked second opens = absurd cc
+text_asked names (Some read) kind class asked second opens = record {
+  name = read;
+  is = refl;
+  outside = opens.0;
+  are = opens.1.are;
+  question = made_of asked.question kind class opens.1.of_kind opens.1.of_class;
+  alone = opens.2;
+}
+
+none_too : (second : Option Asked) → second ≡ None → (P : Asked → Type 0) → IfSome second P
+none_too second none P = subst (λ (o : Option Asked). IfSome o P) (sym none) tt
+
+one_leg : (second : Option Asked) (k : ℕ) → second ≡ None → ◌≡◌ {A = List ℕ} (k ∷ []) (k ∷ option_to_list (option_map (λ (a : Asked). 1) second))
+one_leg second k none = ap (λ (o : Option Asked). k ∷ option_to_list (option_map (λ (a : Asked). 1) o)) (sym none)
+
+asks_question : (setting : Setting) (number : ℕ) (spec : Spec) (asked : Asked) (second : Option Asked) → Opens setting number spec (Asks asked second) → AsksQuestion setting number spec asked second
+asks_question setting number (Query text kind class) asked second opens =
+    let t = text_asked itself (name_text text) kind class asked second opens in
+    record {
+      legs = one_leg second 0 t.alone;
+      candidates = rw t.is t.are;
+      asks = t.question;
+      too = none_too second t.alone _;
+      not_at_once = rw (t.is, t.outside) refl;
     }
-asks_question setting number (Search text kind class) question names opens = by_read (name_text text) refl opens
-  where
-    by_read : (read : Option (Name × Bool)) → name_text text ≡ read → OpensRead (searched setting.options) read kind class (Asks question names) → AsksQuestion setting number (Search text kind class) question names
-    by_read None is opens = absurd cc
-    by_read (Some read) is opens = record {
-      legs = refl;
-      candidates = rw is opens.1.are;
-      asks = made_of question kind class opens.1.of_kind opens.1.of_class;
-      not_at_once = rw (is, opens.0) refl;
+asks_question setting number (Search text kind class) asked second opens =
+    let t = text_asked (searched setting.options) (name_text text) kind class asked second opens in
+    record {
+      legs = one_leg second 0 t.alone;
+      candidates = rw t.is t.are;
+      asks = t.question;
+      too = none_too second t.alone _;
+      not_at_once = rw (t.is, t.outside) refl;
     }
-asks_question setting number (Address host Family.Any nosort) question names opens = absurd opens.1
-asks_question setting number (Address host Family.V4 nosort) question names opens = by_read (name_text host) refl opens.1
+asks_question setting number (Address host Family.Any nosort) asked second opens = by_one opens.1.0 opens.1.1 opens.1.2
   where
-    by_read : (read : Option (Name × Bool)) → name_text host ≡ read → OpensRead (searched setting.options) read kind_a class_in (Asks question names) → AsksQuestion setting number (Address host Family.V4 nosort) question names
-    by_read None is asked = absurd cc
-    by_read (Some read) is asked = record {
-      legs = refl;
-      candidates = rw is asked.1.are;
-      asks = made_of question kind_a class_in asked.1.of_kind asked.1.of_class;
+    by_asked : (one : Asked) (more : Option Asked) → OpensText (searched setting.options) host kind_a class_in (Asks one more) → asked ≡ one → second ≡ Some (asked_with_kind kind_aaaa one) → AsksQuestion setting number (Address host Family.Any nosort) asked second
+    by_asked one more text same both =
+        let t = text_asked (searched setting.options) (name_text host) kind_a class_in one more text in
+        rw (same, both) (record {
+          legs = refl;
+          candidates = rw t.is t.are;
+          asks = t.question;
+          too = (refl, refl, ap (λ (q : Question). record q { kind = kind_aaaa }) t.question);
+          not_at_once = opens.0;
+        })
+
+    by_one : (one : Opening) → OpensText (searched setting.options) host kind_a class_in one → Asks asked second ≡ with_second one → AsksQuestion setting number (Address host Family.Any nosort) asked second
+    by_one (Asks one more) text is =
+        let same : asked ≡ one = cc in
+        let both : second ≡ Some (asked_with_kind kind_aaaa one) = cc in
+        by_asked one more text same both
+    by_one (Ends status) text is = absurd cc
+    by_one (Answered answer) text is = absurd cc
+asks_question setting number (Address host Family.V4 nosort) asked second opens =
+    let t = text_asked (searched setting.options) (name_text host) kind_a class_in asked second opens.1 in
+    record {
+      legs = one_leg second 0 t.alone;
+      candidates = rw t.is t.are;
+      asks = t.question;
+      too = none_too second t.alone _;
       not_at_once = opens.0;
     }
-asks_question setting number (Address host Family.V6 nosort) question names opens = by_read (name_text host) refl opens.1
-  where
-    by_read : (read : Option (Name × Bool)) → name_text host ≡ read → OpensRead (searched setting.options) read kind_aaaa class_in (Asks question names) → AsksQuestion setting number (Address host Family.V6 nosort) question names
-    by_read None is asked = absurd cc
-    by_read (Some read) is asked = record {
-      legs = refl;
-      candidates = rw is asked.1.are;
-      asks = made_of question kind_aaaa class_in asked.1.of_kind asked.1.of_class;
+asks_question setting number (Address host Family.V6 nosort) asked second opens =
+    let t = text_asked (searched setting.options) (name_text host) kind_aaaa class_in asked second opens.1 in
+    record {
+      legs = one_leg second 1 t.alone;
+      candidates = rw t.is t.are;
+      asks = t.question;
+      too = none_too second t.alone _;
       not_at_once = opens.0;
     }
-asks_question setting number (Reverse address) question names opens =
-    let same : question ≡ record { name = reverse_labels address; kind = kind_ptr; class = class_in } = cc in
-    let alone : names ≡ [] = cc in
-    record { legs = refl; candidates = rw (same, alone) refl; asks = rw same refl; not_at_once = refl }
+asks_question setting number (Reverse address) asked second opens =
+    let same : asked ≡ record { question = record { name = reverse_labels address; kind = kind_ptr; class = class_in }; names = [] } = cc in
+    let alone : second ≡ None = cc in
+    rw (same, alone) (record { legs = refl; candidates = refl; asks = refl; too = tt; not_at_once = refl })
 
 -- a name that can't be asked for is answered at once: where none is, its text is a name, and not under `onion`
 asked_by_name : (setting : Setting) (number : ℕ) (rules : NameText → Option Answer) (kind class : ℕ) (status : Status) (read : Option (Name × Bool)) → OpensRead (searched setting.options) read kind class (Ends status)
@@ -119,7 +163,14 @@ no_literal None p none = none
 no_literal (Some answer) p none = absurd cc
 
 no_end_of_host : (setting : Setting) (number : ℕ) (host : List ℕ) (family : Family) (nosort : Bool) (status : Status) → at_once setting number (Address host family nosort) ≡ None → OpensHost setting.options host family (Ends status) → ⊥
-no_end_of_host setting number host Family.Any nosort status none opens = opens
+no_end_of_host setting number host Family.Any nosort status none opens = by_one opens.0 opens.1 opens.2
+  where
+    by_one : (one : Opening) → OpensText (searched setting.options) host kind_a class_in one → Ends status ≡ with_second one → ⊥
+    by_one (Asks asked second) text is = absurd cc
+    by_one (Ends other) text is =
+        asked_by_name setting number (known_host setting number Family.Any nosort) kind_a class_in other (name_text host) text
+        (no_literal (option_map (literal number Family.Any) (address_of host)) (unless_asked number (known_host setting number Family.Any nosort) (name_of_text host)) none)
+    by_one (Answered answer) text is = absurd cc
 no_end_of_host setting number host Family.V4 nosort status none opens =
     asked_by_name setting number (known_host setting number Family.V4 nosort) kind_a class_in status (name_text host) opens
     (no_literal (option_map (literal number Family.V4) (address_of host)) (unless_asked number (known_host setting number Family.V4 nosort) (name_of_text host)) none)
@@ -211,12 +262,13 @@ known_number setting number (Reverse address) answer opens = absurd cc
 
 module _ {T : Type 0} (plan : T → Script) (setting : Setting) (past : Past) (spec : Spec) (token : T) (number : ℕ) (limits : AreWithinLimits setting.options) (lawful : IsLawfulPast setting past) (next : number ≡ length (accepted past) + 1) (rows : List (Row T)) (tickets : List (Ticket T)) where
   -- the request that asks has a row
-  pub asked : (question : Question) (names : List Name) (row : Row T) → Opens setting number spec (Asks question names) → IsNewRow setting.options.flags number (aim_of spec) token question names row
+  pub asked : (first : Asked) (second : Option Asked) (row : Row T) → Opens setting number spec (Asks first second) → IsNewRow setting.options.flags number (aim_of spec) token first second row
       → TableStands plan setting past rows tickets → TableStands plan setting (Accept number spec (plan token) ∷ past) (rows ++ row ∷ []) tickets
-  asked question names row opens is table =
-      let asks = asks_question setting number spec question names opens in
+  asked first second row opens is table =
+      let asks = asks_question setting number spec first second opens in
       table_asked plan setting past spec (plan token) number lawful next rows tickets row is.numbered asks.not_at_once
-      (row_stands plan setting past spec (plan token) number lawful next (aim_of spec) question names row refl asks.legs asks.candidates (few_candidates setting limits spec) asks.asks asks.not_at_once (subst (λ (t : T). IsNewRow setting.options.flags number (aim_of spec) t question names row) (sym is.for') is) (ap plan is.for')) (rw is.fresh refl) table
+      (row_stands plan setting past spec (plan token) number lawful next (aim_of spec) first second row refl asks.legs asks.candidates (few_candidates setting limits spec) asks.asks asks.too asks.not_at_once
+      (subst (λ (t : T). IsNewRow setting.options.flags number (aim_of spec) t first second row) (sym is.for') is) (ap plan is.for')) (new_flown setting.options.flags number (aim_of spec) token first second row is) table
 
   -- the request that ends at once has a ticket
   pub answered : (status : Status) (ticket : Ticket T) → Opens setting number spec (Ends status) → ticket ≡ record { token = token; call = bare number status [] }
@@ -233,6 +285,6 @@ module _ {T : Type 0} (plan : T → Script) (setting : Setting) (past : Past) (s
   -- the table with the new request
   pub placed : (opening : Opening) (new_rows : List (Row T)) (new_tickets : List (Ticket T)) → Opens setting number spec opening → Places setting.options.flags number (aim_of spec) token rows new_rows tickets new_tickets opening
       → TableStands plan setting past rows tickets → TableStands plan setting (Accept number spec (plan token) ∷ past) new_rows new_tickets
-  placed (Asks question names) new_rows new_tickets opens places table = rw (places.2, places.3) (asked question names places.0 opens places.1 table)
+  placed (Asks first second) new_rows new_tickets opens places table = rw (places.2, places.3) (asked first second places.0 opens places.1 table)
   placed (Ends status) new_rows new_tickets opens places table = rw (places.0, places.1) (answered status _ opens refl table)
   placed (Answered answer) new_rows new_tickets opens places table = rw (places.0, places.1) (known answer _ (answered_so setting number spec answer opens) (known_number setting number spec answer opens) refl table)

@@ -1,36 +1,35 @@
 -- How a table follows the end of one row's attempt.
-use Rattle.std.proofs.Common.{◌≡◌, ◌∙◌, ℕ, ◌+◌, ◌≤◌, Bool, true, false, List, [], ◌∷◌, ◌++◌, Some, None, refl, ap, subst, map, cond, arith, take, drop, eq-eqb, Option}
+use Rattle.std.proofs.Common.{◌≡◌, ◌∙◌, ℕ, ◌+◌, ◌≤◌, Bool, true, false, List, [], ◌∷◌, ◌++◌, None, refl, ap, subst, map, cond, arith, take, drop, eq-eqb, Option}
 use Rattle.std.proofs.lemmas.List.{map-append}
 use Rattle.std.specs.List.{AllByRecursion}
-use Rattle.std.specs.Prelude.{◌&&◌, ◌==◌}
+use Rattle.std.specs.Prelude.{IfSome, if◌then◌else◌, ◌&&◌, ◌==◌}
 use Rattle.chan_types.specs.declared.answer.Answer.{Answer}
 use Rattle.chan_types.specs.declared.journal.What.{What}
 use Rattle.chan_types.specs.declared.script.Script.{Script}
 use Rattle.chan_types.specs.declared.ticket.Ticket.{Ticket}
 use Rattle.channel_model.proofs.Theorems.{pending_once, occurrences-append}
 use Rattle.channel_model.specs.Completion.{completed_by, occurrences, pending, taken_by}
-use Rattle.channel_model.specs.Flight.{begun_by, closes}
+use Rattle.channel_model.specs.Flight.{begun_by}
 use Rattle.channel_model.specs.Journal.{Past, accepted_by}
 use Rattle.channel_model.specs.Lawful.{IsLawfulPast}
 use Rattle.channel_model.specs.Legs.{is_leg, leg_of}
-use Rattle.channel_model.specs.Past.{bytes_of, closings, outcome_of}
 use Rattle.channel_model.specs.Search.{search_answer}
 use Rattle.channel_model.specs.Servers.{attempts}
 use Rattle.channel_model.specs.Setting.{Setting}
 use Rattle.channel_model.specs.declared.judged.Judged.{Judged}
 use Rattle.channel_table.proofs.OneRow.{each-split, one_ends, one_stays}
 use Rattle.channel_table.proofs.Outcomes.{Follows}
-use Rattle.channel_table.proofs.RowEnds.{outcome_after, row_after}
+use Rattle.channel_table.proofs.RowEnds.{Meets, outcome_after, row_after}
 use Rattle.channel_table.proofs.RowFrames.{IsSpared}
 use Rattle.channel_table.proofs.TableSteps.{Stands}
 use Rattle.channel_table.specs.After.{after, answer_behind}
 use Rattle.channel_table.specs.Ends.{Becomes, EndsRow}
-use Rattle.channel_table.specs.Rows.{RowStands, TableStands, flown, flying_of, leg_of_row, number_of, ticket_number}
-use Rattle.query_machine.specs.declared.leg.Flying.{Flying}
-use Rattle.channel_table.specs.Legs.{attempt_of}
+use Rattle.channel_table.specs.Rows.{RowStands, TableStands, flown, number_of, ticket_number}
+use Rattle.channel_table.specs.Sides.{hits}
 use Rattle.channel_table.specs.declared.row.After.{After}
 use Rattle.channel_table.specs.declared.row.After.TheVariants.{Ends, Stays}
 use Rattle.channel_table.specs.declared.row.Row.{Row}
+use Rattle.channel_table.specs.declared.side.Hits.{Hits}
 
 -- a row of another request
 abbrev pub IsOther : {T : Type 0} → ℕ → Row T → Type 0
@@ -60,8 +59,8 @@ module _ {T : Type 0} where
       let own : occurrences row.number (row.number ∷ map number_of behind) ≡ occurrences row.number (map number_of behind) + 1 = rw (eq-eqb row.number row.number refl) refl in
       (other_rows row.number before (omega (arith, few, parts, own)), other_rows row.number behind (omega (arith, few, parts, own)))
 
-module _ {T : Type 0} (plan : T → Script) (setting : Setting) (what : What) (past : Past) (judged : Judged) (reply : List ℕ) (answer : Option Answer) (most index : ℕ)
-    (rows new_rows : List (Row T)) (tickets new_tickets : List (Ticket T)) (ends : EndsRow setting.options.flags judged answer most index rows tickets new_rows new_tickets) (table : TableStands plan setting past rows tickets)
+module _ {T : Type 0} (plan : T → Script) (setting : Setting) (what : What) (past : Past) (concerned : Hits) (judged : Judged) (reply : List ℕ) (most : ℕ) (answer : Option Answer) (index : ℕ)
+    (rows new_rows : List (Row T)) (tickets new_tickets : List (Ticket T)) (ends : EndsRow setting.options.flags concerned judged reply most answer index rows tickets new_rows new_tickets) (table : TableStands plan setting past rows tickets)
     (accepts : accepted_by what ≡ None) (begins : begun_by what ≡ None) (takes : taken_by what ≡ None)
     (spared_before : AllByRecursion (IsSpared plan setting what past) (take index rows)) (spared_behind : AllByRecursion (IsSpared plan setting what past) (drop (index + 1) rows)) where
   split : TableStands plan setting past (take index rows ++ ends.row ∷ drop (index + 1) rows) tickets
@@ -74,11 +73,11 @@ module _ {T : Type 0} (plan : T → Script) (setting : Setting) (what : What) (p
   by_after (Ends ticket) follows becomes =
       rw (becomes.0, becomes.1) (one_ends plan setting what past (take index rows) (drop (index + 1) rows) ends.row tickets split spared_before spared_behind accepts begins takes ticket follows.0 follows.1)
 
-  -- the table follows the entry that closes the attempt of the row, and concerns no other
-  pub table_row_ended : (flying : Flying) → flying_of ends.row ≡ Some flying → closes setting (attempt_of (leg_of_row ends.row) flying) what past ≡ true
-      → completed_by setting ends.row.number what past ≡ search_answer setting ends.row.number (what ∷ past)
-      → outcome_of setting (attempt_of (leg_of_row ends.row) flying) what past (closings setting (leg_of_row ends.row) past) ≡ Some judged → bytes_of what ≡ reply → attempts setting past ≡ most → most ≤ 80 → answer ≡ answer_behind setting.options judged reply most ends.row
+  -- the table follows the entry that closes attempts of the row, and concerns no other
+  pub table_row_ended : completed_by setting ends.row.number what past ≡ search_answer setting ends.row.number (what ∷ past) → (may : attempts setting past ≡ most) → (few : most ≤ 80)
+      → Meets setting what past concerned judged false reply ends.row.first → IfSome ends.row.second (Meets setting what past concerned judged true (if hits concerned false ends.row.first then [] else reply))
+      → answer ≡ answer_behind setting.options concerned judged reply most ends.row
       → TableStands plan setting (what ∷ past) new_rows new_tickets
-  table_row_ended flying flies closed by_search means brings may few answers =
+  table_row_ended by_search may few meets more answers =
       let stands = (each-split (RowStands plan setting past) (take index rows) ends.row (drop (index + 1) rows) split.each_row).1 in
-      by_after (after setting.options.flags judged most ends.row answer) (row_after plan setting what past ends.row flying judged reply most stands flies closed begins by_search means brings may few answer answers) ends.becomes
+      by_after (after setting.options.flags concerned judged reply most ends.row answer) (row_after plan setting what past ends.row concerned judged reply most stands begins by_search may few meets more answer answers) ends.becomes

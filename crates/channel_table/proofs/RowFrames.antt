@@ -1,9 +1,9 @@
 -- Rows that an entry doesn't concern, and a table of which one row changes.
-use Rattle.std.proofs.Common.{◌≡◌, ◌∙◌, ℕ, Bool, true, false, List, [], ◌∷◌, ◌++◌, Option, Some, None, refl, ap, ap₂, sym, subst, map, cond, eq-eqb}
+use Rattle.std.proofs.Common.{◌≡◌, ◌∙◌, ℕ, Bool, true, false, List, [], ◌∷◌, ◌++◌, Option, Some, None, refl, ap, ap₂, sym, subst, map, length, cond, eq-eqb}
 use Rattle.std.proofs.lemmas.List.{append-nil, map-append}
-use Rattle.std.proofs.lemmas.List.Elements.{filter_map-append}
+use Rattle.std.proofs.lemmas.List.Elements.{filter-append, filter_map-append}
 use Rattle.std.specs.List.{AllByRecursion}
-use Rattle.std.specs.Prelude.{IfSome, IsFalse, filter, not, option_map, option_to_list}
+use Rattle.std.specs.Prelude.{IfSome, IsFalse, filter, flat_map, not, option_map, option_to_list}
 use Rattle.chan_types.specs.declared.journal.What.{What}
 use Rattle.chan_types.specs.declared.journal.What.TheVariants.{Take}
 use Rattle.chan_types.specs.declared.script.Script.{Script}
@@ -19,18 +19,23 @@ use Rattle.channel_model.specs.Search.{search_answer}
 use Rattle.channel_model.specs.Setting.{Setting}
 use Rattle.query_machine.specs.declared.leg.Leg as machine
 use Rattle.channel_table.proofs.Outcomes.{Becomes, Follows, Outcome, row_behind, row_of, stands_behind, stays, ticket_behind}
+use Rattle.channel_table.proofs.RowAnswers.{row_answers}
 use Rattle.channel_table.proofs.SearchSteps.{no_answer, passed_stay}
+use Rattle.channel_table.proofs.SideLists.{LegOf, legs_stand}
 use Rattle.channel_table.proofs.TableSteps.{Stands, tickets_later}
 use Rattle.channel_table.specs.Legs.{LegStands, flown_by}
-use Rattle.channel_table.specs.Rows.{RowStands, StandFor, TableStands, flown, flying_of, leg_of_row, number_of, ticket_number}
+use Rattle.channel_table.specs.Rows.{RowStands, SideStands, StandFor, TableStands, flown, number_of, sides, ticket_number}
+use Rattle.channel_table.specs.Sides.{flown_side, flying_of, leg_of_side}
+use Rattle.channel_table.specs.declared.side.Side.{Side}
+use Rattle.chan_types.specs.declared.spec.Spec.{Spec}
+use Rattle.dns_message.specs.declared.name.Name.{Name}
 use Rattle.channel_table.specs.declared.row.Row.{Row}
 
 -- a leg that an entry doesn't concern stands as before
-pub leg_spared : (setting : Setting) (what : What) (past : Past) (leg : Leg) (state : machine.Leg) → Spares setting what past leg → LegStands setting past leg state → LegStands setting (what ∷ past) leg state
-leg_spared setting what past leg state spared stands = record {
+pub leg_spared : (setting : Setting) (what : What) (past : Past) (leg : Leg) (state : machine.Leg) (reply : List ℕ) → Spares setting what past leg → LegStands setting past leg state reply → LegStands setting (what ∷ past) leg state reply
+leg_spared setting what past leg state reply spared stands = record {
   facts = spared-facts setting what past leg spared ∙ stands.facts;
-  open' = spared-end setting what past leg spared ∙ stands.open';
-  unended = stands.unended;
+  ends = spared-end setting what past leg spared ∙ stands.ends;
   few = stands.few;
 }
 
@@ -43,43 +48,25 @@ begun_other leg (Some a) legs spared = by_test (has_leg a.leg legs)
     by_test true = refl
     by_test false = rw spared refl
 
-module _ {T : Type 0} (plan : T → Script) (setting : Setting) (what : What) (past : Past) where
-  -- what a row's request asks
-  pub spec_of_row : (row : Row T) (stands : RowStands plan setting past row) → spec_of row.number past ≡ Some stands.spec
-  spec_of_row row stands = ap (option_map (λ (r : Accepted). r.spec)) stands.accepts
+module _ (setting : Setting) (what : What) (past : Past) where
+  -- so does a side
+  pub side_spared : (number : ℕ) (spec : Spec) (name : Name) (rest : List Name) (side : Side) → Spares setting what past (leg_of_side side) → SideStands setting past number spec name rest side → SideStands setting (what ∷ past) number spec name rest side
+  side_spared number spec name rest side spared stands = record {
+    numbered = stands.numbered;
+    current = stands.current;
+    behind = stands.behind;
+    asks = stands.asks;
+    leg = leg_spared setting what past (leg_of_side side) side.leg side.reply spared stands.leg;
+    begun = begun_other (leg_of_side side) (begun_by what) (started past) spared.begins_other ∙ stands.begun;
+  }
 
-  -- the entry begins no attempt of the request
-  abbrev pub BeginsOther : ℕ → Type 0
-  BeginsOther request = (k : ℕ) → IfSome (begun_by what) (λ a. IsFalse (is_of_leg (leg_of request k) a))
+  -- an entry doesn't concern the leg of a side
+  abbrev pub SparesSide : Side → Type 0
+  SparesSide side = Spares setting what past (leg_of_side side)
 
-  -- a row that an entry doesn't concern and doesn't complete stands as before
-  pub row_spared : (row : Row T) → Spares setting what past (leg_of_row row) → BeginsOther row.number → completed_by setting row.number what past ≡ None → RowStands plan setting past row → RowStands plan setting (what ∷ past) row
-  row_spared row spared others completes stands =
-      let stay = passed_stay setting row.number stands.spec what past 0 stands.passed stands.came in
-      record {
-        spec = stands.spec;
-        aims = stands.aims;
-        passed = stands.passed;
-        candidates = stands.candidates;
-        few = stands.few;
-        legged = stands.legged;
-        came = stay.0;
-        emptied = stay.1 ∙ stands.emptied;
-        asks = stands.asks;
-        accepts = request_of-later row.number what past _ stands.accepts;
-        undecided = rw (stands.undecided, completes) refl;
-        leg = leg_spared setting what past (leg_of_row row) row.leg spared stands.leg;
-        begun = begun_other (leg_of_row row) (begun_by what) (started past) spared.begins_other ∙ stands.begun;
-        later = λ k above. begun_other (leg_of row.number k) (begun_by what) (started past) (others k) ∙ stands.later k above;
-      }
-
-  -- where an entry completes a request as its search has ended, it doesn't complete one of whose leg it is not
-  pub spared_uncompleted : (row : Row T) → completed_by setting row.number what past ≡ search_answer setting row.number (what ∷ past) → Spares setting what past (leg_of_row row) → RowStands plan setting past row
-      → completed_by setting row.number what past ≡ None
-  spared_uncompleted row by_search spared stands =
-      let stay = passed_stay setting row.number stands.spec what past 0 stands.passed stands.came in
-      by_search ∙ no_answer setting row.number stands.spec (what ∷ past) stands.passed row.question.name row.names (spec_of-later row.number what past stands.spec (spec_of_row row stands)) stands.candidates
-      stay.0 row.leg_number stands.legged (spared-end setting what past (leg_of_row row) spared ∙ stands.leg.open')
+  pub sides_spared : (number : ℕ) (spec : Spec) (name : Name) (rest : List Name) (ss : List Side) → AllByRecursion SparesSide ss → AllByRecursion (SideStands setting past number spec name rest) ss → AllByRecursion (SideStands setting (what ∷ past) number spec name rest) ss
+  sides_spared number spec name rest [] spared each = tt
+  sides_spared number spec name rest (side ∷ ss) spared each = (side_spared number spec name rest side spared.0 each.0, sides_spared number spec name rest ss spared.1 each.1)
 
   -- what an entry leaves of an attempt, if there is one
   pub left_one : (o : Option Attempt) → filter (λ a. not (closes setting a what past)) (option_to_list o) ≡ option_to_list (unless_closed setting what past o)
@@ -90,13 +77,64 @@ module _ {T : Type 0} (plan : T → Script) (setting : Setting) (what : What) (p
       by_test true = refl
       by_test false = refl
 
-  -- the attempt of a row in flight
-  pub flight_of_row : (row : Row T) → RowStands plan setting past row → flight setting (leg_of_row row) past ≡ flown_by (leg_of_row row) (flying_of row)
-  flight_of_row row stands = ap (λ (f : LegFacts). f.flies) stands.leg.facts
+  -- the attempt of a side in flight
+  pub flight_of_side : (side : Side) → LegOf setting past side → flight setting (leg_of_side side) past ≡ flown_by (leg_of_side side) (flying_of side)
+  flight_of_side side stands = ap (λ (f : LegFacts). f.flies) stands.facts
 
-  -- the row stays, which the entry doesn't concern and doesn't complete
+  -- it is left by an entry that doesn't concern the side
+  pub side_left : (side : Side) → Spares setting what past (leg_of_side side) → LegOf setting past side → filter (λ a. not (closes setting a what past)) (flown_side side) ≡ flown_side side
+  side_left side spared stands =
+      left_one (flown_by (leg_of_side side) (flying_of side))
+      ∙ ap option_to_list (subst (λ o. unless_closed setting what past o ≡ o) (flight_of_side side stands) (unless_closed-spared setting what past (flight setting (leg_of_side side) past) spared.closes_none))
+
+  pub sides_left : (ss : List Side) → AllByRecursion SparesSide ss → AllByRecursion (LegOf setting past) ss → filter (λ a. not (closes setting a what past)) (flat_map flown_side ss) ≡ flat_map flown_side ss
+  sides_left [] spared each = refl
+  sides_left (side ∷ ss) spared each =
+      filter-append (λ a. not (closes setting a what past)) (flown_side side) (flat_map flown_side ss) ∙ ap₂ (λ xs ys. xs ++ ys) (side_left side spared.0 each.0) (sides_left ss spared.1 each.1)
+
+module _ {T : Type 0} (plan : T → Script) (setting : Setting) (what : What) (past : Past) where
+  -- what a row's request asks
+  pub spec_of_row : (row : Row T) (stands : RowStands plan setting past row) → spec_of row.number past ≡ Some stands.spec
+  spec_of_row row stands = ap (option_map (λ (r : Accepted). r.spec)) stands.accepts
+
+  -- the entry begins no attempt of the request
+  abbrev pub BeginsOther : ℕ → Type 0
+  BeginsOther request = (k : ℕ) → IfSome (begun_by what) (λ a. IsFalse (is_of_leg (leg_of request k) a))
+
+  -- a row that an entry doesn't concern and doesn't complete stands as before
+  pub row_spared : (row : Row T) → AllByRecursion (SparesSide setting what past) (sides row) → BeginsOther row.number → completed_by setting row.number what past ≡ None → RowStands plan setting past row → RowStands plan setting (what ∷ past) row
+  row_spared row spared others completes stands =
+      let stay = passed_stay setting row.number stands.spec what past 0 stands.passed stands.came in
+      record {
+        spec = stands.spec;
+        aims = stands.aims;
+        passed = stands.passed;
+        name = stands.name;
+        rest = stands.rest;
+        candidates = stands.candidates;
+        few = stands.few;
+        legged = stands.legged;
+        came = stay.0;
+        emptied = stay.1 ∙ stands.emptied;
+        accepts = request_of-later row.number what past _ stands.accepts;
+        undecided = rw (stands.undecided, completes) refl;
+        each_side = sides_spared setting what past row.number stands.spec stands.name stands.rest (sides row) spared stands.each_side;
+        unanswered = stands.unanswered;
+        later = λ k above. begun_other (leg_of row.number k) (begun_by what) (started past) (others k) ∙ stands.later k above;
+      }
+
+  -- where an entry completes a request as its search has ended, it doesn't complete one of whose legs it concerns none
+  pub spared_uncompleted : (row : Row T) → completed_by setting row.number what past ≡ search_answer setting row.number (what ∷ past) → AllByRecursion (SparesSide setting what past) (sides row) → RowStands plan setting past row
+      → completed_by setting row.number what past ≡ None
+  spared_uncompleted row by_search spared stands =
+      let stay = passed_stay setting row.number stands.spec what past 0 stands.passed stands.came in
+      let each = sides_spared setting what past row.number stands.spec stands.name stands.rest (sides row) spared stands.each_side in
+      by_search ∙ no_answer setting row.number stands.spec (what ∷ past) stands.passed stands.name stands.rest (spec_of-later row.number what past stands.spec (spec_of_row row stands)) stands.candidates stay.0
+      (row_answers setting (what ∷ past) stands.spec (length stands.passed) stands.name stands.rest row stands.aims stands.legged each ∙ stands.unanswered)
+
+  -- the row stays, of whose legs the entry concerns none and which it doesn't complete
   pub record IsSpared (row : Row T) : Type 0 where
-    pub spared : Spares setting what past (leg_of_row row)
+    pub spared : AllByRecursion (SparesSide setting what past) (sides row)
     pub others : BeginsOther row.number
     pub uncompleted : completed_by setting row.number what past ≡ None
 
@@ -104,11 +142,7 @@ module _ {T : Type 0} (plan : T → Script) (setting : Setting) (what : What) (p
   it_stays row = stays row row
 
   pub spared_follows : (row : Row T) → IsSpared row → RowStands plan setting past row → Follows number_of ticket_number flown setting what past (it_stays row)
-  spared_follows row is stands = (
-    refl,
-    is.uncompleted,
-    sym (left_one (flown_by (leg_of_row row) (flying_of row)) ∙ ap option_to_list (subst (λ o. unless_closed setting what past o ≡ o) (flight_of_row row stands) (unless_closed-spared setting what past (flight setting (leg_of_row row) past) is.spared.closes_none))),
-  )
+  spared_follows row is stands = (refl, is.uncompleted, sym (sides_left setting what past (sides row) is.spared (legs_stand plan setting past row stands)))
 
   -- all of these rows stay
   pub keep_all : List (Row T) → List (Outcome (Row T) (Ticket T))
@@ -147,7 +181,11 @@ becomes-append os ps old new old' new' tickets tickets' b c = record {
 module _ {T : Type 0} (plan : T → Script) (setting : Setting) (past : Past) where
   take_spared : (number : ℕ) (rows : List (Row T)) → AllByRecursion (IsSpared plan setting (Take number) past) rows
   take_spared number [] = tt
-  take_spared number (row ∷ rows) = (record { spared = take_spares setting past (leg_of_row row) number; others = λ k. tt; uncompleted = refl }, take_spared number rows)
+  take_spared number (row ∷ rows) = (record { spared = each_taken (sides row); others = λ k. tt; uncompleted = refl }, take_spared number rows)
+    where
+      each_taken : (ss : List Side) → AllByRecursion (SparesSide setting (Take number) past) ss
+      each_taken [] = tt
+      each_taken (side ∷ ss) = (take_spares setting past (leg_of_side side) number, each_taken ss)
 
   -- a Take takes its ticket away, and leaves the rows
   pub table_taken : (rows : List (Row T)) (ticket : Ticket T) (rest : List (Ticket T)) → TableStands plan setting past rows (ticket ∷ rest) → TableStands plan setting (Take ticket.call.number ∷ past) rows rest

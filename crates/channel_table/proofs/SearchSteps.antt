@@ -1,7 +1,7 @@
 -- How far a search has come behind one entry more, and with which answer it is over.
-use Rattle.std.proofs.Common.{◌≡◌, ◌∙◌, ℕ, suc, ◌+◌, ◌*◌, ◌/◌, ◌%◌, ◌≤◌, Bool, true, false, List, [], ◌∷◌, ◌++◌, Option, Some, None, refl, ap, ap₂, sym, map, cond, arith, length}
+use Rattle.std.proofs.Common.{◌≡◌, ◌∙◌, ℕ, suc, ◌+◌, ◌*◌, ◌%◌, ◌≤◌, Bool, true, false, List, [], ◌∷◌, ◌++◌, Option, Some, None, refl, ap, ap₂, sym, subst, map, cond, arith, length}
 use Rattle.std.proofs.lemmas.Bool.{and_parts}
-use Rattle.std.specs.Prelude.{option_and_then, option_map, slice_get, unwrap_or, ◌==◌, ◌&&◌, ◌||◌}
+use Rattle.std.specs.Prelude.{IfSome, option_to_list, option_and_then, option_map, slice_get, unwrap_or, ◌==◌, ◌&&◌, ◌||◌}
 use Rattle.chan_types.specs.declared.answer.Answer.{Answer}
 use Rattle.chan_types.specs.declared.journal.What.{What}
 use Rattle.chan_types.specs.declared.spec.Spec.{Spec}
@@ -55,37 +55,63 @@ ended_stays setting what past leg end is = by_flight (flight setting leg past)
     by_flight None = is
     by_flight (Some a) = by_test a (closes setting a what past)
 
--- the number of a leg of the next candidate
+one_number : (x k : ℕ) (j : Option ℕ) → ◌≡◌ {A = List ℕ} (x ∷ []) (k ∷ option_to_list j) → (x ≡ k) × (j ≡ None)
+one_number x k None same = (cc, refl)
+one_number x k (Some n) same = absurd cc
+
+two_numbers : (x y k : ℕ) (j : Option ℕ) → ◌≡◌ {A = List ℕ} (x ∷ y ∷ []) (k ∷ option_to_list j) → (x ≡ k) × (j ≡ Some y)
+two_numbers x y k None same = absurd cc
+two_numbers x y k (Some n) same = (cc, let are : y ≡ n = cc in ap Some (sym are))
+
 doubled : (c n k m : ℕ) → n ≡ c + 1 → m ≡ k + 2 → 2 * c ≡ k → 2 * n ≡ m
 doubled c n k m next more same = omega (arith, next, more, same)
 
 doubled_on : (c n k m : ℕ) → n ≡ c + 1 → m ≡ k + 2 → 2 * c + 1 ≡ k → 2 * n + 1 ≡ m
 doubled_on c n k m next more same = omega (arith, next, more, same)
 
-one_number : (x k : ℕ) → ◌≡◌ {A = List ℕ} (x ∷ []) (k ∷ []) → x ≡ k
-one_number x k same = cc
+doubled_both : (c n : ℕ) → n ≡ c + 1 → 2 * n + 1 ≡ (2 * c + 1) + 2
+doubled_both c n next = omega (arith, next)
 
--- where a candidate has one leg, so has the next one
-pub next_leg : (spec : Spec) (c n k m : ℕ) → n ≡ c + 1 → m ≡ k + 2 → legs_of spec c ≡ k ∷ [] → legs_of spec n ≡ m ∷ []
-next_leg (Query text kind class) c n k m next more legs = ap (λ x. x ∷ []) (doubled c n k m next more (one_number (2 * c) k legs))
-next_leg (Search text kind class) c n k m next more legs = ap (λ x. x ∷ []) (doubled c n k m next more (one_number (2 * c) k legs))
-next_leg (Address host Family.Any nosort) c n k m next more legs = absurd cc
-next_leg (Address host Family.V4 nosort) c n k m next more legs = ap (λ x. x ∷ []) (doubled c n k m next more (one_number (2 * c) k legs))
-next_leg (Address host Family.V6 nosort) c n k m next more legs = ap (λ x. x ∷ []) (doubled_on c n k m next more (one_number (2 * c + 1) k legs))
-next_leg (Reverse address) c n k m next more legs = ap (λ x. x ∷ []) (doubled c n k m next more (one_number (2 * c) k legs))
+-- the numbers of the legs of the next candidate are two more
+pub next_legs : (spec : Spec) (c n k m : ℕ) (j i : Option ℕ) → n ≡ c + 1 → m ≡ k + 2 → i ≡ option_map (λ x. x + 2) j → legs_of spec c ≡ k ∷ option_to_list j → legs_of spec n ≡ m ∷ option_to_list i
+next_legs spec c n k m j i next more are legs = by_spec spec legs
+  where
+    one : (x y : ℕ) → x ≡ m → j ≡ None → y ≡ x → ◌≡◌ {A = List ℕ} (y ∷ []) (m ∷ option_to_list i)
+    one x y same none is = ap₂ (λ z (o : Option ℕ). z ∷ option_to_list o) (is ∙ same) (sym (are ∙ ap (option_map (λ x. x + 2)) none))
 
--- its number is one of two
-pub leg_within : (spec : Spec) (c k : ℕ) → legs_of spec c ≡ k ∷ [] → (2 * c ≤ k) × (k ≤ 2 * c + 1)
-leg_within (Query text kind class) c k legs = let same = one_number (2 * c) k legs in (omega (arith, same), omega (arith, same))
-leg_within (Search text kind class) c k legs = let same = one_number (2 * c) k legs in (omega (arith, same), omega (arith, same))
-leg_within (Address host Family.Any nosort) c k legs = absurd cc
-leg_within (Address host Family.V4 nosort) c k legs = let same = one_number (2 * c) k legs in (omega (arith, same), omega (arith, same))
-leg_within (Address host Family.V6 nosort) c k legs = let same = one_number (2 * c + 1) k legs in (omega (arith, same), omega (arith, same))
-leg_within (Reverse address) c k legs = let same = one_number (2 * c) k legs in (omega (arith, same), omega (arith, same))
+    by_spec : (s : Spec) → legs_of s c ≡ k ∷ option_to_list j → legs_of s n ≡ m ∷ option_to_list i
+    by_spec (Query text kind class) legs = let same = one_number (2 * c) k j legs in one (2 * n) (2 * n) (doubled c n k m next more same.0) same.1 refl
+    by_spec (Search text kind class) legs = let same = one_number (2 * c) k j legs in one (2 * n) (2 * n) (doubled c n k m next more same.0) same.1 refl
+    by_spec (Address host Family.Any nosort) legs =
+        let same = two_numbers (2 * c) (2 * c + 1) k j legs in
+        ap₂ (λ x (o : Option ℕ). x ∷ option_to_list o) (doubled c n k m next more same.0) (ap Some (doubled_both c n next) ∙ sym (are ∙ ap (option_map (λ x. x + 2)) same.1))
+    by_spec (Address host Family.V4 nosort) legs = let same = one_number (2 * c) k j legs in one (2 * n) (2 * n) (doubled c n k m next more same.0) same.1 refl
+    by_spec (Address host Family.V6 nosort) legs = let same = one_number (2 * c + 1) k j legs in one (2 * n + 1) (2 * n + 1) (doubled_on c n k m next more same.0) same.1 refl
+    by_spec (Reverse address) legs = let same = one_number (2 * c) k j legs in one (2 * n) (2 * n) (doubled c n k m next more same.0) same.1 refl
+
+-- the numbers of a candidate's legs are two at most
+pub legs_within : (spec : Spec) (c k : ℕ) (j : Option ℕ) → legs_of spec c ≡ k ∷ option_to_list j → (2 * c ≤ k) × (k ≤ 2 * c + 1) × IfSome j (λ n. (n ≡ 2 * c + 1) × (k ≡ 2 * c))
+legs_within spec c k j legs = by_spec spec legs
+  where
+    one : (x : ℕ) → x ≡ k → j ≡ None → 2 * c ≤ x → x ≤ 2 * c + 1 → (2 * c ≤ k) × (k ≤ 2 * c + 1) × IfSome j (λ n. (n ≡ 2 * c + 1) × (k ≡ 2 * c))
+    one x same none least most = (omega (arith, same, least), omega (arith, same, most), subst (λ (o : Option ℕ). IfSome o (λ n. (n ≡ 2 * c + 1) × (k ≡ 2 * c))) (sym none) tt)
+
+    by_spec : (s : Spec) → legs_of s c ≡ k ∷ option_to_list j → (2 * c ≤ k) × (k ≤ 2 * c + 1) × IfSome j (λ n. (n ≡ 2 * c + 1) × (k ≡ 2 * c))
+    by_spec (Query text kind class) legs = let same = one_number (2 * c) k j legs in one (2 * c) same.0 same.1 (omega arith) (omega arith)
+    by_spec (Search text kind class) legs = let same = one_number (2 * c) k j legs in one (2 * c) same.0 same.1 (omega arith) (omega arith)
+    by_spec (Address host Family.Any nosort) legs =
+        let same = two_numbers (2 * c) (2 * c + 1) k j legs in (
+          omega (arith, same.0),
+          omega (arith, same.0),
+          subst (λ (o : Option ℕ). IfSome o (λ n. (n ≡ 2 * c + 1) × (k ≡ 2 * c))) (sym same.1) (refl, sym same.0),
+        )
+    by_spec (Address host Family.V4 nosort) legs = let same = one_number (2 * c) k j legs in one (2 * c) same.0 same.1 (omega arith) (omega arith)
+    by_spec (Address host Family.V6 nosort) legs = let same = one_number (2 * c + 1) k j legs in one (2 * c + 1) same.0 same.1 (omega arith) (omega arith)
+    by_spec (Reverse address) legs = let same = one_number (2 * c) k j legs in one (2 * c) same.0 same.1 (omega arith) (omega arith)
 
 -- a leg belongs to its candidate
-pub candidate_is : (spec : Spec) (k n : ℕ) → legs_of spec n ≡ k ∷ [] → candidate_of k ≡ n
-candidate_is spec k n legs = let within = leg_within spec n k legs in omega (arith, within.0, within.1)
+pub candidate_is : (k n : ℕ) → 2 * n ≤ k → k ≤ 2 * n + 1 → candidate_of k ≡ n
+candidate_is k n least most = omega (arith, least, most)
 
 same_half : (k m : ℕ) → m ≡ k + 2 → m % 2 ≡ k % 2
 same_half k m more = omega (arith, more)
@@ -111,27 +137,33 @@ pub item_behind : {X : Type 0} (xs : List X) (y : X) (zs : List X) → slice_get
 item_behind [] y zs = refl
 item_behind (x ∷ xs) y zs = item_behind xs y zs
 
--- the answer of a candidate of which no leg has ended
-pub no_end : (options : Options) (request : ℕ) (aim : Aim) (name : Name) → answer_of_ends options request aim name None None ≡ None
-no_end options request Reply name = refl
-no_end options request (Addresses Family.Any nosort) name = refl
-no_end options request (Addresses Family.V4 nosort) name = refl
-no_end options request (Addresses Family.V6 nosort) name = refl
+-- the answer of a candidate whose first leg hasn't ended
+pub no_end : (options : Options) (request : ℕ) (aim : Aim) (name : Name) (right : Option LegEnd) → answer_of_ends options request aim name None right ≡ None
+no_end options request Reply name right = refl
+no_end options request (Addresses Family.Any nosort) name right = refl
+no_end options request (Addresses Family.V4 nosort) name right = refl
+no_end options request (Addresses Family.V6 nosort) name right = refl
 
--- the answer of a candidate with one leg, by how that ended
-pub leg_answers : (setting : Setting) (request : ℕ) (past : Past) (spec : Spec) (c k : ℕ) (name : Name) → legs_of spec c ≡ k ∷ []
-    → candidate_answer setting request spec c name past ≡ answer_of_ends setting.options request (aim_of spec) name (leg_end setting (leg_of request k) past) None
-leg_answers setting request past (Query text kind class) c k name legs =
-    ap (λ n. option_map (λ (e : LegEnd). bare request e.status e.reply) (leg_end setting (leg_of request n) past)) (one_number (2 * c) k legs)
-leg_answers setting request past (Search text kind class) c k name legs =
-    ap (λ n. option_map (λ (e : LegEnd). bare request e.status e.reply) (leg_end setting (leg_of request n) past)) (one_number (2 * c) k legs)
-leg_answers setting request past (Address host Family.Any nosort) c k name legs = absurd cc
-leg_answers setting request past (Address host Family.V4 nosort) c k name legs =
-    ap (λ n. option_map (merged_one setting request nosort name addresses_v4) (leg_end setting (leg_of request n) past)) (one_number (2 * c) k legs)
-leg_answers setting request past (Address host Family.V6 nosort) c k name legs =
-    ap (λ n. option_map (merged_one setting request nosort name addresses_v6) (leg_end setting (leg_of request n) past)) (one_number (2 * c + 1) k legs)
-leg_answers setting request past (Reverse address) c k name legs =
-    ap (λ n. option_map (λ (e : LegEnd). bare request e.status e.reply) (leg_end setting (leg_of request n) past)) (one_number (2 * c) k legs)
+-- how the leg of this number has ended, if there is that leg
+abbrev pub end_if : Setting → ℕ → Past → Option ℕ → Option LegEnd
+end_if setting request past j = option_and_then (λ n. leg_end setting (leg_of request n) past) j
+
+-- the answer of a candidate, by how its legs ended
+pub leg_answers : (setting : Setting) (request : ℕ) (past : Past) (spec : Spec) (c k : ℕ) (j : Option ℕ) (name : Name) → legs_of spec c ≡ k ∷ option_to_list j
+    → candidate_answer setting request spec c name past ≡ answer_of_ends setting.options request (aim_of spec) name (leg_end setting (leg_of request k) past) (end_if setting request past j)
+leg_answers setting request past (Query text kind class) c k j name legs =
+    ap (λ n. option_map (λ (e : LegEnd). bare request e.status e.reply) (leg_end setting (leg_of request n) past)) (one_number (2 * c) k j legs).0
+leg_answers setting request past (Search text kind class) c k j name legs =
+    ap (λ n. option_map (λ (e : LegEnd). bare request e.status e.reply) (leg_end setting (leg_of request n) past)) (one_number (2 * c) k j legs).0
+leg_answers setting request past (Address host Family.Any nosort) c k j name legs =
+    let same = two_numbers (2 * c) (2 * c + 1) k j legs in
+    ap₂ (λ n (o : Option ℕ). option_and_then (λ (e : LegEnd). option_map (merged setting request nosort name e) (end_if setting request past o)) (leg_end setting (leg_of request n) past)) same.0 (sym same.1)
+leg_answers setting request past (Address host Family.V4 nosort) c k j name legs =
+    ap (λ n. option_map (merged_one setting request nosort name addresses_v4) (leg_end setting (leg_of request n) past)) (one_number (2 * c) k j legs).0
+leg_answers setting request past (Address host Family.V6 nosort) c k j name legs =
+    ap (λ n. option_map (merged_one setting request nosort name addresses_v6) (leg_end setting (leg_of request n) past)) (one_number (2 * c + 1) k j legs).0
+leg_answers setting request past (Reverse address) c k j name legs =
+    ap (λ n. option_map (λ (e : LegEnd). bare request e.status e.reply) (leg_end setting (leg_of request n) past)) (one_number (2 * c) k j legs).0
 
 module _ (setting : Setting) (request : ℕ) (spec : Spec) (what : What) (past : Past) where
   one_stays : (f : LegEnd → Answer) (leg : Leg) (o : Option LegEnd) → leg_end setting leg past ≡ o → gives_way (option_map f o) ≡ true
@@ -201,31 +233,27 @@ module _ (setting : Setting) (request : ℕ) (spec : Spec) (past : Past) where
       ∙ or_assoc (is_empty (candidate_answer setting request spec c x past)) (any_empty setting request spec past (c + 1) xs) (any_empty setting request spec past k rest)
 
   module _ (passed : List Name) (name : Name) (names : List Name) (asks : spec_of request past ≡ Some spec) (candidates : candidates_of setting spec ≡ passed ++ name ∷ names)
-      (came : are_passed setting request spec past 0 passed ≡ true) (k : ℕ) (legged : legs_of spec (length passed) ≡ k ∷ []) where
+      (came : are_passed setting request spec past 0 passed ≡ true) where
     here : stand_of setting request spec past ≡ stand_at setting request spec past (length passed) (name ∷ names)
     here = ap (stand_at setting request spec past 0) candidates ∙ stand_behind 0 passed name names came ∙ ap (λ n. stand_at setting request spec past n (name ∷ names)) (none_plus (length passed))
 
-    -- the answer of the current candidate, by how its leg ended
-    pub answers_so : (end : Option LegEnd) → leg_end setting (leg_of request k) past ≡ end → candidate_answer setting request spec (length passed) name past ≡ answer_of_ends setting.options request (aim_of spec) name end None
-    answers_so end is = leg_answers setting request past spec (length passed) k name legged ∙ ap (λ e. answer_of_ends setting.options request (aim_of spec) name e None) is
-
-    -- it is asked while its leg hasn't ended
-    pub still_asks : leg_end setting (leg_of request k) past ≡ None → stand_of setting request spec past ≡ asking (length passed)
+    -- the current candidate is asked while it has no answer
+    pub still_asks : candidate_answer setting request spec (length passed) name past ≡ None → stand_of setting request spec past ≡ asking (length passed)
     still_asks is =
-        here ∙ ap (λ o. behind_candidate (length passed) names o (stand_at setting request spec past (length passed + 1) names)) (answers_so None is ∙ no_end setting.options request (aim_of spec) name) ∙ by_names names
+        here ∙ ap (λ o. behind_candidate (length passed) names o (stand_at setting request spec past (length passed + 1) names)) is ∙ by_names names
       where
         by_names : (ns : List Name) → behind_candidate (length passed) ns None (stand_at setting request spec past (length passed + 1) ns) ≡ asking (length passed)
         by_names [] = refl
         by_names (n ∷ ns) = refl
 
-    pub no_answer : leg_end setting (leg_of request k) past ≡ None → search_answer setting request past ≡ None
+    pub no_answer : candidate_answer setting request spec (length passed) name past ≡ None → search_answer setting request past ≡ None
     no_answer is = asking_no_answer setting request past spec (length passed) asks (still_asks is)
 
-    -- and its leg is the current one
-    pub current_leg : leg_end setting (leg_of request k) past ≡ None → current_legs setting past request ≡ leg_of request k ∷ []
-    current_leg is =
+    -- and its legs are the current ones
+    pub current_are : candidate_answer setting request spec (length passed) name past ≡ None → current_legs setting past request ≡ map (leg_of request) (legs_of spec (length passed))
+    current_are is =
         ap (λ o. unwrap_or (option_map (λ s. legs_at setting request s (stand_of setting request s past)) o) []) asks
-        ∙ ap (legs_at setting request spec) (still_asks is) ∙ ap (map (leg_of request)) legged
+        ∙ ap (legs_at setting request spec) (still_asks is)
 
     -- where it has an answer, the search is over if there is no next candidate that becomes current
     module _ (answer : Answer) (is : candidate_answer setting request spec (length passed) name past ≡ Some answer) where

@@ -1,11 +1,17 @@
 -- The sooner of the best of some rows and of one more is the best of all of them.
-use Rattle.std.proofs.Common.{◌≡◌, ◌∙◌, ℕ, Bool, true, false, List, [], ◌∷◌, ◌++◌, Option, Some, None, refl, ap, cond, arith, length}
+use Rattle.std.proofs.Common.{◌≡◌, ◌∙◌, ℕ, Bool, true, false, List, [], ◌∷◌, ◌++◌, Option, Some, None, refl, ap, sym, subst, cond, arith, append_assoc, length}
 use Rattle.std.proofs.lemmas.List.{append-nil, get_or_append_left, get_or_push, length_push}
 use Rattle.std.proofs.lemmas.List.Elements.{filter_map-append}
 use Rattle.channel_model.specs.Lawful.{Due, is_before, least, least_due}
 use Rattle.query_machine.specs.declared.leg.Flying.{Flying}
-use Rattle.channel_table.specs.Rows.{flying_of, leg_of_row}
-use Rattle.channel_table.specs.Soonest.{IsOfRow, IsSoonest, due_of_row, due_of_soonest, dues, is_sooner, sooner, sooner_with}
+use Rattle.channel_table.specs.Rows.{all_sides, side_at, sides}
+use Rattle.channel_table.specs.Sides.{flying_of, leg_of_side}
+use Rattle.channel_table.specs.Soonest.{IsOfRow, IsSoonest, due_of_side, due_of_soonest, dues, is_sooner, sooner, sooner_if, sooner_row, sooner_with}
+use Rattle.channel_table.specs.declared.side.Side.{Side}
+use Rattle.std.proofs.lemmas.Grind.{flat_map-append}
+use Rattle.std.specs.List.{cons_option}
+use Rattle.std.specs.Option.{option_and_then}
+use Rattle.std.specs.Prelude.{filter_map, option_map, option_to_list}
 use Rattle.channel_table.specs.declared.row.Row.{Row}
 use Rattle.channel_table.specs.declared.table.seeking.Soonest.{Soonest}
 
@@ -22,39 +28,84 @@ least-more : (xs : List Due) (x first : Due) → least xs ≡ Some first → lea
 least-more [] x first e = absurd cc
 least-more (y ∷ ys) x first e = let same : least_due y ys ≡ first = cc in ap Some (least_due-more y ys x ∙ ap (least_with x) same)
 
--- the sooner of the best so far and one more
+-- it is the one of these deadlines that comes first, and that of a side of these rows; or there is none
+IsBest : {T : Type 0} → List (Row T) → List Due → Option Soonest → Type 0
+IsBest rows ds None = ds ≡ []
+IsBest rows ds (Some found) = IsOfRow rows found × (least ds ≡ Some (due_of_soonest found))
+
+one_due : (side : Side) (more : List Due) → cons_option (due_of_side side) more ≡ option_to_list (due_of_side side) ++ more
+one_due side more = by_due (due_of_side side)
+  where
+    by_due : (o : Option Due) → cons_option o more ≡ option_to_list o ++ more
+    by_due None = refl
+    by_due (Some d) = refl
+
 module _ {T : Type 0} where
   of_row_kept : (xs : List (Row T)) (row : Row T) (found : Soonest) → IsOfRow xs found → IsOfRow (xs ++ row ∷ []) found
   of_row_kept xs row found of = record {
     inside = omega (arith, of.inside, length_push xs row);
-    is_due = λ d. ap due_of_row (get_or_append_left xs (row ∷ []) d found.index of.inside) ∙ of.is_due d;
+    is_due = λ d. ap (λ r. option_and_then due_of_side (side_at found.is_second r)) (get_or_append_left xs (row ∷ []) d found.index of.inside) ∙ of.is_due d;
   }
 
-  of_row_new : (xs : List (Row T)) (row : Row T) (flying : Flying) (i : ℕ) → length xs ≡ i → flying_of row ≡ Some flying → IsOfRow (xs ++ row ∷ []) (record { index = i; at = flying.due; number = row.number; leg_number = row.leg_number })
-  of_row_new xs row flying i is flies = record {
+  -- the best of some rows' deadlines is one of those of more rows
+  best_kept : (xs : List (Row T)) (row : Row T) (ds : List Due) (best : Option Soonest) → IsBest xs ds best → IsBest (xs ++ row ∷ []) ds best
+  unfolding IsBest
+  best_kept xs row ds None is = is
+  best_kept xs row ds (Some found) is = (of_row_kept xs row found is.0, is.1)
+
+  of_row_new : (xs : List (Row T)) (row : Row T) (second : Bool) (side : Side) (flying : Flying) (i : ℕ) → length xs ≡ i → side_at second row ≡ Some side → flying_of side ≡ Some flying
+      → IsOfRow (xs ++ row ∷ []) (record { index = i; is_second = second; at = flying.due; number = side.number; leg_number = side.leg_number })
+  of_row_new xs row second side flying i is at flies = record {
     inside = omega (arith, is, length_push xs row);
-    is_due = λ d. ap due_of_row (get_or_push xs row d i is) ∙ rw flies refl;
+    is_due = λ d. ap (λ r. option_and_then due_of_side (side_at second r)) (get_or_push xs row d i is) ∙ ap (option_and_then due_of_side) at ∙ rw flies refl;
   }
 
-  same_dues : (xs : List (Row T)) (row : Row T) → flying_of row ≡ None → dues (xs ++ row ∷ []) ≡ dues xs
-  same_dues xs row flies = filter_map-append due_of_row xs (row ∷ []) ∙ rw flies (append-nil (dues xs))
-
-  more_dues : (xs : List (Row T)) (row : Row T) (flying : Flying) → flying_of row ≡ Some flying → dues (xs ++ row ∷ []) ≡ dues xs ++ record { at = flying.due; leg = leg_of_row row } ∷ []
-  more_dues xs row flying flies = filter_map-append due_of_row xs (row ∷ []) ∙ rw flies refl
-
-  soonest_by : (xs : List (Row T)) (row : Row T) (best : Option Soonest) (i : ℕ) (o : Option Flying) → flying_of row ≡ o → length xs ≡ i → IsSoonest xs best → IsSoonest (xs ++ row ∷ []) (sooner_with best i row.number row.leg_number o)
-  unfolding least_with
-  soonest_by xs row None i None flies is none = same_dues xs row flies ∙ none
-  soonest_by xs row (Some first) i None flies is s = (of_row_kept xs row first s.0, ap least (same_dues xs row flies) ∙ s.1)
-  soonest_by xs row None i (Some flying) flies is none = (of_row_new xs row flying i is flies, ap least (more_dues xs row flying flies) ∙ rw none refl)
-  soonest_by xs row (Some first) i (Some flying) flies is s = by_test (is_sooner (record { index = i; at = flying.due; number = row.number; leg_number = row.leg_number }) first) refl
+  -- the sooner of the best so far and the attempt of one more side
+  best_more : (xs : List (Row T)) (row : Row T) (ds : List Due) (best : Option Soonest) (second : Bool) (side : Side) (i : ℕ) (o : Option Flying) → flying_of side ≡ o → length xs ≡ i → side_at second row ≡ Some side → IsBest (xs ++ row ∷ []) ds best
+      → IsBest (xs ++ row ∷ []) (ds ++ option_to_list (option_map (λ (flying : Flying). record { at = flying.due; leg = leg_of_side side }) o)) (sooner_with best i second side.number side.leg_number o)
+  unfolding IsBest least_with
+  best_more xs row ds None second side i None flies is at none = ap (λ ys. ys ++ []) none
+  best_more xs row ds (Some first) second side i None flies is at s = (s.0, ap least (append-nil ds) ∙ s.1)
+  best_more xs row ds None second side i (Some flying) flies is at none =
+      (of_row_new xs row second side flying i is at flies, ap (λ ys. least (ys ++ record { at = flying.due; leg = leg_of_side side } ∷ [])) none)
+  best_more xs row ds (Some first) second side i (Some flying) flies is at s = by_test (is_sooner (record { index = i; is_second = second; at = flying.due; number = side.number; leg_number = side.leg_number }) first) refl
     where
-      more : least (dues (xs ++ row ∷ [])) ≡ Some (least_with (due_of_soonest (record { index = i; at = flying.due; number = row.number; leg_number = row.leg_number })) (due_of_soonest first))
-      more = ap least (more_dues xs row flying flies) ∙ least-more (dues xs) _ (due_of_soonest first) s.1
+      more : least (ds ++ record { at = flying.due; leg = leg_of_side side } ∷ []) ≡ Some (least_with (due_of_soonest (record { index = i; is_second = second; at = flying.due; number = side.number; leg_number = side.leg_number })) (due_of_soonest first))
+      more = least-more ds _ (due_of_soonest first) s.1
 
-      by_test : (b : Bool) → is_sooner (record { index = i; at = flying.due; number = row.number; leg_number = row.leg_number }) first ≡ b → IsSoonest (xs ++ row ∷ []) (cond b (Some (record { index = i; at = flying.due; number = row.number; leg_number = row.leg_number })) (Some first))
-      by_test true e = (of_row_new xs row flying i is flies, more ∙ ap (λ b. Some (cond b (due_of_soonest (record { index = i; at = flying.due; number = row.number; leg_number = row.leg_number })) (due_of_soonest first))) e)
-      by_test false e = (of_row_kept xs row first s.0, more ∙ ap (λ b. Some (cond b (due_of_soonest (record { index = i; at = flying.due; number = row.number; leg_number = row.leg_number })) (due_of_soonest first))) e)
+      by_test : (b : Bool) → is_sooner (record { index = i; is_second = second; at = flying.due; number = side.number; leg_number = side.leg_number }) first ≡ b
+          → IsBest (xs ++ row ∷ []) (ds ++ record { at = flying.due; leg = leg_of_side side } ∷ []) (cond b (Some (record { index = i; is_second = second; at = flying.due; number = side.number; leg_number = side.leg_number })) (Some first))
+      by_test true e = (of_row_new xs row second side flying i is at flies, more ∙ ap (λ b. Some (cond b (due_of_soonest (record { index = i; is_second = second; at = flying.due; number = side.number; leg_number = side.leg_number })) (due_of_soonest first))) e)
+      by_test false e = (s.0, more ∙ ap (λ b. Some (cond b (due_of_soonest (record { index = i; is_second = second; at = flying.due; number = side.number; leg_number = side.leg_number })) (due_of_soonest first))) e)
 
-  pub soonest_more : (xs : List (Row T)) (row : Row T) (best : Option Soonest) (i : ℕ) → length xs ≡ i → IsSoonest xs best → IsSoonest (xs ++ row ∷ []) (sooner best i row)
-  soonest_more xs row best i is s = soonest_by xs row best i (flying_of row) refl is s
+  -- the deadlines of the sides of one more row come behind those of the rows before
+  dues_more : (xs : List (Row T)) (row : Row T) → dues (xs ++ row ∷ []) ≡ dues xs ++ filter_map due_of_side (sides row)
+  dues_more xs row =
+      ap (filter_map due_of_side) (flat_map-append sides xs (row ∷ []) ∙ ap (λ ys. all_sides xs ++ ys) (append-nil (sides row))) ∙ filter_map-append due_of_side (all_sides xs) (sides row)
+
+  best_row : (xs : List (Row T)) (row : Row T) (ds : List Due) (best : Option Soonest) (i : ℕ) (second : Option Side) → row.second ≡ second → length xs ≡ i → IsBest (xs ++ row ∷ []) ds best
+      → IsBest (xs ++ row ∷ []) (ds ++ filter_map due_of_side (row.first ∷ option_to_list second)) (sooner_if (sooner best i false row.first) i second)
+  best_row xs row ds best i None at is b =
+      let one = best_more xs row ds best false row.first i (flying_of row.first) refl is refl b in
+      subst (λ ys. IsBest (xs ++ row ∷ []) (ds ++ ys) (sooner best i false row.first)) (sym (one_due row.first [] ∙ append-nil (option_to_list (due_of_side row.first)))) one
+  best_row xs row ds best i (Some side) at is b =
+      let one = best_more xs row ds best false row.first i (flying_of row.first) refl is refl b in
+      let two = best_more xs row (ds ++ option_to_list (due_of_side row.first)) (sooner best i false row.first) true side i (flying_of side) refl is at one in
+      subst (λ ys. IsBest (xs ++ row ∷ []) ys (sooner (sooner best i false row.first) i true side))
+      (append_assoc ds (option_to_list (due_of_side row.first)) (option_to_list (due_of_side side))
+      ∙ ap (λ ys. ds ++ ys) (sym (one_due row.first (cons_option (due_of_side side) []) ∙ ap (λ ys. option_to_list (due_of_side row.first) ++ ys) (one_due side [] ∙ append-nil (option_to_list (due_of_side side)))))) two
+
+  soonest_is : (xs : List (Row T)) (best : Option Soonest) → IsSoonest xs best → IsBest xs (dues xs) best
+  unfolding IsBest
+  soonest_is xs None is = is
+  soonest_is xs (Some found) is = is
+
+  is_soonest : (xs : List (Row T)) (best : Option Soonest) → IsBest xs (dues xs) best → IsSoonest xs best
+  unfolding IsBest
+  is_soonest xs None is = is
+  is_soonest xs (Some found) is = is
+
+  pub soonest_more : (xs : List (Row T)) (row : Row T) (best : Option Soonest) (i : ℕ) → length xs ≡ i → IsSoonest xs best → IsSoonest (xs ++ row ∷ []) (sooner_row best i row)
+  soonest_more xs row best i is s =
+      is_soonest (xs ++ row ∷ []) (sooner_row best i row)
+      (subst (λ ds. IsBest (xs ++ row ∷ []) ds (sooner_row best i row)) (sym (dues_more xs row)) (best_row xs row (dues xs) best i row.second refl is (best_kept xs row (dues xs) best (soonest_is xs best s))))

@@ -1,6 +1,6 @@
 -- What the answer of a request is made of.
 use Rattle.std.specs.Option.{option_and_then}
-use Rattle.std.specs.Prelude.{Bool, List, None, Option, Result, [], false, option_map, true, unwrap_or, ℕ}
+use Rattle.std.specs.Prelude.{Bool, List, Option, Result, [], false, option_map, true, unwrap_or, ℕ}
 use Rattle.chan_types.specs.declared.answer.Answer.{Answer}
 use Rattle.chan_types.specs.declared.spec.Spec.{Spec}
 use Rattle.chan_types.specs.declared.spec.Spec.TheVariants.{Address, Query, Reverse, Search}

@@ -6,7 +6,7 @@ use Rattle.channel_model.specs.Known.{Known}
 use Rattle.channel_model.specs.Seen.{Seen}
 use Rattle.channel_model.specs.Setting.{Setting}
 
--- a channel with one owner: its setting, the request whose callback's commands he performs, or 0, and its journal
+-- a channel with one owner: its setting, the request whose callback's commands he performs, or 0, and its journal, which he made alone
 pub record Owned : Type 0 where
   pub setting : Setting
   pub voice : ℕ

@@ -4,7 +4,7 @@ use Rattle.chan_types.specs.declared.answer.Answer.{Answer}
 use Rattle.chan_types.specs.declared.server_key.ServerKey.{ServerKey}
 use Rattle.chan_types.specs.declared.ticket.Ticket.{Ticket}
 use Rattle.channel_model.specs.declared.judged.Judged.{Judged}
-use Rattle.query_machine.specs.Legs.{IsInFlight, flying_in}
+use Rattle.query_machine.specs.Legs.{flying_in}
 use Rattle.query_machine.specs.declared.leg.Flying.{Flying}
 use Rattle.query_machine.specs.declared.leg.Leg as machine
 use Rattle.resolv_options.specs.declared.flags.Flags.{Flags}
@@ -13,10 +13,7 @@ use Rattle.channel_table.specs.After.{after}
 use Rattle.channel_table.specs.declared.row.After.{After}
 use Rattle.channel_table.specs.declared.row.After.TheVariants.{Ends, Stays}
 use Rattle.channel_table.specs.declared.row.Row.{Row}
-
--- the row at this index has an attempt in flight
-abbrev pub FliesAt : {T : Type 0} → ℕ → List (Row T) → Type 0
-FliesAt index rows = (d : Row _) → IsInFlight (get_or rows index d).leg.phase
+use Rattle.channel_table.specs.declared.side.Hits.{Hits}
 
 -- the server of an attempt, or 0 where there is none
 abbrev pub server_in : Option Flying → ℕ
@@ -36,9 +33,9 @@ abbrev pub Becomes : {T : Type 0} → List (Row T) → List (Row T) → List (Ti
 Becomes before behind tickets new_rows new_tickets (Stays row) = (new_rows ≡ before ++ row ∷ behind) × (new_tickets ≡ tickets)
 Becomes before behind tickets new_rows new_tickets (Ends ticket) = (new_rows ≡ before ++ behind) × (new_tickets ≡ tickets ++ ticket ∷ [])
 
--- the attempt of the row at this index has come to its end, which meant this, and with which its current candidate has this answer, if it has one
-pub record EndsRow {T : Type 0} (flags : Flags) (judged : Judged) (answer : Option Answer) (most index : ℕ) (rows : List (Row T)) (tickets : List (Ticket T)) (new_rows : List (Row T)) (new_tickets : List (Ticket T)) : Type 0 where
+-- the attempts of the row at this index that an entry concerns have come to their end, which meant this and came with this reply, and with which its current candidate has this answer, if it has one
+pub record EndsRow {T : Type 0} (flags : Flags) (concerned : Hits) (judged : Judged) (reply : List ℕ) (most : ℕ) (answer : Option Answer) (index : ℕ) (rows : List (Row T)) (tickets : List (Ticket T)) (new_rows : List (Row T)) (new_tickets : List (Ticket T)) : Type 0 where
   pub row : Row T
   pub is : (d : Row T) → get_or rows index d ≡ row
   pub parts : rows ≡ take index rows ++ row ∷ drop (index + 1) rows
-  pub becomes : Becomes (take index rows) (drop (index + 1) rows) tickets new_rows new_tickets (after flags judged most row answer)
+  pub becomes : Becomes (take index rows) (drop (index + 1) rows) tickets new_rows new_tickets (after flags concerned judged reply most row answer)

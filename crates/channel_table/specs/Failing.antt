@@ -1,28 +1,23 @@
 -- What a Fault makes of a row.
-use Rattle.std.specs.Prelude.{None, Option, Some, [], if◌then◌else◌, ℕ}
+use Rattle.std.specs.Prelude.{None, Option, Some, [], ℕ}
 use Rattle.chan_types.specs.declared.answer.Answer.{Answer}
 use Rattle.chan_types.specs.declared.status.Status.TheVariants.{ConnRefused}
 use Rattle.chan_types.specs.declared.ticket.Ticket.{Ticket}
 use Rattle.channel_model.specs.declared.judged.Judged.TheVariants.{Failed}
-use Rattle.resolv_options.specs.declared.flags.Flags.{Flags}
 use Rattle.resolv_options.specs.declared.options.Options.{Options}
 use Rattle.channel_table.specs.After.{after, answer_behind}
-use Rattle.channel_table.specs.Rows.{flew_over}
 use Rattle.channel_table.specs.declared.row.After.{After}
 use Rattle.channel_table.specs.declared.row.After.TheVariants.{Ends, Stays}
 use Rattle.channel_table.specs.declared.row.Row.{Row}
+use Rattle.channel_table.specs.declared.side.Hits.TheVariants.{Over}
 
--- the answer that the current candidate of a row has behind the Fault, if its attempt went over the link and it has one
+-- the answer that the current candidate of a row has behind a Fault of this server's link, if it has one
 abbrev pub answer_over : {T : Type 0} → Options → ℕ → ℕ → ℕ → Row T → Option Answer
-answer_over options server link most row = if flew_over server link row then answer_behind options (Failed ConnRefused) [] most row else None
+answer_over options server link most row = answer_behind options (Over server link) (Failed ConnRefused) [] most row
 
--- a row whose attempt went over the link fails, and another stays
-abbrev pub fails_with : {T : Type 0} → Flags → ℕ → ℕ → ℕ → Option Answer → Row T → After T
-fails_with flags server link most answer row = if flew_over server link row then after flags (Failed ConnRefused) most row answer else Stays row
-
--- what a Fault makes of a row
+-- what the Fault makes of a row
 abbrev pub fails_at : {T : Type 0} → Options → ℕ → ℕ → ℕ → Row T → After T
-fails_at options server link most row = fails_with options.flags server link most (answer_over options server link most row) row
+fails_at options server link most row = after options.flags (Over server link) (Failed ConnRefused) [] most row (answer_over options server link most row)
 
 -- the row that stays
 abbrev pub kept_of : {T : Type 0} → After T → Option (Row T)

@@ -1,5 +1,6 @@
 -- What the state of a leg means: what the past says of the leg.
-use Rattle.std.specs.Prelude.{None, Option, option_map, ◌<◌, ◌≡◌}
+use Rattle.std.specs.Prelude.{List, None, Option, option_map, ℕ, ◌<◌, ◌≡◌}
+use Rattle.chan_types.specs.declared.status.Status.{Status}
 use Rattle.channel_model.specs.Flight.{Attempt}
 use Rattle.channel_model.specs.Journal.{Past}
 use Rattle.channel_model.specs.LegEnd.{leg_end}
@@ -29,9 +30,8 @@ facts_of leg state = record {
   forced = state.forced;
 }
 
--- the past says of a leg what its state is: it hasn't ended, and has spent fewer attempts than 10 tries of 8 servers
-pub record LegStands (setting : Setting) (past : Past) (leg : Leg) (state : machine.Leg) : Type 0 where
+-- the past says of a leg what its state is, and that this reply ended it where it has ended; where it hasn't, it has spent fewer attempts than 10 tries of 8 servers
+pub record LegStands (setting : Setting) (past : Past) (leg : Leg) (state : machine.Leg) (reply : List ℕ) : Type 0 where
   pub facts : leg_facts setting leg past ≡ facts_of leg state
-  pub open' : leg_end setting leg past ≡ None
-  pub unended : status_in state.phase ≡ None
-  pub few : state.spent < 80
+  pub ends : leg_end setting leg past ≡ option_map (λ (s : Status). record { status = s; reply = reply }) (status_in state.phase)
+  pub few : status_in state.phase ≡ None → state.spent < 80

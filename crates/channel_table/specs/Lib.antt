@@ -1,6 +1,7 @@
 pub mod Aims
 pub mod Legs
 pub mod Searching
+pub mod Sides
 pub mod Rows
 pub mod Counted
 pub mod Kept
@@ -13,4 +14,5 @@ pub mod Arriving
 pub mod Failing
 pub mod Starting
 pub mod Listing
+pub mod Sought
 pub mod Calling

@@ -1,14 +1,16 @@
 -- What a new list of servers makes of a row.
 use Rattle.std.specs.Bool.{then_some}
 use Rattle.std.specs.Option.{option_and_then}
-use Rattle.std.specs.Prelude.{Bool, List, None, Option, Some, false, if◌then◌else◌, not, ℕ}
+use Rattle.std.specs.Prelude.{count_by, option_map, Bool, List, None, Option, Some, false, if◌then◌else◌, not, ℕ}
 use Rattle.chan_types.specs.declared.server_key.ServerKey.{ServerKey}
 use Rattle.channel_model.specs.Servers.{has_key}
 use Rattle.query_machine.specs.Legs.{flying_in}
 use Rattle.query_machine.specs.declared.leg.Flying.{Flying}
 use Rattle.query_machine.specs.declared.leg.Leg as machine
 use Rattle.query_machine.specs.declared.leg.Phase.TheVariants as phases
-use Rattle.channel_table.specs.Rows.{flying_of}
+use Rattle.channel_table.specs.Rows.{sides}
+use Rattle.channel_table.specs.Sides.{flying_of}
+use Rattle.channel_table.specs.declared.side.Side.{Side}
 use Rattle.channel_table.specs.declared.row.Row.{Row}
 
 -- the server of an attempt isn't in the list
@@ -16,9 +18,13 @@ abbrev pub flying_left : List ServerKey → Option Flying → Bool
 flying_left list None = false
 flying_left list (Some flying) = not (has_key flying.server list)
 
--- the server of a row's attempt isn't in the list
-abbrev pub has_left : {T : Type 0} → List ServerKey → Row T → Bool
-has_left list row = flying_left list (flying_of row)
+-- the server of a side's attempt isn't in the list
+abbrev pub has_left : List ServerKey → Side → Bool
+has_left list side = flying_left list (flying_of side)
+
+-- how many attempts of the row are on such servers
+abbrev pub left_in : {T : Type 0} → List ServerKey → Row T → ℕ
+left_in list row = count_by (has_left list) (sides row)
 
 -- the server, if it is in the list
 abbrev pub kept_in : List ServerKey → Option ℕ → Option ℕ
@@ -28,6 +34,10 @@ kept_in list server = option_and_then (λ key. then_some (has_key key list) key)
 abbrev pub leg_set : List ServerKey → machine.Leg → machine.Leg
 leg_set list leg = if flying_left list (flying_in leg.phase) then record leg { phase = phases.Waiting; forced = None } else record leg { forced = kept_in list leg.forced }
 
+-- the side behind a new list of servers
+abbrev pub side_set : List ServerKey → Side → Side
+side_set list side = record side { leg = leg_set list side.leg }
+
 -- the row behind a new list of servers
 abbrev pub row_set : {T : Type 0} → List ServerKey → Row T → Row T
-row_set list row = record row { leg = leg_set list row.leg }
+row_set list row = record row { first = side_set list row.first; second = option_map (side_set list) row.second }

@@ -1,6 +1,8 @@
 -- What a row of the table means: what the past says of its request and its leg.
-use Rattle.std.specs.List.{AllByRecursion}
-use Rattle.std.specs.Prelude.{Bool, List, None, Option, Some, [], false, flat_map, if◌then◌else◌, is_some, length, map, option_to_list, true, ℕ, ⊤, ◌&&◌, ◌++◌, ◌<◌, ◌==◌, ◌∷◌, ◌≡◌, ◌≤◌}
+use Rattle.std.specs.List.{AllByRecursion, list_any}
+use Rattle.std.specs.Option.{option_and_then}
+use Rattle.std.specs.Prelude.{count_by, option_map, ◌*◌, ◌+◌, Bool, List, None, Option, Some, [], false, flat_map, if◌then◌else◌, length, map, option_to_list, true, ℕ, ◌++◌, ◌∷◌, ◌≡◌, ◌≤◌}
+use Rattle.chan_types.specs.declared.answer.Answer.{Answer}
 use Rattle.chan_types.specs.declared.script.Script.{Script}
 use Rattle.chan_types.specs.declared.spec.Spec.{Spec}
 use Rattle.chan_types.specs.declared.status.Status.{Status}
@@ -15,66 +17,93 @@ use Rattle.channel_model.specs.Questions.{candidates_of, question_for}
 use Rattle.channel_model.specs.Search.{any_empty}
 use Rattle.channel_model.specs.Setting.{Setting}
 use Rattle.dns_message.specs.declared.name.Name.{Name}
-use Rattle.query_machine.specs.Legs.{flying_in}
+use Rattle.resolv_options.specs.declared.options.Options.{Options}
 use Rattle.query_machine.specs.declared.leg.Flying.{Flying}
-use Rattle.channel_table.specs.Aims.{aim_of}
-use Rattle.channel_table.specs.Legs.{LegStands, flown_by}
+use Rattle.channel_table.specs.Aims.{aim_of, answer_of_ends}
+use Rattle.channel_table.specs.Legs.{LegStands}
 use Rattle.channel_table.specs.Searching.{are_passed}
+use Rattle.channel_table.specs.Sides.{begun_side, end_of_side, flew_over, flown_side, is_flying, leg_of_side, number_of_leg, waits, waits_of}
 use Rattle.channel_table.specs.declared.row.Row.{Row}
+use Rattle.channel_table.specs.declared.side.Side.{Side}
 
 -- the number of a row's request
 abbrev pub number_of : {T : Type 0} → Row T → ℕ
 number_of row = row.number
 
--- the leg of a row
-abbrev pub leg_of_row : {T : Type 0} → Row T → Leg
-leg_of_row row = leg_of row.number row.leg_number
+-- the sides of a row, in order
+abbrev pub sides : {T : Type 0} → Row T → List Side
+sides row = row.first ∷ option_to_list row.second
 
--- the attempt of a row that is in flight, as the table keeps it
-abbrev pub flying_of : {T : Type 0} → Row T → Option Flying
-flying_of row = flying_in row.leg.phase
+-- one of them
+abbrev pub side_at : {T : Type 0} → Bool → Row T → Option Side
+side_at second row = if second then row.second else Some row.first
+
+-- the sides of all rows
+abbrev pub all_sides : {T : Type 0} → List (Row T) → List Side
+all_sides rows = flat_map sides rows
 
 -- the attempts of a row that are in flight
 abbrev pub flown : {T : Type 0} → Row T → List Attempt
-flown row = option_to_list (flown_by (leg_of_row row) (flying_of row))
+flown row = flat_map flown_side (sides row)
 
--- an attempt of the row is in flight
-abbrev pub is_flying : {T : Type 0} → Row T → Bool
-is_flying row = is_some (flying_of row)
+-- an attempt of the row went to this server over this link
+abbrev pub row_over : {T : Type 0} → ℕ → ℕ → Row T → Bool
+row_over server link row = list_any (flew_over server link) (sides row)
 
--- an attempt went to this server over this link
-abbrev pub flying_over : ℕ → ℕ → Option Flying → Bool
-flying_over server link None = false
-flying_over server link (Some flying) = (flying.server == server) && (flying.link == link)
+-- how many did
+abbrev pub over_in : {T : Type 0} → ℕ → ℕ → Row T → ℕ
+over_in server link row = count_by (flew_over server link) (sides row)
 
--- the attempt of a row went to this server over this link
-abbrev pub flew_over : {T : Type 0} → ℕ → ℕ → Row T → Bool
-flew_over server link row = flying_over server link (flying_of row)
+-- how many attempts of the row are in flight
+abbrev pub flying_in : {T : Type 0} → Row T → ℕ
+flying_in row = count_by is_flying (sides row)
 
--- the leg of a row, where it waits
-abbrev pub waits_of : {T : Type 0} → Row T → List Leg
-waits_of row = if is_some (flying_of row) then [] else leg_of_row row ∷ []
+-- how many legs of the row wait
+abbrev pub waiting_in : {T : Type 0} → Row T → ℕ
+waiting_in row = count_by waits (sides row)
+
+-- the legs of the row that wait
+abbrev pub row_waits : {T : Type 0} → Row T → List Leg
+row_waits row = flat_map waits_of (sides row)
+
+-- the answer of the current candidate, if its legs have ended that it needs
+abbrev pub answer_of_row : {T : Type 0} → Options → Row T → Option Answer
+answer_of_row options row = answer_of_ends options row.number row.aim row.first.question.name (end_of_side row.first) (option_and_then end_of_side row.second)
+
+-- the row with this attempt of one of its sides in flight
+abbrev pub begun_row : {T : Type 0} → Flying → Bool → Row T → Row T
+begun_row flying second row = if second then record row { second = option_map (begun_side flying) row.second } else record row { first = begun_side flying row.first }
 
 -- the number of a ticket's request
 abbrev pub ticket_number : {T : Type 0} → Ticket T → ℕ
 ticket_number ticket = ticket.call.number
 
--- the past says of a row's request what the row has: it was accepted for this token, its search has passed some candidates and come to the one of this question, with these behind it; that one has one leg, which stands so, and no later leg has had an attempt
+-- the past says of a side what it has: it is of this request, asks this candidate, behind which these stand, and its leg stands so
+pub record SideStands (setting : Setting) (past : Past) (number : ℕ) (spec : Spec) (name : Name) (rest : List Name) (side : Side) : Type 0 where
+  pub numbered : side.number ≡ number
+  pub current : side.question.name ≡ name
+  pub behind : side.names ≡ rest
+  pub asks : question_for spec side.leg_number name ≡ side.question
+  pub leg : LegStands setting past (leg_of_side side) side.leg side.reply
+  pub begun : has_leg (leg_of_side side) (started past) ≡ side.begun
+
+-- the past says of a row's request what the row has: it was accepted for this token, its search has passed some candidates and come to this one, with these behind it, whose legs are those of the row's sides; it has no answer yet, and no later leg has had an attempt
 pub record RowStands {T : Type 0} (plan : T → Script) (setting : Setting) (past : Past) (row : Row T) : Type 0 where
   pub spec : Spec
   pub aims : aim_of spec ≡ row.aim
   pub passed : List Name
-  pub candidates : candidates_of setting spec ≡ passed ++ row.question.name ∷ row.names
+  pub name : Name
+  pub rest : List Name
+  pub candidates : candidates_of setting spec ≡ passed ++ name ∷ rest
   pub few : length (candidates_of setting spec) ≤ 9
-  pub legged : legs_of spec (length passed) ≡ row.leg_number ∷ []
+  pub legged : legs_of spec (length passed) ≡ map number_of_leg (sides row)
   pub came : are_passed setting row.number spec past 0 passed ≡ true
   pub emptied : any_empty setting row.number spec past 0 passed ≡ row.empty
-  pub asks : question_for spec row.leg_number row.question.name ≡ row.question
   pub accepts : request_of row.number past ≡ Some (record { number = row.number; spec = spec; script = plan row.token })
   pub undecided : fate setting row.number past ≡ None
-  pub leg : LegStands setting past (leg_of_row row) row.leg
-  pub begun : has_leg (leg_of_row row) (started past) ≡ row.begun
-  pub later : (k : ℕ) → row.leg_number < k → has_leg (leg_of row.number k) (started past) ≡ false
+  pub each_side : AllByRecursion (SideStands setting past row.number spec name rest) (sides row)
+  pub unanswered : answer_of_row setting.options row ≡ None
+  pub later : (k : ℕ) → 2 * length passed + 2 ≤ k → has_leg (leg_of row.number k) (started past) ≡ false
 
 -- the past says of a ticket's request that it has completed with the ticket's answer, and was accepted for a token of this script
 pub record TicketStands {T : Type 0} (plan : T → Script) (setting : Setting) (past : Past) (ticket : Ticket T) : Type 0 where

@@ -1,6 +1,6 @@
 -- What a start looks for among the rows, and what it makes of one.
 use Rattle.std.specs.List.{list_any}
-use Rattle.std.specs.Prelude.{Bool, List, None, Option, Some, [], drop, false, flat_map, get_or, if◌then◌else◌, length, not, option_to_list, take, true, unwrap_or, ℕ, ◌%◌, ◌&&◌, ◌++◌, ◌+◌, ◌<◌, ◌==◌, ◌^◌, ◌∷◌, ◌≡◌}
+use Rattle.std.specs.Prelude.{IfSome, Bool, List, None, Option, Some, [], drop, false, flat_map, get_or, if◌then◌else◌, length, not, option_to_list, take, true, unwrap_or, ℕ, ◌%◌, ◌&&◌, ◌++◌, ◌+◌, ◌<◌, ◌==◌, ◌^◌, ◌∷◌, ◌≡◌}
 use Rattle.chan_types.specs.declared.server_key.ServerKey.{ServerKey}
 use Rattle.channel_model.specs.Choice.{Failing, least_of}
 use Rattle.channel_model.specs.Lawful.{first}
@@ -8,9 +8,10 @@ use Rattle.channel_model.specs.Legs.{leg_of}
 use Rattle.channel_model.specs.Servers.{from_place}
 use Rattle.query_machine.specs.Legs.{IsWaiting}
 use Rattle.query_machine.specs.declared.leg.Flying.{Flying}
-use Rattle.query_machine.specs.declared.leg.Phase.TheVariants as phases
 use Rattle.resolv_options.specs.declared.options.Options.{Options}
-use Rattle.channel_table.specs.Rows.{flying_of, leg_of_row, waits_of}
+use Rattle.channel_table.specs.Rows.{begun_row, row_waits, side_at, sides}
+use Rattle.channel_table.specs.Sides.{flying_of, leg_of_side, waits}
+use Rattle.channel_table.specs.declared.side.Side.{Side}
 use Rattle.channel_table.specs.declared.row.Row.{Row}
 use Rattle.channel_table.specs.declared.table.starting.Idle.{Idle}
 
@@ -19,22 +20,30 @@ abbrev pub flying_id : ℕ → Option Flying → Bool
 flying_id id None = false
 flying_id id (Some flying) = flying.id == id
 
--- the attempt of a row has this identifier
-abbrev pub has_id : {T : Type 0} → ℕ → Row T → Bool
-has_id id row = flying_id id (flying_of row)
+-- the attempt of a side has this identifier
+abbrev pub has_id : ℕ → Side → Bool
+has_id id side = flying_id id (flying_of side)
+
+-- an attempt of a row has this identifier
+abbrev pub row_has_id : {T : Type 0} → ℕ → Row T → Bool
+row_has_id id row = list_any (has_id id) (sides row)
 
 -- the link of an attempt, where it went to this server over TCP
 abbrev pub link_on : ℕ → Option Flying → Option ℕ
 link_on server None = None
 link_on server (Some flying) = if (flying.server == server) && not (flying.link == 0) then Some flying.link else None
 
--- the link of a row's attempt, where it went to this server over TCP
-abbrev pub links_on : {T : Type 0} → ℕ → Row T → List ℕ
-links_on server row = option_to_list (link_on server (flying_of row))
+-- the link of a side's attempt, where it went to this server over TCP
+abbrev pub links_on : ℕ → Side → List ℕ
+links_on server side = option_to_list (link_on server (flying_of side))
+
+-- the links of a row's attempts that went to this server over TCP
+abbrev pub row_links : {T : Type 0} → ℕ → Row T → List ℕ
+row_links server row = flat_map (links_on server) (sides row)
 
 -- the link of an attempt to this server: 0 over UDP; over TCP that of an attempt in flight, or else a new one
 abbrev pub link_with : {T : Type 0} → List (Row T) → Bool → ℕ → ℕ → ℕ
-link_with rows over_tcp server greatest = if over_tcp then unwrap_or (first (flat_map (links_on server) rows)) (greatest + 1) else 0
+link_with rows over_tcp server greatest = if over_tcp then unwrap_or (first (flat_map (row_links server) rows)) (greatest + 1) else 0
 
 -- the servers in use
 abbrev pub used_of : Options → List ServerKey → List ServerKey
@@ -48,41 +57,49 @@ first_place options starts used = if options.rotate then starts % used else 0
 abbrev pub server_with : Option ℕ → ℕ → ℕ → List Failing → ℕ
 server_with forced used place counts = unwrap_or forced (least_of (from_place place (take used counts)))
 
--- the row has no attempt in flight, and this number, leg, state and mark
-pub record IsIdle {T : Type 0} (row : Row T) (idle : Idle) : Type 0 where
-  pub own : leg_of_row row ≡ leg_of idle.number idle.leg_number
-  pub leg : row.leg ≡ idle.leg
-  pub begun : row.begun ≡ idle.begun
-  pub lands : flying_of row ≡ None
+-- a side of the row at this index that waits
+abbrev pub idle_of : ℕ → Bool → Side → Idle
+idle_of index second side = record { index = index; is_second = second; number = side.number; leg_number = side.leg_number; leg = side.leg; begun = side.begun }
 
--- the row at an index is the first that waits
+-- a side of the row waits, and has this number, leg, state and mark
+pub record IsIdle {T : Type 0} (row : Row T) (idle : Idle) : Type 0 where
+  pub side : Side
+  pub at : side_at idle.is_second row ≡ Some side
+  pub own : leg_of_side side ≡ leg_of idle.number idle.leg_number
+  pub leg : side.leg ≡ idle.leg
+  pub begun : side.begun ≡ idle.begun
+  pub waiting : waits side ≡ true
+  pub firsts : first (row_waits row) ≡ Some (leg_of idle.number idle.leg_number)
+
+-- it is the first side of the row at this index that waits, or none does
+abbrev pub FindsIdleSide : {T : Type 0} → ℕ → Row T → Option Idle → Type 0
+FindsIdleSide index row None = row_waits row ≡ []
+FindsIdleSide index row (Some idle) = (idle.index ≡ index) × IsIdle row idle
+
+-- the row at an index has the first side that waits
 pub record FindsAt {T : Type 0} (rows : List (Row T)) (idle : Idle) : Type 0 where
   pub inside : idle.index < length rows
   pub is : (d : Row T) → IsIdle (get_or rows idle.index d) idle
-  pub firsts : first (flat_map waits_of rows) ≡ Some (leg_of idle.number idle.leg_number)
+  pub firsts : first (flat_map row_waits rows) ≡ Some (leg_of idle.number idle.leg_number)
 
 -- it is the first that waits, or none does
 abbrev pub FindsIdle : {T : Type 0} → List (Row T) → Option Idle → Type 0
-FindsIdle rows None = flat_map waits_of rows ≡ []
+FindsIdle rows None = flat_map row_waits rows ≡ []
 FindsIdle rows (Some idle) = FindsAt rows idle
 
 -- the identifier is the first from the word upwards that no row has, or the rows have all
 abbrev pub IsFree : {T : Type 0} → List (Row T) → ℕ → Option ℕ → Type 0
-IsFree rows word None = (id : ℕ) → id < 2 ^ 16 → list_any (has_id id) rows ≡ true
+IsFree rows word None = (id : ℕ) → id < 2 ^ 16 → list_any (row_has_id id) rows ≡ true
 IsFree rows word (Some id) =
-    (steps : ℕ) × (steps < 2 ^ 16) × (id ≡ (word + steps) % 2 ^ 16) × (list_any (has_id id) rows ≡ false) × ((step : ℕ) → step < steps → list_any (has_id ((word + step) % 2 ^ 16)) rows ≡ true)
+    (steps : ℕ) × (steps < 2 ^ 16) × (id ≡ (word + steps) % 2 ^ 16) × (list_any (row_has_id id) rows ≡ false) × ((step : ℕ) → step < steps → list_any (row_has_id ((word + step) % 2 ^ 16)) rows ≡ true)
 
--- the leg of the row at this index waits
-abbrev pub WaitsAt : {T : Type 0} → ℕ → List (Row T) → Type 0
-WaitsAt index rows = (d : Row _) → IsWaiting (get_or rows index d).leg.phase
+-- the leg of this side of the row at this index waits
+abbrev pub WaitsAt : {T : Type 0} → ℕ → Bool → List (Row T) → Type 0
+WaitsAt index second rows = (d : Row _) → IfSome (side_at second (get_or rows index d)) (λ (side : Side). IsWaiting side.leg.phase)
 
--- the row with this attempt in flight
-abbrev pub begun_row : {T : Type 0} → Flying → Row T → Row T
-begun_row flying row = record row { leg = record row.leg { phase = phases.InFlight flying }; begun = true }
-
--- the attempt of the row at this index has begun
-pub record BeginsRow {T : Type 0} (flying : Flying) (index : ℕ) (rows new_rows : List (Row T)) : Type 0 where
+-- the attempt of this side of the row at this index has begun
+pub record BeginsRow {T : Type 0} (flying : Flying) (index : ℕ) (second : Bool) (rows new_rows : List (Row T)) : Type 0 where
   pub row : Row T
   pub is : (d : Row T) → get_or rows index d ≡ row
   pub parts : rows ≡ take index rows ++ row ∷ drop (index + 1) rows
-  pub becomes : new_rows ≡ take index rows ++ begun_row flying row ∷ drop (index + 1) rows
+  pub becomes : new_rows ≡ take index rows ++ begun_row flying second row ∷ drop (index + 1) rows

@@ -1,15 +1,17 @@
 //! What the answer of a request is made of.
 
-ghost use Rattle.std.specs.Prelude.{◌≡◌, All, Some, None, IfOk};
+ghost use Rattle.std.specs.Prelude.{◌≡◌, All, IfOk, Some, option_map};
 ghost use Rattle.addr_lookup.specs.Ends.{AreWellFormed, IsEnd};
-ghost use Rattle.channel_model.specs.Merge.{answers_of, bare, same_status};
+ghost use Rattle.channel_model.specs.Merge.{answers_of, bare, merged, same_status};
 ghost use Rattle.chan_types.specs.declared.status.Status.TheVariants as statuses;
 ghost use Rattle.dns_message.specs.Validity.{IsValid, IsWellFormed};
 ghost use Rattle.edns_opt.specs.Reading.{opt_of};
 ghost use Rattle.channel_table.specs.Aims.{aim_of, answer_of_ends, first_number, is_of_addresses};
-ghost use Rattle.channel_table.specs.Aims.{answers_with};
+ghost use Rattle.channel_table.specs.Aims.{answers_with, setting_with};
 ghost use Rattle.channel_table.specs.declared.aim.Aim.TheVariants.{Addresses};
+ghost use Rattle.channel_table.specs.Sides.{ended_seen};
 
+use crate::side::Ended;
 use addr_lookup::{LegEnd, merge};
 use chan_types::{Answer, Bytes, NoMemory, Spec, Status};
 use dns_message::{Message, MessageFault, Name, RecordList, decode};
@@ -59,29 +61,38 @@ impl Aim {
     }
 }
 
-/// The answer of a candidate of a request of this number, whose one leg ended with this status and these bytes.
+/// The answer of a candidate of a request of this number, whose legs have ended so, if those have that it has.
 pub fn answer_of(
     alloc: Global,
     options: &Options,
     number: u64,
     aim: Aim,
     name: &Name,
-    status: Status,
-    bytes: &[u8],
+    left: Option<Ended<'_>>,
+    right: Option<Ended<'_>>,
 ) -> Result<Option<Answer>, NoMemory>
     ensures { IfOk result (λ answer. answer
-        ≡ answer_of_ends options.now number aim name.now (Some (record { status = status; reply = bytes.now })) None) }
+        ≡ answer_of_ends options.now number aim name.now (option_map ended_seen left.entry)
+        (option_map ended_seen right.entry)) }
 {
+    let Some(left) = left else {
+        return Ok(None);
+    };
     match aim {
-        Aim::Reply => Ok(Some(bare_answer(alloc, number, status, Bytes::of(alloc, bytes)?))),
+        Aim::Reply => Ok(Some(bare_answer(
+            alloc,
+            number,
+            left.status,
+            Bytes::of(alloc, left.reply)?,
+        ))),
         Aim::Addresses(family, nosort) => {
-            addresses_answer(alloc, options, number, family, nosort, name, status, bytes)
+            addresses_answer(alloc, options, number, family, nosort, name, left, right)
         }
     }
 }
 
-/// The same, where the answer is made of addresses: of a request of this number, for those of this family, as they stood
-/// or sorted.
+/// The same, where the answer is made of the addresses of this family, as they stood or sorted, and the first leg has
+/// ended.
 fn addresses_answer(
     alloc: Global,
     options: &Options,
@@ -89,25 +100,49 @@ fn addresses_answer(
     family: Family,
     nosort: bool,
     name: &Name,
-    status: Status,
-    bytes: &[u8],
+    left: Ended<'_>,
+    right: Option<Ended<'_>>,
 ) -> Result<Option<Answer>, NoMemory>
     ensures { IfOk result (λ answer. answer
-        ≡ answer_of_ends options.now number (Addresses family nosort) name.now (Some (record { status = status; reply = bytes.now })) None) }
+        ≡ answer_of_ends options.now number (Addresses family nosort) name.now
+        (Some (ended_seen left.entry)) (option_map ended_seen right.entry)) }
 {
     match family {
-        Family::Any => Ok(None),
+        Family::Any => both_answer(alloc, options, number, nosort, name, left, right),
         Family::V4 => {
-            let end = end_of(alloc, status, bytes)?;
+            let end = end_of(alloc, left)?;
             let answer = merge(alloc, number, &end, &LegEnd::Unused, name, options, nosort)?;
             Ok(Some(answer))
         }
         Family::V6 => {
-            let end = end_of(alloc, status, bytes)?;
+            let end = end_of(alloc, left)?;
             let answer = merge(alloc, number, &LegEnd::Unused, &end, name, options, nosort)?;
             Ok(Some(answer))
         }
     }
+}
+
+/// The same for both families.
+fn both_answer(
+    alloc: Global,
+    options: &Options,
+    number: u64,
+    nosort: bool,
+    name: &Name,
+    left: Ended<'_>,
+    right: Option<Ended<'_>>,
+) -> Result<Option<Answer>, NoMemory>
+    ensures { IfOk result (λ answer. answer
+        ≡ option_map (merged (setting_with options.now) number nosort name.now (ended_seen left.entry))
+        (option_map ended_seen right.entry)) }
+{
+    let Some(right) = right else {
+        return Ok(None);
+    };
+    let left = end_of(alloc, left)?;
+    let right = end_of(alloc, right)?;
+    let answer = merge(alloc, number, &left, &right, name, options, nosort)?;
+    Ok(Some(answer))
 }
 
 /// An answer with a status and a message alone. It takes no memory.
@@ -123,17 +158,17 @@ pub fn bare_answer(alloc: Global, number: u64, status: Status, message: Bytes) -
     }
 }
 
-/// The end of a leg with this status, which a reply of these bytes ended.
-fn end_of(alloc: Global, status: Status, bytes: &[u8]) -> Result<LegEnd, NoMemory>
-    ensures is { IfOk result (λ end. IsEnd end (record { status = status; reply = bytes.now })) }
+/// The end of a leg with the answers of its reply.
+fn end_of(alloc: Global, ended: Ended<'_>) -> Result<LegEnd, NoMemory>
+    ensures is { IfOk result (λ end. IsEnd end (ended_seen ended.entry)) }
     ensures formed { IfOk result AreWellFormed }
 {
-    let records = if is_success(status) {
-        answers_in(alloc, bytes)?
+    let records = if is_success(ended.status) {
+        answers_in(alloc, ended.reply)?
     } else {
         RecordList::new(alloc)
     };
-    Ok(LegEnd::Ended(status, records))
+    Ok(LegEnd::Ended(ended.status, records))
 }
 
 /// The status is that of an answer.

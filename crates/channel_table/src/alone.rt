@@ -63,7 +63,6 @@ impl<T: Token> Desk for Alone<T> {
 
     ghost known = { known_by_owner };
 
-    /// Accepts a request. One for addresses of both families is refused as for want of memory, until the table has two legs.
     fn accept(&mut self, spec: Spec, token: T) -> Result<u64, Refused<T>> {
         self.table.accept(0, self.voice, spec, token)
     }

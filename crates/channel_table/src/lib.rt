@@ -4,12 +4,11 @@
 mod aim;
 mod alone;
 mod row;
+mod side;
 mod table;
 
 pub use aim::Aim;
 pub use alone::Alone;
 pub use row::Row;
+pub use side::{Hits, Side};
 pub use table::Table;
-
-#[cfg(test)]
-mod tests;

@@ -1,37 +1,33 @@
 //! A request that isn't completed.
 
-ghost use Rattle.std.specs.Prelude.{◌≡◌, IfOk, IsTrue};
+ghost use Rattle.std.specs.Prelude.{◌≡◌, IfOk, IfSome};
 ghost use Rattle.chan_types.specs.declared.status.Status.TheVariants as statuses;
 ghost use Rattle.channel_model.specs.Merge.{bare, same_status};
 ghost use Rattle.channel_model.specs.Search.{goes_on};
-ghost use Rattle.query_machine.specs.Legs.{IsInFlight};
-ghost use Rattle.channel_table.specs.After.{after, after_answer, answer_behind, has_next, last_status, next_row};
+ghost use Rattle.query_machine.specs.Legs.{IsWaiting, attempt_from};
+ghost use Rattle.channel_table.specs.After.{after, after_answer, answer_behind, has_next, last_status, next_row, sides_behind};
+ghost use Rattle.channel_table.specs.Rows.{begun_row, side_at};
 
 use crate::aim::{Aim, answer_of, bare_answer};
+use crate::side::{Hits, Side};
 use chan_types::{Answer, Bytes, Call, NoMemory, Status, Ticket, Token};
 use channel_model::Judged;
-use dns_message::{NameList, Question};
 use query_machine::Leg;
 use resolv_options::Options;
 use std::alloc::Global;
-use std::mem;
 
-/// A request that isn't completed: its number, the question of its current candidate, and what its ticket will be made of.
+/// A request that isn't completed: its number, the questions of its current candidate, and what its ticket will be made
+/// of.
 #[derive(Drop)]
 pub struct Row<T: Token> {
     pub number: u64,
     /// What its answer is made of.
     pub aim: Aim,
-    /// The number of the current candidate's leg.
-    pub leg_number: u8,
-    pub question: Question,
-    /// The candidates behind the current one.
-    pub names: NameList,
+    pub first: Side,
+    /// The question for AAAA records, beside that for A records.
+    pub second: Option<Side>,
     /// A candidate before the current one ended without data.
     pub empty: bool,
-    pub leg: Leg,
-    /// The leg has had an attempt.
-    pub begun: bool,
     pub token: T,
     pub call: Call,
 }
@@ -46,55 +42,114 @@ pub enum After<T: Token> {
 }
 
 impl<T: Token> Row<T> {
-    /// The answer that the current candidate has behind the end of its attempt, which meant this and came with these bytes
-    /// or none, where a leg may spend so many attempts; or none, where it goes on.
+    /// The second side if it is asked for and there is one, else the first.
+    pub fn side(&self, is_second: bool) -> &Side
+        ensures { IfSome (side_at is_second self.now) (λ side. result.now ≡ side) }
+    {
+        match &self.second {
+            Some(side) if is_second => side,
+            Some(_) | None => &self.first,
+        }
+    }
+
+    /// An attempt of this side begins.
+    pub fn begin(
+        &mut self,
+        is_second: bool,
+        server: u32,
+        link: u64,
+        id: u16,
+        mix: Option<u16>,
+        at: u64,
+        wait: u64,
+    )
+        requires waits { IfSome (side_at is_second self.old) (λ side. IsWaiting side.leg.phase) }
+        ensures { self.new ≡ begun_row (attempt_from server link id mix at wait) is_second self.old }
+    {
+        if is_second {
+            if let Some(side) = &mut self.second {
+                side.begin(server, link, id, mix, at, wait);
+            }
+        } else {
+            self.first.begin(server, link, id, mix, at, wait);
+        }
+    }
+
+    /// The answer that the current candidate has behind the end of the attempts that an entry concerns, which meant
+    /// this and came with these bytes or none, where a leg may spend so many attempts; or none, where it goes on.
     pub fn answer_behind(
         &self,
         alloc: Global,
         options: &Options,
+        concerned: Hits,
         judged: Judged,
         bytes: &[u8],
         most: u32,
     ) -> Result<Option<Answer>, NoMemory>
-        requires flies { IsInFlight self.now.leg.phase }
-        ensures { IfOk result (λ answer. answer ≡ answer_behind options.now judged bytes.now most self.now) }
+        ensures { IfOk result (λ answer. answer
+            ≡ answer_behind options.now concerned judged bytes.now most self.now) }
     {
-        let mut leg = self.leg;
-        leg.reply(judged, most);
-        match leg.ended() {
-            None => Ok(None),
-            Some(status) => answer_of(
-                alloc,
-                options,
-                self.number,
-                self.aim,
-                &self.question.name,
-                status,
-                bytes,
-            ),
-        }
+        let left = self
+            .first
+            .ended_behind(concerned, false, judged, bytes, most);
+        let brought = if concerned.concerns(&self.first, false) {
+            &[]
+        } else {
+            bytes
+        };
+        let right = match &self.second {
+            None => None,
+            Some(side) => side.ended_behind(concerned, true, judged, brought, most),
+        };
+        answer_of(
+            alloc,
+            options,
+            self.number,
+            self.aim,
+            &self.first.question.name,
+            left,
+            right,
+        )
     }
 
-    /// The request behind the end of its attempt, which meant this, where a leg may spend so many attempts, and this is then
-    /// the answer of its current candidate, if it has one. It takes no memory.
-    pub fn end_attempt(
+    /// The request behind the end of the attempts that an entry concerns, which meant this and came with this reply or
+    /// none, where a leg may spend so many attempts, and this is then the answer of its current candidate, if it has
+    /// one. It takes no memory.
+    pub fn end_attempts(
         self,
         alloc: Global,
         options: &Options,
+        concerned: Hits,
         judged: Judged,
+        reply: Bytes,
         most: u32,
         answer: Option<Answer>,
     ) -> After<T>
-        requires flies { IsInFlight self.leg.phase }
-        ensures { result ≡ after options.now.flags judged most self answer }
+        ensures { result ≡ after options.now.flags concerned judged reply most self answer }
     {
         match answer {
             None => {
                 let mut row = self;
-                row.leg.reply(judged, most);
+                row.close(alloc, concerned, judged, reply, most);
                 After::Stays(row)
             }
             Some(answer) => self.end_candidate(alloc, options, answer),
+        }
+    }
+
+    /// Ends the attempts that an entry concerns, which meant this and came with this reply or none, where a leg may
+    /// spend so many. It takes no memory.
+    pub fn close(&mut self, alloc: Global, concerned: Hits, judged: Judged, reply: Bytes, most: u32)
+        ensures { self.new ≡ sides_behind concerned judged reply most self.old }
+    {
+        let (one, two) = if concerned.concerns(&self.first, false) {
+            (reply, Bytes::new(alloc))
+        } else {
+            (Bytes::new(alloc), reply)
+        };
+        self.first.close(concerned, false, judged, one, most);
+        if let Some(side) = &mut self.second {
+            side.close(concerned, true, judged, two, most);
         }
     }
 
@@ -112,7 +167,10 @@ impl<T: Token> Row<T> {
 
     /// The ticket of the request, whose last candidate has this answer. It takes no memory.
     pub fn into_ticket(self, answer: Answer) -> Ticket<T>
-        ensures { result ≡ record { token = self.token; call = record answer { status = last_status self.empty answer.status } } }
+        ensures { result ≡ record {
+          token = self.token;
+          call = record answer { status = last_status self.empty answer.status };
+        } }
     {
         let Row {
             empty,
@@ -129,21 +187,18 @@ impl<T: Token> Row<T> {
     pub fn has_next(&self, status: Status) -> bool
         ensures { result ≡ has_next status self.now }
     {
-        goes_on(status) && !self.names.is_empty()
+        goes_on(status) && !self.first.names.is_empty()
     }
 
     /// Asks the next candidate by this leg, where the current one has ended with this status. It takes no memory.
     pub fn ask_next(&mut self, alloc: Global, status: Status, leg: Leg)
-        requires { IsTrue (has_next status self.old) }
         ensures { self.new ≡ next_row leg status self.old }
     {
-        let mut names = mem::replace(&mut self.names, NameList::new(alloc)).into_vec();
-        self.question.name = names.remove(0);
-        self.names = NameList::from_vec(names);
+        self.first.ask_next(alloc, leg);
+        if let Some(side) = &mut self.second {
+            side.ask_next(alloc, leg);
+        }
         self.empty = self.empty || has_no_data(status);
-        self.leg_number = self.leg_number.saturating_add(2);
-        self.leg = leg;
-        self.begun = false;
     }
 }
 

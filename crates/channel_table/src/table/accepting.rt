@@ -1,8 +1,9 @@
 //! Accepting a request: what it comes to, and the room that its later entries need.
 
-ghost use Rattle.std.specs.Prelude.{◌≡◌, ◌≢◌, ◌+◌, ◌*◌, ◌≤◌, [], ◌∷◌, IfOk, OnOk, Ok, vec_len, vec_capacity};
+ghost use Rattle.std.specs.Prelude.{◌≡◌, ◌≢◌, ◌+◌, ◌*◌, ◌≤◌, [], ◌∷◌, IfOk, OnOk, Ok, option_map, vec_len, vec_capacity};
 ghost use Rattle.channel_model.specs.Meanings.{Accepts};
-ghost use Rattle.channel_table.specs.Opening.{AreAsked, Opens, OpensHost, OpensName, OpensText, itself, searched};
+ghost use Rattle.channel_table.specs.Opening.{AreAsked, Opens, OpensHost, OpensName, OpensText, itself, searched, with_second};
+ghost use Rattle.channel_table.specs.Sides.{new_side};
 ghost use Rattle.channel_table.specs.Places.{Places};
 ghost use Rattle.addr_lookup.specs.Channels.{set_to};
 ghost use Rattle.channel_model.specs.Seen.{Happens};
@@ -10,6 +11,7 @@ ghost use Rattle.channel_model.specs.Seen.{Happens};
 use super::Table;
 use crate::aim::Aim;
 use crate::row::{Row, ticket_of, ticket_with};
+use crate::side::{Asked, Side};
 use addr_lookup::at_once;
 use chan_types::{
     Answer, Bytes, Call, Entry, NoMemory, Refusal, Script, Spec, Status, Ticket, Token, What,
@@ -26,11 +28,11 @@ use std::alloc::Global;
 /// The last label of the names that aren't asked (RFC 7686, section 2).
 const ONION: &[u8] = b"onion";
 
-/// What a request comes to at its Accept: the question of its first candidate and the names of the others; or at once its
-/// status; or at once its answer.
+/// What a request comes to at its Accept: the question of its first candidate and the names of the others, and for
+/// addresses of both families a second question; or at once its status; or at once its answer.
 #[derive(Drop)]
 pub enum Opening {
-    Asks(Question, NameList),
+    Asks(Asked, Option<Asked>),
     Ends(Status),
     Answered(Answer),
 }
@@ -44,9 +46,7 @@ struct Prepared {
 }
 
 impl<T: Token> Table<T> {
-    /// Accepts a request, and answers its number. A text that can't be asked is accepted too, and completes at once. A
-    /// request for addresses of both families that isn't answered at once is refused as for want of memory, until rows have
-    /// two legs.
+    /// Accepts a request, and answers its number. A text that can't be asked is accepted too, and completes at once.
     pub fn accept(&mut self, seat: u64, by: u64, spec: Spec, token: T) -> Result<u64, Refused<T>>
         ensures { Happens (Accepts T.plan spec token result) seat by self.old self.new }
     {
@@ -119,7 +119,8 @@ fn prepare<T: Token>(
     requires room { 2 * vec_len rows.old + vec_len ready.old ≤ vec_capacity entries.old }
     ensures opening { IfOk result (λ prepared. opening ≡ Ok prepared.opening) }
     ensures script { IfOk result (λ prepared. prepared.script ≡ T.plan token.now) }
-    ensures room { OnOk result (vec_len entries.new + 2 * vec_len rows.new + vec_len ready.new + 4 ≤ vec_capacity entries.new) }
+    ensures room { OnOk result
+        (vec_len entries.new + 2 * vec_len rows.new + vec_len ready.new + 4 ≤ vec_capacity entries.new) }
     ensures room_rows { OnOk result (vec_len rows.new + 1 ≤ vec_capacity rows.new) }
     ensures room_ready { OnOk result (vec_len rows.new + vec_len ready.new + 1 ≤ vec_capacity ready.new) }
     ensures same { (entries.new.items ≡ entries.old.items) × (rows.new.items ≡ rows.old.items)
@@ -142,7 +143,8 @@ fn prepare<T: Token>(
     })
 }
 
-/// Puts the request of this number, whose answer is made of this, among the pending ones, or among the ready ones. It takes no memory.
+/// Puts the request of this number, whose answer is made of this, among the pending ones, or among the ready ones. It
+/// takes no memory.
 fn place<T: Token>(
     alloc: Global,
     options: &Options,
@@ -156,22 +158,20 @@ fn place<T: Token>(
 )
     requires room_rows { vec_len rows.old + 1 ≤ vec_capacity rows.old }
     requires room_ready { vec_len rows.old + vec_len ready.old + 1 ≤ vec_capacity ready.old }
-    ensures places { Places options.now.flags number aim token rows.old.items rows.new.items ready.old.items ready.new.items opening }
+    ensures places { Places options.now.flags number aim token
+        rows.old.items rows.new.items ready.old.items ready.new.items opening }
     ensures most { vec_len rows.new ≤ vec_len rows.old + 1 }
     ensures len { vec_len rows.new + vec_len ready.new ≡ vec_len rows.old + vec_len ready.old + 1 }
     ensures capacity { vec_capacity ready.new ≡ vec_capacity ready.old }
 {
     let leg = Leg::new(options);
     match opening {
-        Opening::Asks(question, names) => rows.push_reserved(Row {
+        Opening::Asks(first, second) => rows.push_reserved(Row {
             number,
             aim,
-            leg_number: aim.first_number(),
-            question,
-            names,
+            first: Side::new(alloc, number, aim.first_number(), first, leg),
+            second: second_side(alloc, number, second, leg),
             empty: false,
-            leg,
-            begun: false,
             token,
             call,
         }),
@@ -179,6 +179,16 @@ fn place<T: Token>(
             ready.push_reserved(ticket_of(alloc, number, status, Bytes::new(alloc), token, call));
         }
         Opening::Answered(answer) => ready.push_reserved(ticket_with(answer, token, call)),
+    }
+}
+
+/// The second side of a new request, if it asks a second question.
+fn second_side(alloc: Global, number: u64, asked: Option<Asked>, leg: Leg) -> Option<Side>
+    ensures { result ≡ option_map (λ asked. new_side number 1 asked leg) asked }
+{
+    match asked {
+        Some(asked) => Some(Side::new(alloc, number, 1, asked, leg)),
+        None => None,
     }
 }
 
@@ -197,14 +207,15 @@ fn opening_of(
         Spec::Search { name, kind, class } => {
             search_of(alloc, options, name.as_slice(), *kind, *class)
         }
-        Spec::Reverse { address } => Ok(Opening::Asks(
-            Question {
+        Spec::Reverse { address } => {
+            let question = Question {
                 name: reverse_name(alloc, *address)?,
                 kind: KIND_PTR,
                 class: CLASS_IN,
-            },
-            NameList::new(alloc),
-        )),
+            };
+            let names = NameList::new(alloc);
+            Ok(Opening::Asks(Asked { question, names }, None))
+        }
         Spec::Address { host, family, .. } => match at_once(alloc, spec, number, options, hosts)? {
             Some(answer) => Ok(Opening::Answered(answer)),
             None => addresses_of(alloc, options, host.as_slice(), *family),
@@ -222,9 +233,26 @@ fn addresses_of(
     ensures { IfOk result (OpensHost options.now host.now family) }
 {
     match family {
-        Family::Any => Err(NoMemory),
+        Family::Any => {
+            let opening = search_of(alloc, options, host, KIND_A, CLASS_IN)?;
+            with_second(alloc, opening)
+        }
         Family::V4 => search_of(alloc, options, host, KIND_A, CLASS_IN),
         Family::V6 => search_of(alloc, options, host, KIND_AAAA, CLASS_IN),
+    }
+}
+
+/// What the name of a host comes to whose addresses of both families are asked for, by what it comes to for A records.
+fn with_second(alloc: Global, opening: Opening) -> Result<Opening, NoMemory>
+    ensures { IfOk result (λ both. both ≡ with_second opening) }
+{
+    match opening {
+        Opening::Asks(first, _) => {
+            let second = first.with_kind(alloc, KIND_AAAA)?;
+            Ok(Opening::Asks(first, Some(second)))
+        }
+        Opening::Ends(status) => Ok(Opening::Ends(status)),
+        Opening::Answered(answer) => Ok(Opening::Answered(answer)),
     }
 }
 
@@ -246,7 +274,9 @@ fn opening_for(alloc: Global, name: Name, kind: u16, class: u16) -> Opening
     if name.last_is(ONION) {
         Opening::Ends(Status::NotFound)
     } else {
-        Opening::Asks(Question { name, kind, class }, NameList::new(alloc))
+        let question = Question { name, kind, class };
+        let names = NameList::new(alloc);
+        Opening::Asks(Asked { question, names }, None)
     }
 }
 
@@ -291,5 +321,7 @@ fn first_asked(names: NameList, kind: u16, class: u16) -> Opening
 {
     let mut rest = names.into_vec();
     let name = rest.remove(0);
-    Opening::Asks(Question { name, kind, class }, NameList::from_vec(rest))
+    let question = Question { name, kind, class };
+    let names = NameList::from_vec(rest);
+    Opening::Asks(Asked { question, names }, None)
 }

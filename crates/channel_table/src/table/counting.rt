@@ -1,13 +1,17 @@
 //! How many requests and attempts there are.
 
-ghost use Rattle.std.specs.Prelude.{◌≡◌, count_by};
+ghost use Rattle.std.specs.Prelude.{◌≡◌, ◌≤◌, cond};
+ghost use Rattle.std.specs.List.{sum_by};
 ghost use Rattle.channel_model.specs.Meanings.{TellsCounts};
-ghost use Rattle.channel_table.specs.Rows.{is_flying};
 ghost use Rattle.channel_model.specs.Seen.{Happens};
+ghost use Rattle.channel_table.specs.Listing.{has_left};
+ghost use Rattle.channel_table.specs.Sought.{is_sought, sought_in};
 
 use super::Table;
+use super::listing::has_key;
 use crate::row::Row;
-use chan_types::Token;
+use crate::side::Side;
+use chan_types::{ServerKey, Token};
 use channel_model::Counts;
 use query_machine::Phase;
 
@@ -16,36 +20,79 @@ impl<T: Token> Table<T> {
     pub fn counts(&self) -> Counts
         ensures { Happens (TellsCounts result) 0 0 self.now self.now }
     {
-        let pending = self.rows.len() as u64;
-        let flying = flying_count(self.rows.as_slice());
         Counts {
-            pending,
+            pending: self.rows.len() as u64,
             ready: self.ready.len() as u64,
-            waiting: pending - flying,
-            flying,
+            waiting: count_sides(self.rows.as_slice(), Sought::Waiting),
+            flying: count_sides(self.rows.as_slice(), Sought::Flying),
         }
     }
 }
 
-/// How many of the rows have an attempt in flight.
-fn flying_count<T: Token>(rows: &[Row<T>]) -> u64
-    ensures { result ≡ count_by is_flying rows.now }
+/// Which sides of the rows are counted.
+#[derive(Clone, Copy)]
+pub enum Sought<'a> {
+    /// Those whose leg waits.
+    Waiting,
+    /// Those that have an attempt in flight.
+    Flying,
+    /// Those that have one on this server over this link.
+    Over(u32, u64),
+    /// Those that have one on a server that isn't in this list.
+    Left(&'a [ServerKey]),
+}
+
+impl Sought<'_> {
+    /// The side is counted.
+    fn counts(self, side: &Side) -> bool
+        ensures { result ≡ is_sought self.entry side.now }
+    {
+        match self {
+            Sought::Waiting => side.waits(),
+            Sought::Flying => side.is_flying(),
+            Sought::Over(server, link) => side.flew_over(server, link),
+            Sought::Left(list) => has_left(side, list),
+        }
+    }
+}
+
+/// The side has an attempt on a server that isn't in the list.
+fn has_left(side: &Side, list: &[ServerKey]) -> bool
+    ensures { result ≡ has_left list.now side.now }
+{
+    match side.leg.phase {
+        Phase::InFlight(flying) => !has_key(list, flying.server),
+        Phase::Waiting | Phase::Ended(_) => false,
+    }
+}
+
+/// How many sides of the rows are counted.
+pub fn count_sides<T: Token>(rows: &[Row<T>], sought: Sought<'_>) -> u64
+    ensures { result ≡ sum_by (sought_in sought.entry) rows.now }
 {
     let mut count: u64 = 0;
     for row in rows {
-        if is_flying(row) {
-            count += 1;
-        }
+        count += count_in(row, sought);
     }
     count
 }
 
-/// The row has an attempt in flight.
-pub fn is_flying<T: Token>(row: &Row<T>) -> bool
-    ensures { result ≡ is_flying row.now }
+/// How many sides of the row are counted.
+fn count_in<T: Token>(row: &Row<T>, sought: Sought<'_>) -> u64
+    ensures value { result ≡ sought_in sought.entry row.now }
+    ensures few { result ≤ 2 }
 {
-    match row.leg.phase {
-        Phase::InFlight(_) => true,
-        Phase::Waiting | Phase::Ended(_) => false,
-    }
+    let first = sought.counts(&row.first);
+    let second = match &row.second {
+        Some(side) => sought.counts(side),
+        None => false,
+    };
+    one_if(first) + one_if(second)
+}
+
+/// 1 where it is so, else 0.
+fn one_if(so: bool) -> u64
+    ensures { result ≡ cond so 1 0 }
+{
+    if so { 1 } else { 0 }
 }

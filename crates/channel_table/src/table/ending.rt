@@ -2,12 +2,13 @@
 
 ghost use Rattle.std.specs.Prelude.{◌≡◌, ◌≤◌, ◌<◌, ◌+◌, ◌++◌, [], map, vec_len, vec_capacity};
 ghost use Rattle.channel_model.specs.Meanings.{Cancels, Destroys};
-ghost use Rattle.channel_table.specs.Ends.{EndsRow, FliesAt};
+ghost use Rattle.channel_table.specs.Ends.{EndsRow};
 ghost use Rattle.channel_table.specs.Rows.{ended_with};
 ghost use Rattle.channel_model.specs.Seen.{Happens};
 
 use super::Table;
 use crate::row::{Row, ticket_of};
+use crate::side::Hits;
 use chan_types::{Answer, Bytes, Entry, Status, Ticket, Token, What};
 use channel_model::Judged;
 use query_machine::Leg;
@@ -38,8 +39,8 @@ impl<T: Token> Table<T> {
         count
     }
 
-    /// Destroys the channel and completes every pending request so. Answers whether it was the first to do so. It takes no
-    /// memory.
+    /// Destroys the channel and completes every pending request so. Answers whether it was the first to do so. It takes
+    /// no memory.
     pub fn destroy(&mut self, seat: u64, by: u64) -> bool
         ensures { Happens (Destroys result) seat by self.old self.new }
     {
@@ -94,32 +95,31 @@ fn ended<T: Token>(alloc: Global, row: Row<T>, status: Status) -> Ticket<T>
     ticket_of(alloc, number, status, Bytes::new(alloc), token, call)
 }
 
-/// Ends the attempt of the row at this index, which meant this, where a leg may spend so many attempts, and this is then the
-/// answer of its current candidate, if it has one. It takes no memory.
+/// Ends the attempts of the row at this index that an entry concerns, which meant this and came with this reply or
+/// none, where a leg may spend so many attempts, and this is then the answer of its current candidate, if it has one.
+/// It takes no memory.
 pub fn end_row<T: Token>(
     alloc: Global,
     options: &Options,
     rows: &mut Vec<Row<T>>,
     ready: &mut Vec<Ticket<T>>,
     index: usize,
+    concerned: Hits,
     judged: Judged,
+    reply: Bytes,
     most: u32,
     answer: Option<Answer>,
 )
     requires inside { index < vec_len rows.old }
-    requires flies { FliesAt index rows.old.items }
     requires room { vec_len rows.old + vec_len ready.old ≤ vec_capacity ready.old }
-    ensures ends { EndsRow options.now.flags judged answer most index rows.old.items ready.old.items rows.new.items ready.new.items }
+    ensures ends { EndsRow options.now.flags concerned judged reply most answer index
+        rows.old.items ready.old.items rows.new.items ready.new.items }
     ensures fewer { vec_len rows.new ≤ vec_len rows.old }
     ensures len { vec_len rows.new + vec_len ready.new ≡ vec_len rows.old + vec_len ready.old }
     ensures capacity { vec_capacity ready.new ≡ vec_capacity ready.old }
 {
     match answer {
-        None => {
-            let mut leg = rows[index].leg;
-            leg.reply(judged, most);
-            rows[index].leg = leg;
-        }
+        None => rows[index].close(alloc, concerned, judged, reply, most),
         Some(answer) => {
             if rows[index].has_next(answer.status) {
                 rows[index].ask_next(alloc, answer.status, Leg::new(options));

@@ -1,35 +1,21 @@
 //! A fault of a link: every attempt over it fails.
 
 ghost use Rattle.std.specs.List.{list_any};
-ghost use Rattle.std.specs.Prelude.{◌≡◌, ◌≢◌, ◌≤◌, ◌+◌, ◌==◌, ◌++◌, if◌then◌else◌, IfOk, IsTrue, count_by, filter_map, map, vec_len, vec_capacity};
+ghost use Rattle.std.specs.Prelude.{◌≡◌, ◌≢◌, ◌≤◌, ◌+◌, ◌==◌, ◌++◌, if◌then◌else◌, IfOk, IsTrue, filter_map, map, vec_len, vec_capacity};
 ghost use Rattle.query_machine.specs.Servers.{one_more, recounted};
-ghost use Rattle.channel_table.specs.Failing.{answer_over, fails_at, fails_with, kept_of, ticket_made};
-ghost use Rattle.channel_table.specs.Rows.{flew_over};
+ghost use Rattle.channel_table.specs.Failing.{answer_over, fails_at, kept_of, ticket_made};
 
-use super::seeking::flew_over;
 use crate::row::{After, Row};
-use chan_types::{Answer, NoMemory, Status, Ticket, Token};
+use crate::side::Hits;
+use chan_types::{Answer, Bytes, NoMemory, Status, Ticket, Token};
 use channel_model::Judged;
 use query_machine::Servers;
 use resolv_options::Options;
 use std::alloc::Global;
 use std::mem;
 
-/// How many of the rows have an attempt in flight on this server over this link.
-pub fn count_over<T: Token>(rows: &[Row<T>], server: u32, link: u64) -> u64
-    ensures { result ≡ count_by (flew_over server link) rows.now }
-{
-    let mut count: u64 = 0;
-    for row in rows {
-        if flew_over(row, server, link) {
-            count += 1;
-        }
-    }
-    count
-}
-
 /// The answers that the current candidates of the rows have where the attempts fail that went to this server over this
-/// link, and a leg may spend so many attempts: none for a row that isn't concerned or goes on.
+/// link, and a leg may spend so many attempts: none for a row that goes on.
 pub fn answers_over<T: Token>(
     alloc: Global,
     options: &Options,
@@ -42,37 +28,22 @@ pub fn answers_over<T: Token>(
 {
     let mut answers = Vec::with_capacity(alloc, rows.len())?;
     for index in 0..rows.len() {
-        let answer = answer_over(alloc, options, &rows[index], server, link, most)?;
+        let answer = rows[index].answer_behind(
+            alloc,
+            options,
+            Hits::Over(server, link),
+            Judged::Failed(Status::ConnRefused),
+            &[],
+            most,
+        )?;
         answers.push(answer)?;
     }
     Ok(answers)
 }
 
-/// The answer that the current candidate of a row then has, or none.
-fn answer_over<T: Token>(
-    alloc: Global,
-    options: &Options,
-    row: &Row<T>,
-    server: u32,
-    link: u64,
-    most: u32,
-) -> Result<Option<Answer>, NoMemory>
-    ensures { IfOk result (λ answer. answer ≡ answer_over options.now server link most row.now) }
-{
-    if !flew_over(row, server, link) {
-        return Ok(None);
-    }
-    row.answer_behind(
-        alloc,
-        options,
-        Judged::Failed(Status::ConnRefused),
-        &[],
-        most,
-    )
-}
-
-/// Fails the attempts that went to this server over this link, where a leg may spend so many attempts and the rows' current
-/// candidates then have these answers: the rows that go on are kept in order, and the others get ready. It takes no memory.
+/// Fails the attempts that went to this server over this link, where a leg may spend so many attempts and the rows'
+/// current candidates then have these answers: the rows that go on are kept in order, and the others get ready. It
+/// takes no memory.
 pub fn fail_all<T: Token>(
     alloc: Global,
     options: &Options,
@@ -88,8 +59,10 @@ pub fn fail_all<T: Token>(
     requires room_kept { vec_len rows.old ≤ vec_capacity kept }
     requires answers { answers.items ≡ map (answer_over options.now server link most) rows.old.items }
     requires room { vec_len rows.old + vec_len ready.old ≤ vec_capacity ready.old }
-    ensures rows { rows.new.items ≡ filter_map kept_of (map (fails_at options.now server link most) rows.old.items) }
-    ensures tickets { ready.new.items ≡ ready.old.items ++ filter_map ticket_made (map (fails_at options.now server link most) rows.old.items) }
+    ensures rows { rows.new.items
+        ≡ filter_map kept_of (map (fails_at options.now server link most) rows.old.items) }
+    ensures tickets { ready.new.items ≡ ready.old.items
+        ++ filter_map ticket_made (map (fails_at options.now server link most) rows.old.items) }
     ensures fewer { vec_len rows.new ≤ vec_len rows.old }
     ensures len { vec_len rows.new + vec_len ready.new ≡ vec_len rows.old + vec_len ready.old }
     ensures capacity { vec_capacity ready.new ≡ vec_capacity ready.old }
@@ -98,36 +71,21 @@ pub fn fail_all<T: Token>(
     let mut answers = answers;
     for row in mem::replace(rows, Vec::new(alloc)) {
         let answer = answers.remove(0);
-        match fail_one(alloc, options, row, server, link, most, answer) {
+        let failed = row.end_attempts(
+            alloc,
+            options,
+            Hits::Over(server, link),
+            Judged::Failed(Status::ConnRefused),
+            Bytes::new(alloc),
+            most,
+            answer,
+        );
+        match failed {
             After::Stays(row) => kept.push_reserved(row),
             After::Ends(ticket) => ready.push_reserved(ticket),
         }
     }
     *rows = kept;
-}
-
-/// What a fault of this server's link makes of a row, whose current candidate then has this answer, if it has one.
-fn fail_one<T: Token>(
-    alloc: Global,
-    options: &Options,
-    row: Row<T>,
-    server: u32,
-    link: u64,
-    most: u32,
-    answer: Option<Answer>,
-) -> After<T>
-    ensures { result ≡ fails_with options.now.flags server link most answer row }
-{
-    if !flew_over(&row, server, link) {
-        return After::Stays(row);
-    }
-    row.end_attempt(
-        alloc,
-        options,
-        Judged::Failed(Status::ConnRefused),
-        most,
-        answer,
-    )
 }
 
 /// Counts a fault of this server's link over which so many attempts were in flight: they count as one, if there is one.

@@ -1,13 +1,13 @@
 //! Which attempt a message answers.
 
-ghost use Rattle.std.specs.Prelude.{◌≡◌, ◌==◌, Some, None, IfOk, is_some, not, option_map};
+ghost use Rattle.std.specs.Prelude.{◌≡◌, Some, None, IfOk, is_some, option_map};
 ghost use Rattle.channel_model.specs.Flight.{answer_to, asked_with};
-ghost use Rattle.channel_model.specs.Verdict.{verdict_of};
 ghost use Rattle.query_machine.specs.Replies.{reply_seen};
-ghost use Rattle.channel_table.specs.Arriving.{Finds, judged_of};
+ghost use Rattle.channel_table.specs.Arriving.{Finds, RowFinds, judged_of, landing_of};
 
-use super::seeking::flew_over;
+use crate::aim::Aim;
 use crate::row::Row;
+use crate::side::Side;
 use chan_types::{NoMemory, Token};
 use channel_model::Judged;
 use dns_message::Question;
@@ -15,16 +15,17 @@ use query_machine::{Flying, Phase, Reply, matching, verdict};
 use resolv_options::Flags;
 use std::alloc::Global;
 
-/// The row that a message answers, and what that means for its leg.
+/// The side that a message answers, and what that means for its leg.
 #[derive(Clone, Copy, Debug, PartialEq, Eq)]
 pub struct Landing {
     pub index: usize,
+    pub is_second: bool,
     pub number: u64,
     pub leg_number: u8,
     pub judged: Judged,
 }
 
-/// The row whose attempt the message from this server over this link answers.
+/// The side whose attempt the message from this server over this link answers.
 pub fn find_landing<T: Token>(
     alloc: Global,
     rows: &[Row<T>],
@@ -36,44 +37,85 @@ pub fn find_landing<T: Token>(
     ensures { IfOk result (Finds flags server link bytes.now rows.now) }
 {
     for index in 0..rows.len() {
-        if let Some(judged) = judged_of(alloc, &rows[index], flags, server, link, bytes)? {
-            return Ok(Some(Landing {
-                index,
-                number: rows[index].number,
-                leg_number: rows[index].leg_number,
-                judged,
-            }));
+        if let Some(landing) = row_landing(
+            alloc,
+            &rows[index],
+            index,
+            flags,
+            server,
+            link,
+            bytes,
+        )? {
+            return Ok(Some(landing));
         }
     }
     Ok(None)
 }
 
-/// What the message means for the row's leg, where it answers its attempt.
-fn judged_of<T: Token>(
+/// The side of the row at this index that the message answers.
+fn row_landing<T: Token>(
     alloc: Global,
     row: &Row<T>,
+    index: usize,
+    flags: Flags,
+    server: u32,
+    link: u64,
+    bytes: &[u8],
+) -> Result<Option<Landing>, NoMemory>
+    ensures { IfOk result (RowFinds flags server link bytes.now index row.now) }
+{
+    if let Some(judged) = judged_of(alloc, row.aim, &row.first, flags, server, link, bytes)? {
+        return Ok(Some(landing_of(&row.first, index, false, judged)));
+    }
+    let Some(side) = &row.second else {
+        return Ok(None);
+    };
+    match judged_of(alloc, row.aim, side, flags, server, link, bytes)? {
+        Some(judged) => Ok(Some(landing_of(side, index, true, judged))),
+        None => Ok(None),
+    }
+}
+
+/// A side of the row at this index that a message answers, which means this.
+fn landing_of(side: &Side, index: usize, is_second: bool, judged: Judged) -> Landing
+    ensures { result ≡ landing_of index is_second judged side.now }
+{
+    Landing {
+        index,
+        is_second,
+        number: side.number,
+        leg_number: side.leg_number,
+        judged,
+    }
+}
+
+/// What the message means for the side's leg, where it answers its attempt and the answer is made of this.
+fn judged_of(
+    alloc: Global,
+    aim: Aim,
+    side: &Side,
     flags: Flags,
     server: u32,
     link: u64,
     bytes: &[u8],
 ) -> Result<Option<Judged>, NoMemory>
-    ensures { IfOk result (λ judged. judged ≡ judged_of flags server link bytes.now row.now) }
+    ensures { IfOk result (λ judged. judged ≡ judged_of flags server link bytes.now aim side.now) }
 {
-    if !flew_over(row, server, link) {
+    if !side.flew_over(server, link) {
         return Ok(None);
     }
-    let Phase::InFlight(flying) = row.leg.phase else {
+    let Phase::InFlight(flying) = side.leg.phase else {
         return Ok(None);
     };
-    let found = reply_to(alloc, &row.question, flying, bytes)?;
+    let found = reply_to(alloc, &side.question, flying, bytes)?;
     match found {
         Some(reply) => Ok(Some(verdict(
             &reply,
             link != 0,
-            row.leg.has_opt,
+            side.leg.has_opt,
             flags,
-            row.question.kind,
-            row.aim.is_of_addresses(),
+            side.question.kind,
+            aim.is_of_addresses(),
         ))),
         None => Ok(None),
     }

@@ -1,12 +1,13 @@
 //! A new list of servers.
 
-ghost use Rattle.std.specs.Prelude.{◌≡◌, ◌+◌, ◌<◌, ◌≤◌, ◌^◌, ◌++◌, IfOk, OnOk, count_by, find, length, map, vec_len};
+ghost use Rattle.std.specs.Prelude.{◌≡◌, ◌+◌, ◌<◌, ◌≤◌, ◌^◌, ◌++◌, IfOk, OnOk, find, length, map, vec_len};
 ghost use Rattle.channel_model.specs.Meanings.{SetsServers};
 ghost use Rattle.channel_model.specs.Seen.{Happens};
 ghost use Rattle.channel_model.specs.Servers.{greatest_of, has_key, rekeyed, same_address, same_server, without_key};
-ghost use Rattle.channel_table.specs.Listing.{has_left, kept_in, leg_set, row_set};
+ghost use Rattle.channel_table.specs.Listing.{kept_in, leg_set, row_set};
 
 use super::Table;
+use super::counting::{Sought, count_sides};
 use super::moving::make_room;
 use crate::row::Row;
 use chan_types::{Entry, KeyList, NoMemory, ServerKey, Token, What};
@@ -19,8 +20,8 @@ use std::alloc::Global;
 const KEY_MOST: u32 = 0xffff_fff7;
 
 impl<T: Token> Table<T> {
-    /// Makes these servers the channel's list, and answers how many attempts that closed: those on servers that left it. A
-    /// server that stays keeps its key and the count of its failures.
+    /// Makes these servers the channel's list, and answers how many attempts that closed: those on servers that left
+    /// it. A server that stays keeps its key and the count of its failures.
     pub fn set_servers(&mut self, seat: u64, servers: &[ServerAddr]) -> Result<u64, SetFault>
         requires some { 1 ≤ length servers.now }
         requires few { length servers.now ≤ 8 }
@@ -34,7 +35,7 @@ impl<T: Token> Table<T> {
         }
         let list = rekey(self.alloc, servers, self.list.as_slice(), self.greatest_key)?;
         let kept = KeyList::of(self.alloc, list.as_slice())?;
-        let count = count_left(self.rows.as_slice(), list.as_slice());
+        let count = count_sides(self.rows.as_slice(), Sought::Left(list.as_slice()));
         make_room(&mut self.entries, self.rows.len(), self.ready.len())?;
         self.servers.renew(&list)?;
         self.entries.push_reserved(Entry {
@@ -143,7 +144,7 @@ fn without_key(alloc: Global, servers: &[ServerKey], key: u32) -> Result<Vec<Ser
 }
 
 /// A server of the list has this key.
-fn has_key(servers: &[ServerKey], key: u32) -> bool
+pub fn has_key(servers: &[ServerKey], key: u32) -> bool
     ensures { result ≡ has_key key servers.now }
 {
     match servers {
@@ -162,31 +163,8 @@ fn greatest_of(greatest: u32, servers: &[ServerKey]) -> u32
     }
 }
 
-/// How many of the rows have an attempt on a server that isn't in the list.
-fn count_left<T: Token>(rows: &[Row<T>], list: &[ServerKey]) -> u64
-    ensures { result ≡ count_by (has_left list.now) rows.now }
-{
-    let mut count: u64 = 0;
-    for row in rows {
-        if has_left(row, list) {
-            count += 1;
-        }
-    }
-    count
-}
-
-/// The row has an attempt on a server that isn't in the list.
-fn has_left<T: Token>(row: &Row<T>, list: &[ServerKey]) -> bool
-    ensures { result ≡ has_left list.now row.now }
-{
-    match row.leg.phase {
-        Phase::InFlight(flying) => !has_key(list, flying.server),
-        Phase::Waiting | Phase::Ended(_) => false,
-    }
-}
-
-/// Makes the list that of the rows: attempts on servers that aren't in it end, and no such server is forced. It takes no
-/// memory.
+/// Makes the list that of the rows: attempts on servers that aren't in it end, and no such server is forced. It takes
+/// no memory.
 fn set_rows<T: Token>(rows: &mut Vec<Row<T>>, list: &[ServerKey])
     ensures items { rows.new.items ≡ map (row_set list.now) rows.old.items }
     ensures len { vec_len rows.new ≡ vec_len rows.old }
@@ -199,8 +177,17 @@ fn set_each<T: Token>(rows: &mut [Row<T>], list: &[ServerKey])
     ensures { rows.new ≡ map (row_set list.now) rows.old }
 {
     for index in 0..rows.len() {
-        let leg = set_leg(rows[index].leg, list);
-        rows[index].leg = leg;
+        set_row(&mut rows[index], list);
+    }
+}
+
+/// The same for one row.
+fn set_row<T: Token>(row: &mut Row<T>, list: &[ServerKey])
+    ensures { row.new ≡ row_set list.now row.old }
+{
+    row.first.leg = set_leg(row.first.leg, list);
+    if let Some(side) = &mut row.second {
+        side.leg = set_leg(side.leg, list);
     }
 }
 

@@ -10,10 +10,12 @@ ghost use Rattle.channel_table.specs.Arriving.{recount_by};
 ghost use Rattle.channel_table.specs.Ends.{attempts_with, server_of};
 
 use super::Table;
+use super::counting::{Sought, count_sides};
 use super::ending::end_row;
-use super::failing::{answers_over, count_fault, count_over, fail_all};
+use super::failing::{answers_over, count_fault, fail_all};
 use super::landing::find_landing;
 use super::seeking::find_soonest;
+use crate::side::Hits;
 use chan_types::{Bytes, Entry, KeyList, NoMemory, Status, Token, What};
 use channel_model::{Judged, Landed, Lapse};
 use query_machine::{Leg, Phase, Servers, attempts};
@@ -48,9 +50,11 @@ impl<T: Token> Table<T> {
             }
             Some(landing) => {
                 let most = most_attempts(&self.options, &self.list);
+                let reply = Bytes::of(self.alloc, bytes)?;
                 let answer = self.rows[landing.index].answer_behind(
                     self.alloc,
                     &self.options,
+                    Hits::at(landing.is_second),
                     landing.judged,
                     bytes,
                     most,
@@ -64,7 +68,9 @@ impl<T: Token> Table<T> {
                     &mut self.rows,
                     &mut self.ready,
                     landing.index,
+                    Hits::at(landing.is_second),
                     landing.judged,
+                    reply,
                     most,
                     answer,
                 );
@@ -83,11 +89,12 @@ impl<T: Token> Table<T> {
         match find_soonest(self.rows.as_slice()) {
             Some(first) if first.at <= at => {
                 let most = most_attempts(&self.options, &self.list);
-                let server = server_of(&self.rows[first.index].leg);
+                let server = server_of(&self.rows[first.index].side(first.is_second).leg);
                 make_room(&mut self.entries, self.rows.len(), self.ready.len())?;
                 let answer = self.rows[first.index].answer_behind(
                     self.alloc,
                     &self.options,
+                    Hits::at(first.is_second),
                     Judged::Failed(Status::TimedOut),
                     &[],
                     most,
@@ -108,7 +115,9 @@ impl<T: Token> Table<T> {
                     &mut self.rows,
                     &mut self.ready,
                     first.index,
+                    Hits::at(first.is_second),
                     Judged::Failed(Status::TimedOut),
+                    Bytes::new(self.alloc),
                     most,
                     answer,
                 );
@@ -126,7 +135,7 @@ impl<T: Token> Table<T> {
     pub fn fault(&mut self, seat: u64, server: u32, link: u64, at: u64) -> Result<u64, NoMemory>
         ensures { Happens (Fails server link at result) seat 0 self.old self.new }
     {
-        let count = count_over(self.rows.as_slice(), server, link);
+        let count = count_sides(self.rows.as_slice(), Sought::Over(server, link));
         let most = most_attempts(&self.options, &self.list);
         let kept = Vec::with_capacity(self.alloc, self.rows.len())?;
         make_room(&mut self.entries, self.rows.len(), self.ready.len())?;

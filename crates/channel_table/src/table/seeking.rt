@@ -1,15 +1,15 @@
 //! What is due first, and whether a link is busy.
 
-ghost use Rattle.std.specs.Prelude.{◌≡◌, ◌<◌, count_by, length, slice_index_or};
+ghost use Rattle.std.specs.Prelude.{◌≡◌, ◌<◌};
 ghost use Rattle.std.specs.List.{list_any};
-ghost use Rattle.channel_model.specs.Flight.{went_over};
 ghost use Rattle.channel_model.specs.Meanings.{TellsBusy, TellsDue};
-ghost use Rattle.channel_table.specs.Rows.{flew_over};
+ghost use Rattle.channel_table.specs.Rows.{row_over};
 ghost use Rattle.channel_model.specs.Seen.{Happens};
-ghost use Rattle.channel_table.specs.Soonest.{IsSoonest, is_sooner, sooner};
+ghost use Rattle.channel_table.specs.Soonest.{IsSoonest, is_sooner, sooner, sooner_row};
 
 use super::Table;
 use crate::row::Row;
+use crate::side::Side;
 use chan_types::Token;
 use query_machine::Phase;
 
@@ -34,29 +34,32 @@ impl<T: Token> Table<T> {
 
 /// Whether a row has an attempt in flight on this server over this link.
 fn any_over<T: Token>(rows: &[Row<T>], server: u32, link: u64) -> bool
-    ensures { result ≡ list_any (flew_over server link) rows.now }
+    ensures { result ≡ list_any (row_over server link) rows.now }
 {
     for row in rows {
-        if flew_over(row, server, link) {
+        if row_over(row, server, link) {
             return true;
         }
     }
     false
 }
 
-pub fn flew_over<T: Token>(row: &Row<T>, server: u32, link: u64) -> bool
-    ensures { result ≡ flew_over server link row.now }
+/// Whether the row has an attempt in flight on this server over this link.
+fn row_over<T: Token>(row: &Row<T>, server: u32, link: u64) -> bool
+    ensures { result ≡ row_over server link row.now }
 {
-    match row.leg.phase {
-        Phase::InFlight(flying) => flying.server == server && flying.link == link,
-        Phase::Waiting | Phase::Ended(_) => false,
-    }
+    row.first.flew_over(server, link)
+        || match &row.second {
+            Some(side) => side.flew_over(server, link),
+            None => false,
+        }
 }
 
-/// An attempt in flight: its row, when it is due, its request, and its leg.
+/// An attempt in flight: its row, which side of it, when it is due, its request, and its leg.
 #[derive(Clone, Copy, Debug, PartialEq, Eq)]
 pub struct Soonest {
     pub index: usize,
+    pub is_second: bool,
     pub at: u64,
     pub number: u64,
     pub leg_number: u8,
@@ -68,23 +71,35 @@ pub fn find_soonest<T: Token>(rows: &[Row<T>]) -> Option<Soonest>
 {
     let mut best: Option<Soonest> = None;
     for index in 0..rows.len() {
-        best = sooner(best, index, &rows[index]);
+        best = sooner_row(best, index, &rows[index]);
     }
     best
 }
 
-/// The sooner of the best attempt so far and that of one more row.
-fn sooner<T: Token>(best: Option<Soonest>, index: usize, row: &Row<T>) -> Option<Soonest>
-    ensures { result ≡ sooner best index row.now }
+/// The sooner of the best attempt so far and those of one more row.
+fn sooner_row<T: Token>(best: Option<Soonest>, index: usize, row: &Row<T>) -> Option<Soonest>
+    ensures { result ≡ sooner_row best index row.now }
 {
-    let Phase::InFlight(flying) = row.leg.phase else {
+    let best = sooner(best, index, false, &row.first);
+    match &row.second {
+        Some(side) => sooner(best, index, true, side),
+        None => best,
+    }
+}
+
+/// The sooner of the best attempt so far and that of one more side.
+fn sooner(best: Option<Soonest>, index: usize, is_second: bool, side: &Side) -> Option<Soonest>
+    ensures { result ≡ sooner best index is_second side.now }
+{
+    let Phase::InFlight(flying) = side.leg.phase else {
         return best;
     };
     let next = Soonest {
         index,
+        is_second,
         at: flying.due,
-        number: row.number,
-        leg_number: row.leg_number,
+        number: side.number,
+        leg_number: side.leg_number,
     };
     match best {
         None => Some(next),

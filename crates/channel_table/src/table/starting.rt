@@ -11,12 +11,12 @@ ghost use Rattle.channel_model.specs.Seen.{Happens};
 ghost use Rattle.channel_model.specs.Servers.{address_of, has_key};
 ghost use Rattle.dns_message.specs.Spelling.{message_bytes};
 ghost use Rattle.query_machine.specs.Legs.{attempt_from, flying_in};
-ghost use Rattle.channel_table.specs.Starting.{BeginsRow, FindsIdle, IsFree, WaitsAt, first_place, has_id, link_on, link_with, links_on, server_with, used_of};
+ghost use Rattle.channel_table.specs.Starting.{BeginsRow, FindsIdle, FindsIdleSide, IsFree, WaitsAt, first_place, has_id, idle_of, link_on, link_with, row_has_id, row_links, server_with, used_of};
 
 use super::Table;
-use super::counting::is_flying;
 use super::moving::make_room;
 use crate::row::Row;
+use crate::side::Side;
 use chan_types::{Bytes, Entry, KeyList, NoMemory, ServerKey, Token, What};
 use channel_model::Begun;
 use dns_message::Question;
@@ -25,10 +25,11 @@ use query_machine::{Leg, Phase, Servers, query_bytes, wait_of};
 use resolv_options::Options;
 use std::alloc::Global;
 
-/// A row without an attempt in flight: where it stands, and what it has.
+/// A side that waits: its row, which side of it, and what it has.
 #[derive(Clone, Copy, Debug, PartialEq, Eq)]
 pub struct Idle {
     pub index: usize,
+    pub is_second: bool,
     pub number: u64,
     pub leg_number: u8,
     pub leg: Leg,
@@ -62,7 +63,7 @@ impl<T: Token> Table<T> {
         let message = message_for(
             self.alloc,
             &self.options,
-            &self.rows[idle.index].question,
+            &self.rows[idle.index].side(idle.is_second).question,
             id,
             bits,
             idle.leg.has_opt,
@@ -81,7 +82,17 @@ impl<T: Token> Table<T> {
                 moment: at,
             },
         });
-        begin(&mut self.rows, idle.index, server, link, id, bits, at, wait);
+        begin(
+            &mut self.rows,
+            idle.index,
+            idle.is_second,
+            server,
+            link,
+            id,
+            bits,
+            at,
+            wait,
+        );
         self.greatest_link = self.greatest_link.max(link);
         self.started = starts_with(self.started, idle.begun);
         Ok(Begun::Started {
@@ -104,23 +115,43 @@ fn starts_with(starts: u64, begun: bool) -> u64
     if begun { starts } else { starts + 1 }
 }
 
-/// The first row without an attempt in flight.
+/// The first side that waits.
 fn find_idle<T: Token>(rows: &[Row<T>]) -> Option<Idle>
     ensures { FindsIdle rows.now result }
 {
     for index in 0..rows.len() {
-        let row = &rows[index];
-        if !is_flying(row) {
-            return Some(Idle {
-                index,
-                number: row.number,
-                leg_number: row.leg_number,
-                leg: row.leg,
-                begun: row.begun,
-            });
+        if let Some(idle) = idle_side(&rows[index], index) {
+            return Some(idle);
         }
     }
     None
+}
+
+/// The first side of the row at this index that waits.
+fn idle_side<T: Token>(row: &Row<T>, index: usize) -> Option<Idle>
+    ensures { FindsIdleSide index row.now result }
+{
+    if row.first.waits() {
+        return Some(idle_of(&row.first, index, false));
+    }
+    match &row.second {
+        Some(side) if side.waits() => Some(idle_of(side, index, true)),
+        Some(_) | None => None,
+    }
+}
+
+/// A side of the row at this index that waits.
+fn idle_of(side: &Side, index: usize, is_second: bool) -> Idle
+    ensures { result ≡ idle_of index is_second side.now }
+{
+    Idle {
+        index,
+        is_second,
+        number: side.number,
+        leg_number: side.leg_number,
+        leg: side.leg,
+        begun: side.begun,
+    }
 }
 
 /// The first identifier from the word upwards that no attempt has.
@@ -138,21 +169,32 @@ fn free_id<T: Token>(rows: &[Row<T>], word: u16) -> Option<u16>
 
 /// An attempt of the rows has this identifier.
 fn is_used<T: Token>(rows: &[Row<T>], id: u16) -> bool
-    ensures { result ≡ list_any (has_id id) rows.now }
+    ensures { result ≡ list_any (row_has_id id) rows.now }
 {
     for row in rows {
-        if has_id(row, id) {
+        if row_has_id(row, id) {
             return true;
         }
     }
     false
 }
 
-/// The row's attempt has this identifier.
-fn has_id<T: Token>(row: &Row<T>, id: u16) -> bool
-    ensures { result ≡ has_id id row.now }
+/// An attempt of the row has this identifier.
+fn row_has_id<T: Token>(row: &Row<T>, id: u16) -> bool
+    ensures { result ≡ row_has_id id row.now }
 {
-    match row.leg.phase {
+    has_id(&row.first, id)
+        || match &row.second {
+            Some(side) => has_id(side, id),
+            None => false,
+        }
+}
+
+/// The side's attempt has this identifier.
+fn has_id(side: &Side, id: u16) -> bool
+    ensures { result ≡ has_id id side.now }
+{
+    match side.leg.phase {
         Phase::InFlight(flying) => flying.id == id,
         Phase::Waiting | Phase::Ended(_) => false,
     }
@@ -215,21 +257,34 @@ fn choose_link<T: Token>(rows: &[Row<T>], over_tcp: bool, server: u32, greatest:
 
 /// A link over TCP to the server on which an attempt is in flight.
 fn tcp_link<T: Token>(rows: &[Row<T>], server: u32) -> Option<u64>
-    ensures { result ≡ first (flat_map (links_on server) rows.now) }
+    ensures { result ≡ first (flat_map (row_links server) rows.now) }
 {
     for index in 0..rows.len() {
-        if let Some(link) = link_on(&rows[index], server) {
+        if let Some(link) = row_link(&rows[index], server) {
             return Some(link);
         }
     }
     None
 }
 
-/// The link of the row's attempt, where it went to the server over TCP.
-fn link_on<T: Token>(row: &Row<T>, server: u32) -> Option<u64>
-    ensures { result ≡ link_on server (flying_in row.now.leg.phase) }
+/// The link of an attempt of the row, where one went to the server over TCP.
+fn row_link<T: Token>(row: &Row<T>, server: u32) -> Option<u64>
+    ensures { result ≡ first (row_links server row.now) }
 {
-    match row.leg.phase {
+    if let Some(link) = link_on(&row.first, server) {
+        return Some(link);
+    }
+    match &row.second {
+        Some(side) => link_on(side, server),
+        None => None,
+    }
+}
+
+/// The link of the side's attempt, where it went to the server over TCP.
+fn link_on(side: &Side, server: u32) -> Option<u64>
+    ensures { result ≡ link_on server (flying_in side.now.leg.phase) }
+{
+    match side.leg.phase {
         Phase::InFlight(flying) if flying.server == server && flying.link != 0 => Some(flying.link),
         Phase::Waiting | Phase::InFlight(_) | Phase::Ended(_) => None,
     }
@@ -273,7 +328,8 @@ fn message_for(
     has_opt: bool,
 ) -> Result<Bytes, NoMemory>
     ensures { IfOk result (λ bytes. bytes
-        ≡ message_bytes (query_for id (asked_with mix question.now) options.now.flags.norecurse (if has_opt then Some options.now.edns_size else None))) }
+        ≡ message_bytes (query_for id (asked_with mix question.now) options.now.flags.norecurse
+        (if has_opt then Some options.now.edns_size else None))) }
 {
     let norecurse = options.flags().norecurse;
     let edns = if has_opt {
@@ -294,10 +350,11 @@ fn message_for(
     }
 }
 
-/// Begins an attempt of the row at this index, which is given so long.
+/// Begins an attempt of this side of the row at this index, which is given so long.
 fn begin<T: Token>(
     rows: &mut Vec<Row<T>>,
     index: usize,
+    is_second: bool,
     server: u32,
     link: u64,
     id: u16,
@@ -306,13 +363,10 @@ fn begin<T: Token>(
     wait: u64,
 )
     requires inside { index < vec_len rows.old }
-    requires waits { WaitsAt index rows.old.items }
-    ensures begins { BeginsRow (attempt_from server link id mix at wait) index rows.old.items rows.new.items }
+    requires waits { WaitsAt index is_second rows.old.items }
+    ensures begins { BeginsRow (attempt_from server link id mix at wait) index is_second
+        rows.old.items rows.new.items }
     ensures len { vec_len rows.new ≡ vec_len rows.old }
 {
-    let mut leg = rows[index].leg;
-    leg.start(server, link, id, mix, at, wait);
-    let row = &mut rows[index];
-    row.leg = leg;
-    row.begun = true;
+    rows[index].begin(is_second, server, link, id, mix, at, wait);
 }

@@ -1,4 +1,4 @@
-use Rattle.std.proofs.Common.{refl, sym, ap, arith, ◌≡◌, ◌∙◌, ◌+◌, ◌<◌, ◌^◌, ◌==◌, Some, List, [], ◌∷◌, ◌++◌, Ok, length, subst, get_or, true, false, ℕ}
+use Rattle.std.proofs.Common.{refl, sym, ap, arith, ◌≡◌, ◌∙◌, ◌+◌, ◌<◌, ◌^◌, ◌==◌, Some, List, [], ◌∷◌, ◌++◌, Ok, length, subst, true, false, ℕ}
 use Rattle.std.proofs.lemmas.List.{get_or_read}
 use Rattle.std.specs.List.{list_any}
 use Rattle.chan_types.specs.declared.journal.Entry.{Entry}
@@ -16,12 +16,14 @@ use Rattle.channel_table.proofs.Attempts.{attempts_are, list_few, list_some}
 use Rattle.channel_table.proofs.Counting.{counted_kept}
 use Rattle.channel_table.proofs.FailureSteps.{past_of-length, recount_is}
 use Rattle.channel_table.proofs.Keeping.{few_closed, happens_one, happens_same, kept_more, no_more}
-use Rattle.channel_table.proofs.Landing.{arrives_failed, counted_landed, landed_says, matched_closes, stray_closes_none, table_landed, table_stray}
-use Rattle.channel_table.proofs.RowAt.{counted_at_row, in_flight_of, item_at, stands_at}
-use Rattle.channel_table.specs.Arriving.{IsLanding, lands_on, recount_by}
+use Rattle.channel_table.proofs.Landing.{arrives_failed, counted_landed, lands_at, matched_closes, stray_closes_none, table_landed, table_stray}
+use Rattle.channel_table.proofs.RowAt.{counted_at_side}
+use Rattle.channel_table.specs.Arriving.{judged_of, recount_by, row_lands}
 use Rattle.channel_table.specs.After.{answer_behind}
 use Rattle.channel_table.specs.Counted.{AreCounted}
 use Rattle.channel_table.specs.Kept.{setting_of}
+use Rattle.channel_table.specs.Rows.{side_at}
+use Rattle.channel_table.specs.Sides.{at_side}
 use Rattle.channel_table.specs.declared.row.Row.{Row}
 use Rattle.channel_table.proofs.table.Table.arrive.Goals as goal
 
@@ -33,20 +35,15 @@ pub most_attempts-most-requires-clause-few : goal.most_attempts-most-requires-cl
 most_attempts-most-requires-clause-few g c =
     list_few (setting_of c.self.inside) (past_of c.self.inside.entries.items) c.self.inside.list c.self.inside.servers c.self.inside.greatest_key c.self.inside.greatest_link c.self.inside.started c.self.invariant.counted c.self.invariant.limits c.self.invariant.lawful.allowed
 
-pub answer_behind-requires : goal.answer_behind-requires
-answer_behind-requires g c =
-    let setting : Setting = setting_of c.self.inside in
-    let found = rw (c.as_slice.ensures.value, c.flags.ensures.value, c.in-Some.is) at c.in_ok-found.ensures in
-    let row : Row g.row.T.Denot = c.index.result.now in
-    let same = get_or_read c.self.inside.rows.items c.in-Some.landing.index row found.inside c.index.ensures row in
-    let landing = subst (λ (r : Row g.row.T.Denot). IsLanding setting.options.flags c.args.server c.args.link c.args.bytes.now r c.in-Some.landing) (sym same) (found.is row) in
-    let landed = landed_says setting c.args.server c.args.link c.args.bytes.now row c.in-Some.landing.judged landing.judged in
-    record { flies = in_flight_of row.leg.phase landed.flying landed.flies }
-
 pub returns-in_err-make_room : goal.returns-in_err-make_room
 returns-in_err-make_room g c =
     rw (← c.self.view_is) (happens_same g.T.Token.plan (Arrives c.args.server c.args.link c.args.bytes.now c.from_residual-in_err-make_room.result) c.self.inside c.make_room.new.entries.items c.args.seat 0 c.make_room.ensures.items c.self.invariant
     (arrives_failed c.args.server c.args.link c.args.bytes.now c.from_residual-in_err-make_room.result (setting_of c.self.inside) (past_of c.self.inside.entries.items) c.from_residual-in_err-make_room.ensures.0))
+
+pub returns-in_err-reply-in-Some : goal.returns-in_err-reply-in-Some
+returns-in_err-reply-in-Some g c =
+    rw (← c.self.view_is) (happens_same g.T.Token.plan (Arrives c.args.server c.args.link c.args.bytes.now c.from_residual-in_err-reply-in-Some.result) c.self.inside c.make_room.new.entries.items c.args.seat 0 c.make_room.ensures.items c.self.invariant
+    (arrives_failed c.args.server c.args.link c.args.bytes.now c.from_residual-in_err-reply-in-Some.result (setting_of c.self.inside) (past_of c.self.inside.entries.items) c.from_residual-in_err-reply-in-Some.ensures.0))
 
 pub returns-in_err-answer-in-Some : goal.returns-in_err-answer-in-Some
 returns-in_err-answer-in-Some g c =
@@ -57,7 +54,7 @@ pub invariant_of-self-in-None : goal.invariant_of-self-in-None
 invariant_of-self-in-None g c =
     let past : Past = past_of c.self.inside.entries.items in
     let setting : Setting = setting_of c.self.inside in
-    let none : list_any (lands_on setting.options.flags c.args.server c.args.link c.args.bytes.now) c.self.inside.rows.items ≡ false = rw (c.as_slice.ensures.value, c.flags.ensures.value, c.in-None.is) at c.in_ok-found.ensures in
+    let none : list_any (row_lands setting.options.flags c.args.server c.args.link c.args.bytes.now) c.self.inside.rows.items ≡ false = rw (c.as_slice.ensures.value, c.flags.ensures.value, c.in-None.is) at c.in_ok-found.ensures in
     let closes_none = stray_closes_none g.T.Token.plan setting past c.args.server c.args.link c.args.bytes.now c.self.inside.rows.items c.self.inside.ready.items none c.self.invariant.stands in
     let what : What = Arrive c.args.server c.args.link c.args.bytes.now in
     let entry : Entry = record { seat = c.args.seat; by = 0; what = what } in
@@ -75,7 +72,7 @@ pub returns-in-None : goal.returns-in-None
 returns-in-None g c =
     let past : Past = past_of c.self.inside.entries.items in
     let setting : Setting = setting_of c.self.inside in
-    let none : list_any (lands_on setting.options.flags c.args.server c.args.link c.args.bytes.now) c.self.inside.rows.items ≡ false = rw (c.as_slice.ensures.value, c.flags.ensures.value, c.in-None.is) at c.in_ok-found.ensures in
+    let none : list_any (row_lands setting.options.flags c.args.server c.args.link c.args.bytes.now) c.self.inside.rows.items ≡ false = rw (c.as_slice.ensures.value, c.flags.ensures.value, c.in-None.is) at c.in_ok-found.ensures in
     let closes_none = stray_closes_none g.T.Token.plan setting past c.args.server c.args.link c.args.bytes.now c.self.inside.rows.items c.self.inside.ready.items none c.self.invariant.stands in
     let what : What = Arrive c.args.server c.args.link c.args.bytes.now in
     let entry : Entry = record { seat = c.args.seat; by = 0; what = what } in
@@ -88,47 +85,33 @@ count_end-requires g c =
     let past : Past = past_of c.self.inside.entries.items in
     let setting : Setting = setting_of c.self.inside in
     let found = rw (c.as_slice.ensures.value, c.flags.ensures.value, c.in-Some.is) at c.in_ok-found.ensures in
-    let at = item_at c.self.inside.rows.items c.in-Some.landing.index found.inside in
-    let row : Row g.row.T.Denot = at.0 in
-    let landing = subst (λ (r : Row g.row.T.Denot). IsLanding setting.options.flags c.args.server c.args.link c.args.bytes.now r c.in-Some.landing) (at.1 row) (found.is row) in
-    let landed = landed_says setting c.args.server c.args.link c.args.bytes.now row c.in-Some.landing.judged landing.judged in
-    let there = counted_at_row g.T.Token.plan setting past c.self.inside.rows.items c.self.inside.ready.items c.self.invariant.stands c.in-Some.landing.index row found.inside (sym (at.1 row)) landed.flying landed.flies
+    let s = lands_at g.T.Token.plan setting past c.args.server c.args.link c.args.bytes.now c.self.inside.rows.items c.self.inside.ready.items c.self.invariant.stands c.in-Some.landing found in
+    let there = counted_at_side g.T.Token.plan setting past c.self.inside.rows.items c.self.inside.ready.items c.self.invariant.stands c.in-Some.landing.index s.row found.inside (sym (s.at_index s.row)) c.in-Some.landing.is_second s.side s.at s.landed.flying s.landed.flies
     c.self.inside.list c.self.inside.servers c.self.inside.greatest_key c.self.inside.greatest_link c.self.inside.started c.self.invariant.counted c.self.invariant.limits c.self.invariant.lawful.allowed in
-    record { there = subst (λ (s : ℕ). list_any (λ (item : Failing). item.server == s) c.self.inside.servers ≡ true) landed.same_server there }
-
-pub end_row-requires-clause-flies : goal.end_row-requires-clause-flies
-end_row-requires-clause-flies g c = λ d.
-    let past : Past = past_of c.self.inside.entries.items in
-    let setting : Setting = setting_of c.self.inside in
-    let found = rw (c.as_slice.ensures.value, c.flags.ensures.value, c.in-Some.is) at c.in_ok-found.ensures in
-    let row = get_or c.self.inside.rows.items c.in-Some.landing.index d in
-    let landed = landed_says setting c.args.server c.args.link c.args.bytes.now row c.in-Some.landing.judged (found.is d).judged in
-    in_flight_of row.leg.phase landed.flying landed.flies
+    record { there = subst (λ (n : ℕ). list_any (λ (item : Failing). item.server == n) c.self.inside.servers ≡ true) s.landed.same_server there }
 
 pub invariant_of-self-in-Some : goal.invariant_of-self-in-Some
 invariant_of-self-in-Some g c =
     let past : Past = past_of c.self.inside.entries.items in
     let setting : Setting = setting_of c.self.inside in
     let found = rw (c.as_slice.ensures.value, c.flags.ensures.value, c.in-Some.is) at c.in_ok-found.ensures in
-    let at = item_at c.self.inside.rows.items c.in-Some.landing.index found.inside in
-    let row : Row g.row.T.Denot = at.0 in
-    let landing = subst (λ (r : Row g.row.T.Denot). IsLanding setting.options.flags c.args.server c.args.link c.args.bytes.now r c.in-Some.landing) (at.1 row) (found.is row) in
-    let landed = landed_says setting c.args.server c.args.link c.args.bytes.now row c.in-Some.landing.judged landing.judged in
+    let s = lands_at g.T.Token.plan setting past c.args.server c.args.link c.args.bytes.now c.self.inside.rows.items c.self.inside.ready.items c.self.invariant.stands c.in-Some.landing found in
     let what : What = Arrive c.args.server c.args.link c.args.bytes.now in
     let entry : Entry = record { seat = c.args.seat; by = 0; what = what } in
     let added : c.push_reserved-in-Some.new.self.items ≡ c.self.inside.entries.items ++ entry ∷ [] = rw (c.push_reserved-in-Some.ensures.items, c.arrival-in-Some.ensures, c.make_room.ensures.items, c.in_ok-kept.ensures) refl in
     let room = c.in_ok-make_room.ensures in
-    let ends = c.end_row.ensures.ends in
-    let answers = c.in_ok-answer-in-Some.ensures ∙ ap (λ (r : Row g.row.T.Denot). answer_behind setting.options c.in-Some.landing.judged c.args.bytes.now c.most_attempts-most.result r) (get_or_read c.self.inside.rows.items c.in-Some.landing.index c.index.result.now found.inside c.index.ensures ends.row ∙ ends.is ends.row) in
-    let there = subst (λ (r : Row g.row.T.Denot). IsLanding setting.options.flags c.args.server c.args.link c.args.bytes.now r c.in-Some.landing) (ends.is ends.row) (found.is ends.row) in
+    let ends = rw (c.at-in-Some.ensures, c.in_ok-reply-in-Some.ensures) at c.end_row.ensures.ends in
+    let answers = (rw c.at.ensures at c.in_ok-answer-in-Some.ensures) ∙ ap (λ (r : Row g.row.T.Denot). answer_behind setting.options (at_side c.in-Some.landing.is_second) c.in-Some.landing.judged c.args.bytes.now c.most_attempts-most.result r) (get_or_read c.self.inside.rows.items c.in-Some.landing.index c.index.result.now found.inside c.index.ensures ends.row ∙ ends.is ends.row) in
+    let same : ends.row ≡ s.row = sym (ends.is s.row) ∙ s.at_index s.row in
+    let there = ap (side_at c.in-Some.landing.is_second) same ∙ s.at in
+    let judged = ap (λ (r : Row g.row.T.Denot). judged_of setting.options.flags c.args.server c.args.link c.args.bytes.now r.aim s.side) same ∙ s.judged in
     let small : length past + 1 < 2 ^ 64 = omega (arith, past_of-length c.self.inside.entries.items, c.push_reserved-in-Some.ensures.len, c.make_room.ensures.len) in
-    let stands = stands_at g.T.Token.plan setting past c.self.inside.rows.items c.self.inside.ready.items c.self.invariant.stands c.in-Some.landing.index row found.inside (sym (at.1 row)) in
-    let counted = counted_landed g.T.Token.plan setting past c.args.server c.args.link c.args.bytes.now c.self.invariant.lawful.allowed row c.in-Some.landing.judged stands landed
+    let counted = counted_landed g.T.Token.plan setting past c.args.server c.args.link c.args.bytes.now c.self.invariant.lawful.allowed s.row c.in-Some.landing.judged s.stands c.in-Some.landing.is_second s.side s.at s.landed
     c.self.inside.list c.self.inside.servers c.self.inside.greatest_key c.self.inside.greatest_link c.self.inside.started (recount_by c.in-Some.landing.judged) (λ n few. recount_is c.in-Some.landing.judged n (length past) few small) c.self.invariant.counted in
     let may_spend = attempts_are setting past c.self.inside.list c.self.inside.servers c.self.inside.greatest_key c.self.inside.greatest_link c.self.inside.started c.self.invariant.counted c.self.invariant.limits c.self.invariant.lawful.allowed ∙ sym c.most_attempts-most.ensures.value in
     kept_more g.T.Token.plan c.self.inside _ entry refl added c.self.invariant tt
-    (table_landed g.T.Token.plan setting past c.args.server c.args.link c.args.bytes.now c.in-Some.landing.judged c.in_ok-answer-in-Some.answer c.most_attempts-most.result c.in-Some.landing.index c.self.inside.rows.items c.end_row.new.rows.items c.self.inside.ready.items c.end_row.new.ready.items
-    c.self.invariant.lawful.allowed ends there.judged may_spend c.most_attempts-most.ensures.few answers c.self.invariant.stands)
+    (table_landed g.T.Token.plan setting past c.args.server c.args.link c.args.bytes.now c.in-Some.landing.judged c.in_ok-answer-in-Some.answer c.most_attempts-most.result c.in-Some.landing.index c.in-Some.landing.is_second c.self.inside.rows.items c.end_row.new.rows.items c.self.inside.ready.items c.end_row.new.ready.items
+    c.self.invariant.lawful.allowed ends s.side there judged may_spend c.most_attempts-most.ensures.few answers c.self.invariant.stands)
     (subst (λ (s : List Failing). AreCounted setting (Arrive c.args.server c.args.link c.args.bytes.now ∷ past) c.self.inside.list s c.self.inside.greatest_key c.self.inside.greatest_link c.self.inside.started) (sym c.count_end.ensures) counted)
     (no_more (Arrive c.args.server c.args.link c.args.bytes.now) past refl ∙ c.self.invariant.accepts) c.self.invariant.destroyed
     (omega (arith, c.self.invariant.few, c.push_reserved-in-Some.ensures.len, c.make_room.ensures.len)) (omega (arith, c.self.invariant.few_links, c.push_reserved-in-Some.ensures.len, c.make_room.ensures.len)) (omega (arith, c.self.invariant.few_starts, c.push_reserved-in-Some.ensures.len, c.make_room.ensures.len))
@@ -140,16 +123,12 @@ returns-in_ok-answer-in-Some g c =
     let past : Past = past_of c.self.inside.entries.items in
     let setting : Setting = setting_of c.self.inside in
     let found = rw (c.as_slice.ensures.value, c.flags.ensures.value, c.in-Some.is) at c.in_ok-found.ensures in
-    let at = item_at c.self.inside.rows.items c.in-Some.landing.index found.inside in
-    let row : Row g.row.T.Denot = at.0 in
-    let landing = subst (λ (r : Row g.row.T.Denot). IsLanding setting.options.flags c.args.server c.args.link c.args.bytes.now r c.in-Some.landing) (at.1 row) (found.is row) in
-    let landed = landed_says setting c.args.server c.args.link c.args.bytes.now row c.in-Some.landing.judged landing.judged in
+    let s = lands_at g.T.Token.plan setting past c.args.server c.args.link c.args.bytes.now c.self.inside.rows.items c.self.inside.ready.items c.self.invariant.stands c.in-Some.landing found in
     let what : What = Arrive c.args.server c.args.link c.args.bytes.now in
     let entry : Entry = record { seat = c.args.seat; by = 0; what = what } in
     let added : c.push_reserved-in-Some.new.self.items ≡ c.self.inside.entries.items ++ entry ∷ [] = rw (c.push_reserved-in-Some.ensures.items, c.arrival-in-Some.ensures, c.make_room.ensures.items, c.in_ok-kept.ensures) refl in
-    let stands = stands_at g.T.Token.plan setting past c.self.inside.rows.items c.self.inside.ready.items c.self.invariant.stands c.in-Some.landing.index row found.inside (sym (at.1 row)) in
     let means : Arrives c.args.server c.args.link c.args.bytes.now (Ok (Matched c.in-Some.landing.number c.in-Some.landing.leg_number)) setting past (Some what) = (
       refl,
-      matched_closes g.T.Token.plan setting past c.args.server c.args.link c.args.bytes.now row c.in-Some.landing.judged (leg_of c.in-Some.landing.number c.in-Some.landing.leg_number) c.self.invariant.lawful.allowed stands landing.own landing.judged,
+      matched_closes g.T.Token.plan setting past c.args.server c.args.link c.args.bytes.now c.self.invariant.lawful.allowed s.row c.in-Some.landing.judged s.stands c.in-Some.landing.is_second s.side s.at s.landed (leg_of c.in-Some.landing.number c.in-Some.landing.leg_number) s.own,
     ) in
     rw (← c.self.view_is) (happens_one g.T.Token.plan (Arrives c.args.server c.args.link c.args.bytes.now (Ok (Matched c.in-Some.landing.number c.in-Some.landing.leg_number))) c.self.inside _ c.args.seat 0 what refl added (invariant_of-self-in-Some g c) means)

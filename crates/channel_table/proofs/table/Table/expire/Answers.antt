@@ -1,4 +1,4 @@
-use Rattle.std.proofs.Common.{refl, sym, ap, arith, ◌≡◌, ◌∙◌, ◌+◌, ◌<◌, ◌^◌, ◌==◌, None, List, [], ◌∷◌, ◌++◌, Ok, length, subst, get_or, true, ℕ}
+use Rattle.std.proofs.Common.{refl, sym, ap, arith, ◌≡◌, ◌∙◌, ◌+◌, ◌<◌, ◌^◌, ◌==◌, None, List, [], ◌∷◌, ◌++◌, Ok, length, subst, true, ℕ}
 use Rattle.std.proofs.lemmas.List.{get_or_read}
 use Rattle.std.specs.List.{list_any}
 use Rattle.chan_types.specs.declared.journal.Entry.{Entry}
@@ -16,7 +16,7 @@ use Rattle.channel_table.proofs.Attempts.{attempts_are, list_few, list_some}
 use Rattle.channel_table.proofs.FailureSteps.{counted_expired, past_of-length}
 use Rattle.channel_table.proofs.Keeping.{few_closed, happens_nothing, happens_one, happens_same, kept_more, no_more}
 use Rattle.channel_table.proofs.Lapsing.{expires_failed, found_says, table_expired}
-use Rattle.channel_table.proofs.RowAt.{counted_at_row, flight_at, in_flight_of}
+use Rattle.channel_table.proofs.RowAt.{counted_at_side, flight_at}
 use Rattle.channel_table.proofs.Telling.{first_due_rows}
 use Rattle.chan_types.specs.declared.status.Status.TheVariants.{TimedOut}
 use Rattle.channel_model.specs.declared.judged.Judged.TheVariants.{Failed}
@@ -25,8 +25,12 @@ use Rattle.channel_table.specs.Counted.{AreCounted}
 use Rattle.channel_table.specs.Ends.{server_in}
 use Rattle.channel_table.specs.Kept.{setting_of}
 use Rattle.channel_table.specs.Legs.{attempt_of}
-use Rattle.channel_table.specs.Rows.{flying_of, leg_of_row}
-use Rattle.channel_table.specs.Soonest.{due_of_row}
+use Rattle.std.specs.Option.{option_and_then}
+use Rattle.std.specs.Prelude.{IfSome, Option}
+use Rattle.channel_table.specs.Rows.{side_at}
+use Rattle.channel_table.specs.Sides.{at_side, flying_of, leg_of_side}
+use Rattle.channel_table.specs.Soonest.{due_of_side}
+use Rattle.channel_table.specs.declared.side.Side.{Side}
 use Rattle.channel_table.specs.declared.row.Row.{Row}
 use Rattle.channel_table.proofs.table.Table.expire.Goals as goal
 
@@ -52,18 +56,12 @@ failed-requires g c =
     let found = rw c.as_slice.ensures.value at c.in-Some.ensures in
     let row : Row g.row.T.Denot = c.index.result.now in
     let same = get_or_read c.self.inside.rows.items c.in-Some.first.index row found.0.inside c.index.ensures row in
-    let is = found_says row c.in-Some.first (flying_of row) refl (ap due_of_row same ∙ found.0.is_due row) in
-    let server = c.server_of-server.ensures ∙ ap server_in is.flies in
-    let there = counted_at_row g.T.Token.plan setting past c.self.inside.rows.items c.self.inside.ready.items c.self.invariant.stands c.in-Some.first.index row found.0.inside same is.flying is.flies
+    let is = found_says row c.in-Some.first (ap (λ (r : Row g.row.T.Denot). option_and_then due_of_side (side_at c.in-Some.first.is_second r)) same ∙ found.0.is_due row) in
+    let side_is : c.side.result.now ≡ is.side = subst (λ (o : Option Side). IfSome o (λ (s : Side). c.side.result.now ≡ s)) is.at c.side.ensures in
+    let server = c.server_of-server.ensures ∙ ap (λ (s : Side). server_in (flying_of s)) side_is ∙ ap server_in is.flies in
+    let there = counted_at_side g.T.Token.plan setting past c.self.inside.rows.items c.self.inside.ready.items c.self.invariant.stands c.in-Some.first.index row found.0.inside same c.in-Some.first.is_second is.side is.at is.flying is.flies
     c.self.inside.list c.self.inside.servers c.self.inside.greatest_key c.self.inside.greatest_link c.self.inside.started c.self.invariant.counted c.self.invariant.limits c.self.invariant.lawful.allowed in
     record { there = subst (λ (s : ℕ). list_any (λ (item : Failing). item.server == s) c.self.inside.servers ≡ true) (sym server) there }
-
-pub end_row-requires-clause-flies : goal.end_row-requires-clause-flies
-end_row-requires-clause-flies g c = λ d.
-    let found = rw c.as_slice.ensures.value at c.in-Some.ensures in
-    let row = get_or c.self.inside.rows.items c.in-Some.first.index d in
-    let is = found_says row c.in-Some.first (flying_of row) refl (found.0.is_due d) in
-    in_flight_of row.leg.phase is.flying is.flies
 
 pub invariant_of-self-then-first-at : goal.invariant_of-self-then-first-at
 invariant_of-self-then-first-at g c =
@@ -72,18 +70,19 @@ invariant_of-self-then-first-at g c =
     let found = rw c.as_slice.ensures.value at c.in-Some.ensures in
     let row : Row g.row.T.Denot = c.index.result.now in
     let same = get_or_read c.self.inside.rows.items c.in-Some.first.index row found.0.inside c.index.ensures row in
-    let is = found_says row c.in-Some.first (flying_of row) refl (ap due_of_row same ∙ found.0.is_due row) in
-    let server = c.server_of-server.ensures ∙ ap server_in is.flies in
+    let is = found_says row c.in-Some.first (ap (λ (r : Row g.row.T.Denot). option_and_then due_of_side (side_at c.in-Some.first.is_second r)) same ∙ found.0.is_due row) in
+    let side_is : c.side.result.now ≡ is.side = subst (λ (o : Option Side). IfSome o (λ (s : Side). c.side.result.now ≡ s)) is.at c.side.ensures in
+    let server = c.server_of-server.ensures ∙ ap (λ (s : Side). server_in (flying_of s)) side_is ∙ ap server_in is.flies in
     let told = first_due_rows g.T.Token.plan setting past c.self.inside.rows.items c.self.inside.ready.items c.self.invariant.stands in
     let may : MayExpire setting past (leg_of c.in-Some.first.number c.in-Some.first.leg_number) c.args.at = record { due_at = c.in-Some.first.at; first = told ∙ found.1; due = c.if-first-at.true } in
-    let ends = c.end_row.ensures.ends in
-    let answers = c.in_ok-answer-in-Some.ensures ∙ ap (λ (r : Row g.row.T.Denot). answer_behind setting.options (Failed TimedOut) [] c.most_attempts-most.result r) (get_or_read c.self.inside.rows.items c.in-Some.first.index c.index-in-Some.result.now found.0.inside c.index-in-Some.ensures ends.row ∙ ends.is ends.row) in
-    let due = ap due_of_row (sym (ends.is ends.row)) ∙ found.0.is_due ends.row in
+    let ends = rw (c.at-in-Some.ensures, c.new.ensures) at c.end_row.ensures.ends in
+    let answers = (rw c.at.ensures at c.in_ok-answer-in-Some.ensures) ∙ ap (λ (r : Row g.row.T.Denot). answer_behind setting.options (at_side c.in-Some.first.is_second) (Failed TimedOut) [] c.most_attempts-most.result r) (get_or_read c.self.inside.rows.items c.in-Some.first.index c.index-in-Some.result.now found.0.inside c.index-in-Some.ensures ends.row ∙ ends.is ends.row) in
+    let due = ap (λ (r : Row g.row.T.Denot). option_and_then due_of_side (side_at c.in-Some.first.is_second r)) (sym (ends.is ends.row)) ∙ found.0.is_due ends.row in
     let room = c.in_ok-make_room-in-Some.ensures in
     let entry : Entry = record { seat = c.args.seat; by = 0; what = Expire c.in-Some.first.number c.in-Some.first.leg_number c.args.at } in
-    let flies = flight_at g.T.Token.plan setting past c.self.inside.rows.items c.self.inside.ready.items c.self.invariant.stands c.in-Some.first.index row found.0.inside same is.flying is.flies in
+    let flies = flight_at g.T.Token.plan setting past c.self.inside.rows.items c.self.inside.ready.items c.self.invariant.stands c.in-Some.first.index row found.0.inside same c.in-Some.first.is_second is.side is.at is.flying is.flies in
     let small : length past + 1 < 2 ^ 64 = omega (arith, past_of-length c.self.inside.entries.items, c.push_reserved.ensures.len, c.make_room.ensures.len) in
-    let counted = counted_expired setting past c.in-Some.first.number c.in-Some.first.leg_number c.args.at c.self.inside.list c.self.inside.servers c.self.inside.greatest_key c.self.inside.greatest_link c.self.inside.started (attempt_of (leg_of_row row) is.flying) small
+    let counted = counted_expired setting past c.in-Some.first.number c.in-Some.first.leg_number c.args.at c.self.inside.list c.self.inside.servers c.self.inside.greatest_key c.self.inside.greatest_link c.self.inside.started (attempt_of (leg_of_side is.side) is.flying) small
     (ap (λ (l : Leg). flight setting l past) is.own ∙ flies) (sym is.own) c.self.invariant.counted in
     let may_spend = attempts_are setting past c.self.inside.list c.self.inside.servers c.self.inside.greatest_key c.self.inside.greatest_link c.self.inside.started c.self.invariant.counted c.self.invariant.limits c.self.invariant.lawful.allowed ∙ sym c.most_attempts-most.ensures.value in
     kept_more g.T.Token.plan c.self.inside _ entry refl (c.push_reserved.ensures.items ∙ ap (λ es. es ++ entry ∷ []) c.make_room.ensures.items) c.self.invariant may

@@ -30,7 +30,7 @@ count_fault-requires g c =
     let setting : Setting = setting_of c.self.inside in
     let rows : List (Row g.row.T.Denot) = c.self.inside.rows.items in
     let tickets : List (Ticket g.row.T.Denot) = c.self.inside.ready.items in
-    let count = rw c.as_slice.ensures.value at c.count_over-count.ensures in
+    let count = rw c.as_slice.ensures.value at c.count_sides-count.ensures in
     let what : What = Fault c.args.server c.args.link c.args.at in
     let entry : Entry = record { seat = c.args.seat; by = 0; what = what } in
     let added : c.push_reserved.new.self.items ≡ c.self.inside.entries.items ++ entry ∷ [] = c.push_reserved.ensures.items ∙ ap (λ es. es ++ entry ∷ []) c.make_room.ensures.items in
@@ -46,7 +46,7 @@ invariant_of-self-2 g c =
     let setting : Setting = setting_of c.self.inside in
     let rows : List (Row g.row.T.Denot) = c.self.inside.rows.items in
     let tickets : List (Ticket g.row.T.Denot) = c.self.inside.ready.items in
-    let count = rw c.as_slice.ensures.value at c.count_over-count.ensures in
+    let count = rw c.as_slice.ensures.value at c.count_sides-count.ensures in
     let what : What = Fault c.args.server c.args.link c.args.at in
     let entry : Entry = record { seat = c.args.seat; by = 0; what = what } in
     let added : c.push_reserved.new.self.items ≡ c.self.inside.entries.items ++ entry ∷ [] = c.push_reserved.ensures.items ∙ ap (λ es. es ++ entry ∷ []) c.make_room.ensures.items in
@@ -54,7 +54,7 @@ invariant_of-self-2 g c =
     let room = c.in_ok-make_room.ensures in
     let small : length past + 1 < 2 ^ 64 = omega (arith, past_of-length c.self.inside.entries.items, c.push_reserved.ensures.len, c.make_room.ensures.len) in
     let counted = counted_faulted g.T.Token.plan setting past c.args.server c.args.link c.args.at c.most_attempts-most.result may_spend c.most_attempts-most.ensures.few rows tickets
-    c.self.inside.list c.self.inside.servers c.self.inside.greatest_key c.self.inside.greatest_link c.self.inside.started c.count_over-count.result c.self.invariant.stands c.self.invariant.counted small count in
+    c.self.inside.list c.self.inside.servers c.self.inside.greatest_key c.self.inside.greatest_link c.self.inside.started c.count_sides-count.result c.self.invariant.stands c.self.invariant.counted small count in
     kept_more g.T.Token.plan c.self.inside _ entry refl added c.self.invariant tt
     (rw (c.fail_all.ensures.rows, c.fail_all.ensures.tickets) (table_failed g.T.Token.plan setting past c.args.server c.args.link c.args.at c.most_attempts-most.result may_spend c.most_attempts-most.ensures.few rows tickets c.self.invariant.stands))
     (subst (λ (s : List Failing). AreCounted setting (Fault c.args.server c.args.link c.args.at ∷ past) c.self.inside.list s c.self.inside.greatest_key c.self.inside.greatest_link c.self.inside.started) (sym c.count_fault.ensures) counted)
@@ -69,11 +69,11 @@ returns g c =
     let setting : Setting = setting_of c.self.inside in
     let rows : List (Row g.row.T.Denot) = c.self.inside.rows.items in
     let tickets : List (Ticket g.row.T.Denot) = c.self.inside.ready.items in
-    let count = rw c.as_slice.ensures.value at c.count_over-count.ensures in
+    let count = rw c.as_slice.ensures.value at c.count_sides-count.ensures in
     let what : What = Fault c.args.server c.args.link c.args.at in
     let entry : Entry = record { seat = c.args.seat; by = 0; what = what } in
     let added : c.push_reserved.new.self.items ≡ c.self.inside.entries.items ++ entry ∷ [] = c.push_reserved.ensures.items ∙ ap (λ es. es ++ entry ∷ []) c.make_room.ensures.items in
     let may_spend = attempts_are setting past c.self.inside.list c.self.inside.servers c.self.inside.greatest_key c.self.inside.greatest_link c.self.inside.started c.self.invariant.counted c.self.invariant.limits c.self.invariant.lawful.allowed ∙ sym c.most_attempts-most.ensures.value in
-    let means : Fails c.args.server c.args.link c.args.at (Ok c.count_over-count.result) setting past (Some what) =
+    let means : Fails c.args.server c.args.link c.args.at (Ok c.count_sides-count.result) setting past (Some what) =
     (refl, count ∙ sym (failed_count g.T.Token.plan setting past c.args.server c.args.link c.args.at c.most_attempts-most.result may_spend c.most_attempts-most.ensures.few rows tickets c.self.invariant.stands)) in
-    rw (← c.self.view_is) (happens_by g.T.Token.plan (Fails c.args.server c.args.link c.args.at (Ok c.count_over-count.result)) c.self.inside c.push_reserved.new.self.items c.args.seat 0 what added c.self.invariant tt means)
+    rw (← c.self.view_is) (happens_by g.T.Token.plan (Fails c.args.server c.args.link c.args.at (Ok c.count_sides-count.result)) c.self.inside c.push_reserved.new.self.items c.args.seat 0 what added c.self.invariant tt means)

@@ -1,5 +1,6 @@
-use Rattle.std.proofs.Common.{refl, sym, ap, ap₂, arith, subst, ◌≡◌, ◌∙◌, ◌-◌, ◌^◌, ◌≤◌, Some, Ok, List, [], ◌∷◌, ◌++◌, length, map, false, count_by}
+use Rattle.std.proofs.Common.{refl, sym, ap, ap₂, arith, subst, ◌≡◌, ◌∙◌, ◌-◌, ◌^◌, ◌≤◌, Some, Ok, List, [], ◌∷◌, ◌++◌, length, map, false}
 use Rattle.std.specs.Prelude.{filter, not}
+use Rattle.std.specs.List.{sum_by}
 use Rattle.chan_types.specs.declared.journal.Entry.{Entry}
 use Rattle.chan_types.specs.declared.journal.What.{What}
 use Rattle.chan_types.specs.declared.journal.What.TheVariants.{Servers}
@@ -8,41 +9,29 @@ use Rattle.channel_model.specs.Flight.{Attempt, in_flight}
 use Rattle.channel_model.specs.Journal.{Past, is_destroyed, past_of}
 use Rattle.channel_model.specs.Lawful.{MaySet}
 use Rattle.channel_model.specs.Meanings.{SetsServers}
-use Rattle.channel_model.specs.Servers.{greatest_key, greatest_of, has_key, keys_for, rekeyed}
+use Rattle.channel_model.specs.Servers.{greatest_key, greatest_of, has_key}
 use Rattle.channel_model.specs.Setting.{Setting}
 use Rattle.channel_table.proofs.Keeping.{few_closed, happens_by, happens_same, kept_more, no_more}
-use Rattle.channel_table.proofs.Listing.{counted_set, keys_apart, may_become, set_count, sets_failed, set_length, table_set}
+use Rattle.channel_table.proofs.Listing.{counted_set, keys_apart, keys_are, may_become, set_count, sets_failed, set_length, table_set}
 use Rattle.channel_table.specs.Kept.{setting_of}
-use Rattle.channel_table.specs.Listing.{has_left, row_set}
+use Rattle.channel_table.specs.Listing.{left_in, row_set}
 use Rattle.channel_table.specs.declared.row.Row.{Row}
 use Rattle.channel_table.proofs.table.Table.set_servers.Goals as goal
 
 pub renew-requires-clause-some : goal.renew-requires-clause-some
 renew-requires-clause-some g c =
-    let past : Past = past_of c.self.inside.entries.items in
-    let setting : Setting = setting_of c.self.inside in
-    let addresses = c.args.servers.now in
-    let list : List ServerKey = c.in_ok-list.list in
-    let is : list ≡ keys_for setting addresses past = c.in_ok-list.ensures ∙ ap₂ (rekeyed addresses) (c.as_slice.ensures ∙ sym c.self.invariant.counted.listed) (sym c.self.invariant.counted.keyed) in
-    omega (arith, set_length setting past addresses list is, c.requires.some)
+    let is = keys_are c.args.servers.now c.self.invariant.counted (rw c.as_slice.ensures at c.in_ok-list.ensures) in
+    omega (arith, set_length (setting_of c.self.inside) (past_of c.self.inside.entries.items) c.args.servers.now c.in_ok-list.list is, c.requires.some)
 
 pub renew-requires-clause-few : goal.renew-requires-clause-few
 renew-requires-clause-few g c =
-    let past : Past = past_of c.self.inside.entries.items in
-    let setting : Setting = setting_of c.self.inside in
-    let addresses = c.args.servers.now in
-    let list : List ServerKey = c.in_ok-list.list in
-    let is : list ≡ keys_for setting addresses past = c.in_ok-list.ensures ∙ ap₂ (rekeyed addresses) (c.as_slice.ensures ∙ sym c.self.invariant.counted.listed) (sym c.self.invariant.counted.keyed) in
-    omega (arith, set_length setting past addresses list is, c.requires.few)
+    let is = keys_are c.args.servers.now c.self.invariant.counted (rw c.as_slice.ensures at c.in_ok-list.ensures) in
+    omega (arith, set_length (setting_of c.self.inside) (past_of c.self.inside.entries.items) c.args.servers.now c.in_ok-list.list is, c.requires.few)
 
 pub renew-requires-clause-apart : goal.renew-requires-clause-apart
 renew-requires-clause-apart g c =
-    let past : Past = past_of c.self.inside.entries.items in
-    let setting : Setting = setting_of c.self.inside in
-    let addresses = c.args.servers.now in
-    let list : List ServerKey = c.in_ok-list.list in
-    let is : list ≡ keys_for setting addresses past = c.in_ok-list.ensures ∙ ap₂ (rekeyed addresses) (c.as_slice.ensures ∙ sym c.self.invariant.counted.listed) (sym c.self.invariant.counted.keyed) in
-    keys_apart setting past addresses list is
+    let is = keys_are c.args.servers.now c.self.invariant.counted (rw c.as_slice.ensures at c.in_ok-list.ensures) in
+    keys_apart (setting_of c.self.inside) (past_of c.self.inside.entries.items) c.args.servers.now c.in_ok-list.list is
 
 pub invariant_of-self-in_err-renew : goal.invariant_of-self-in_err-renew
 invariant_of-self-in_err-renew g c =
@@ -76,7 +65,7 @@ invariant_of-self-2 g c =
     let setting : Setting = setting_of c.self.inside in
     let addresses = c.args.servers.now in
     let list : List ServerKey = c.in_ok-list.list in
-    let is : list ≡ keys_for setting addresses past = c.in_ok-list.ensures ∙ ap₂ (rekeyed addresses) (c.as_slice.ensures ∙ sym c.self.invariant.counted.listed) (sym c.self.invariant.counted.keyed) in
+    let is = keys_are c.args.servers.now c.self.invariant.counted (rw c.as_slice.ensures at c.in_ok-list.ensures) in
     let open_ : is_destroyed past ≡ false = c.self.invariant.destroyed ∙ c.if-self.false in
     let may = may_become setting past addresses list is open_ c.requires.some c.requires.few in
     let what : What = Servers list in
@@ -102,14 +91,14 @@ returns g c =
     let setting : Setting = setting_of c.self.inside in
     let addresses = c.args.servers.now in
     let list : List ServerKey = c.in_ok-list.list in
-    let is : list ≡ keys_for setting addresses past = c.in_ok-list.ensures ∙ ap₂ (rekeyed addresses) (c.as_slice.ensures ∙ sym c.self.invariant.counted.listed) (sym c.self.invariant.counted.keyed) in
+    let is = keys_are c.args.servers.now c.self.invariant.counted (rw c.as_slice.ensures at c.in_ok-list.ensures) in
     let open_ : is_destroyed past ≡ false = c.self.invariant.destroyed ∙ c.if-self.false in
     let may = may_become setting past addresses list is open_ c.requires.some c.requires.few in
     let what : What = Servers list in
     let entry : Entry = record { seat = c.args.seat; by = 0; what = what } in
     let added : c.push_reserved.new.self.items ≡ c.self.inside.entries.items ++ entry ∷ [] = rw (c.push_reserved.ensures.items, c.make_room.ensures.items, c.in_ok-kept.ensures, c.as_slice-2.ensures) refl in
-    let count : c.count_left-count.result ≡ count_by (has_left list) c.self.inside.rows.items = c.count_left-count.ensures ∙ ap₂ (λ (l : List ServerKey) (rs : List (Row g.row.T.Denot)). count_by (has_left l) rs) c.as_slice-4.ensures c.as_slice-3.ensures.value in
+    let count : c.count_sides-count.result ≡ sum_by (left_in list) c.self.inside.rows.items = c.count_sides-count.ensures ∙ ap₂ (λ (l : List ServerKey) (rs : List (Row g.row.T.Denot)). sum_by (left_in l) rs) c.as_slice-4.ensures c.as_slice-3.ensures.value in
     let told = count ∙ sym (set_count g.T.Token.plan setting past list c.self.inside.rows.items c.self.inside.ready.items c.self.invariant.stands) in
-    let means : SetsServers addresses (Ok c.count_left-count.result) setting past (Some what) = subst (λ (l : List ServerKey). SetsServers addresses (Ok c.count_left-count.result) setting past (Some (Servers l))) (sym is)
-    (refl, subst (MaySet setting past) is may, subst (λ (l : List ServerKey). c.count_left-count.result ≡ length (filter (λ (a : Attempt). not (has_key a.server l)) (in_flight setting past))) is told) in
-    rw (← c.self.view_is) (happens_by g.T.Token.plan (SetsServers addresses (Ok c.count_left-count.result)) c.self.inside c.push_reserved.new.self.items c.args.seat 0 what added c.self.invariant may means)
+    let means : SetsServers addresses (Ok c.count_sides-count.result) setting past (Some what) = subst (λ (l : List ServerKey). SetsServers addresses (Ok c.count_sides-count.result) setting past (Some (Servers l))) (sym is)
+    (refl, subst (MaySet setting past) is may, subst (λ (l : List ServerKey). c.count_sides-count.result ≡ length (filter (λ (a : Attempt). not (has_key a.server l)) (in_flight setting past))) is told) in
+    rw (← c.self.view_is) (happens_by g.T.Token.plan (SetsServers addresses (Ok c.count_sides-count.result)) c.self.inside c.push_reserved.new.self.items c.args.seat 0 what added c.self.invariant may means)

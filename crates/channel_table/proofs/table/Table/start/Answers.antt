@@ -1,35 +1,35 @@
-use Rattle.std.proofs.Common.{refl, sym, ap, ap₂, subst, arith, ◌≡◌, ◌∙◌, ◌+◌, ◌-◌, ◌^◌, Some, None, Ok, List, [], ◌∷◌, ◌++◌, get_or, ℕ, true}
+use Rattle.std.proofs.Common.{refl, sym, ap, ap₂, subst, arith, ◌≡◌, ◌∙◌, ◌+◌, ◌-◌, ◌^◌, Some, None, Ok, List, [], ◌∷◌, ◌++◌, ℕ, true}
 use Rattle.std.proofs.lemmas.List.{get_or_read}
-use Rattle.std.specs.Prelude.{Option, flat_map, if◌then◌else◌, is_some, min, option_map}
+use Rattle.std.specs.Prelude.{IfSome, Option, if◌then◌else◌, min, option_map}
 use Rattle.chan_types.specs.declared.journal.Entry.{Entry}
 use Rattle.chan_types.specs.declared.journal.What.{What}
 use Rattle.chan_types.specs.declared.journal.What.TheVariants.{Start}
 use Rattle.chan_types.specs.declared.ticket.Ticket.{Ticket}
 use Rattle.dns_message.specs.Spelling.{message_bytes}
-use Rattle.channel_model.specs.Choice.{chosen_server, wait_of}
+use Rattle.channel_model.specs.Choice.{wait_of}
 use Rattle.channel_model.specs.Flight.{asked_with, has_leg, started}
 use Rattle.channel_model.specs.Journal.{Past, past_of}
-use Rattle.channel_model.specs.Lawful.{MayStart, first, is_mixed}
-use Rattle.channel_model.specs.LegFacts.{LegFacts}
+use Rattle.channel_model.specs.Lawful.{MayStart}
 use Rattle.channel_model.specs.Legs.{Leg, leg_of}
 use Rattle.channel_model.specs.Meanings.{Starts}
-use Rattle.channel_model.specs.Past.{forced_server, leg_query, query_for}
+use Rattle.channel_model.specs.Past.{leg_query, query_for}
 use Rattle.channel_model.specs.Servers.{address_of, has_key, in_use, servers_at}
 use Rattle.channel_model.specs.Setting.{Setting}
 use Rattle.channel_model.specs.declared.answers.Begun.TheVariants.{Idle, NoId, Started}
-use Rattle.query_machine.specs.Legs.{attempt_from}
+use Rattle.query_machine.specs.Legs.{IsWaiting, attempt_from}
 use Rattle.query_machine.specs.declared.leg.Flying.{Flying}
 use Rattle.query_machine.specs.declared.leg.Leg as machine
 use Rattle.channel_table.proofs.Attempts.{list_few, list_some}
-use Rattle.channel_table.proofs.Begins.{all_used, chosen_there, counted_begun, counts_length, first_free, may_start, query_told, server_is, some_free, some_if, some_wait, started_few, starts_failed, table_begun, used_is}
-use Rattle.channel_table.proofs.Finding.{waits_so}
+use Rattle.channel_table.proofs.Begins.{all_used, chosen_there, counted_begun, counts_length, first_free, may_begin, query_told, server_taken, some_free, some_wait, started_few, starts_at, starts_failed, table_begun, used_is}
+use Rattle.channel_table.proofs.Finding.{waiting_says}
 use Rattle.channel_table.proofs.Keeping.{few_closed, happens_by, happens_nothing, happens_same, kept_more, no_more}
 use Rattle.channel_table.proofs.Links.{link_few}
-use Rattle.channel_table.proofs.RowAt.{item_at, stands_at}
 use Rattle.channel_table.proofs.Telling.{waiting_rows}
 use Rattle.channel_table.specs.Kept.{setting_of}
-use Rattle.channel_table.specs.Rows.{RowStands, TableStands, flying_of, leg_of_row, waits_of}
-use Rattle.channel_table.specs.Starting.{IsIdle, first_place, link_with, server_with}
+use Rattle.channel_table.specs.Rows.{TableStands, side_at}
+use Rattle.channel_table.specs.Sides.{leg_of_side}
+use Rattle.channel_table.specs.declared.side.Side.{Side}
+use Rattle.channel_table.specs.Starting.{link_with}
 use Rattle.channel_table.specs.declared.row.Row.{Row}
 use Rattle.channel_table.proofs.table.Table.start.Goals as goal
 
@@ -79,15 +79,9 @@ address_of-address-requires g c =
     let tickets : List (Ticket g.row.T.Denot) = c.self.inside.ready.items in
     let found = rw c.as_slice.ensures.value at c.in-Some.ensures in
     let free = rw c.as_slice-2.ensures.value at c.in-Some-free_id.ensures in
-    let at = item_at rows c.in-Some.idle.index found.inside in
-    let row : Row g.row.T.Denot = at.0 in
-    let idle = subst (λ (r : Row g.row.T.Denot). IsIdle r c.in-Some.idle) (at.1 row) (found.is row) in
-    let stands = stands_at g.T.Token.plan setting past rows tickets c.self.invariant.stands c.in-Some.idle.index row found.inside (sym (at.1 row)) in
-    let leg : Leg = leg_of_row row in
-    let forced : forced_server setting leg past ≡ c.in-Some.idle.leg.forced = ap (λ (f : LegFacts). f.forced) stands.leg.facts ∙ ap (λ (l : machine.Leg). l.forced) idle.leg in
-    let place = c.first_place-place.ensures.value ∙ ap (first_place setting.options c.self.inside.started) c.in_use-used.ensures.value in
-    let server : c.choose_server-server.result ≡ chosen_server setting leg past =
-    c.choose_server-server.ensures ∙ ap₂ (λ u p. server_with c.in-Some.idle.leg.forced u p c.self.inside.servers) c.in_use-used.ensures.value place ∙ server_is setting past c.self.inside.list c.self.inside.servers c.self.inside.greatest_key c.self.inside.greatest_link c.self.inside.started c.self.invariant.counted leg c.in-Some.idle.leg.forced forced in
+    let s = starts_at g.T.Token.plan setting past rows tickets c.self.invariant.stands c.in-Some.idle found in
+    let leg : Leg = leg_of_side s.side in
+    let server = server_taken setting past c.self.inside.list c.self.inside.servers c.self.inside.greatest_key c.self.inside.greatest_link c.self.inside.started c.self.invariant.counted leg c.in-Some.idle.leg.forced s.forces c.in_use-used.ensures.value c.first_place-place.ensures.value c.choose_server-server.ensures in
     let there = chosen_there setting past c.self.inside.list c.self.inside.servers c.self.inside.greatest_key c.self.inside.greatest_link c.self.inside.started c.self.invariant.counted leg c.self.invariant.limits c.self.invariant.lawful.allowed in
     rw c.as_slice-4.ensures (subst (λ (s : ℕ). has_key s c.self.inside.list ≡ true) (sym server) there)
 
@@ -119,16 +113,10 @@ returns-in_err-make_room g c =
 
 pub begin-requires-clause-waits : goal.begin-requires-clause-waits
 begin-requires-clause-waits g c = λ d.
-    let past : Past = past_of c.self.inside.entries.items in
-    let setting : Setting = setting_of c.self.inside in
     let rows : List (Row g.row.T.Denot) = c.self.inside.rows.items in
-    let tickets : List (Ticket g.row.T.Denot) = c.self.inside.ready.items in
     let found = rw c.as_slice.ensures.value at c.in-Some.ensures in
-    let at = item_at rows c.in-Some.idle.index found.inside in
-    let row : Row g.row.T.Denot = get_or rows c.in-Some.idle.index d in
     let is = found.is d in
-    let stands = subst (λ (r : Row g.row.T.Denot). RowStands g.T.Token.plan setting past r) (sym (at.1 d)) (stands_at g.T.Token.plan setting past rows tickets c.self.invariant.stands c.in-Some.idle.index at.0 found.inside (sym (at.1 at.0))) in
-    waits_so row.leg.phase is.lands stands.leg.unended
+    subst (λ (o : Option Side). IfSome o (λ (s : Side). IsWaiting s.leg.phase)) (sym is.at) (waiting_says is.side.leg.phase is.waiting).0
 
 pub invariant_of-self-2 : goal.invariant_of-self-2
 invariant_of-self-2 g c =
@@ -138,41 +126,30 @@ invariant_of-self-2 g c =
     let tickets : List (Ticket g.row.T.Denot) = c.self.inside.ready.items in
     let found = rw c.as_slice.ensures.value at c.in-Some.ensures in
     let free = rw c.as_slice-2.ensures.value at c.in-Some-free_id.ensures in
-    let at = item_at rows c.in-Some.idle.index found.inside in
-    let row : Row g.row.T.Denot = at.0 in
-    let idle = subst (λ (r : Row g.row.T.Denot). IsIdle r c.in-Some.idle) (at.1 row) (found.is row) in
-    let stands = stands_at g.T.Token.plan setting past rows tickets c.self.invariant.stands c.in-Some.idle.index row found.inside (sym (at.1 row)) in
-    let leg : Leg = leg_of_row row in
-    let forced : forced_server setting leg past ≡ c.in-Some.idle.leg.forced = ap (λ (f : LegFacts). f.forced) stands.leg.facts ∙ ap (λ (l : machine.Leg). l.forced) idle.leg in
-    let place = c.first_place-place.ensures.value ∙ ap (first_place setting.options c.self.inside.started) c.in_use-used.ensures.value in
-    let server : c.choose_server-server.result ≡ chosen_server setting leg past =
-    c.choose_server-server.ensures ∙ ap₂ (λ u p. server_with c.in-Some.idle.leg.forced u p c.self.inside.servers) c.in_use-used.ensures.value place ∙ server_is setting past c.self.inside.list c.self.inside.servers c.self.inside.greatest_key c.self.inside.greatest_link c.self.inside.started c.self.invariant.counted leg c.in-Some.idle.leg.forced forced in
-    let link : c.choose_link-link.result ≡ link_with rows row.leg.over_tcp c.choose_server-server.result c.self.inside.greatest_link =
-    (rw c.as_slice-3.ensures.value at c.choose_link-link.ensures) ∙ ap (λ (l : machine.Leg). link_with rows l.over_tcp c.choose_server-server.result c.self.inside.greatest_link) (sym idle.leg) in
-    let firsts : first (flat_map waits_of rows) ≡ Some (leg_of_row row) = found.firsts ∙ ap (λ (l : Leg). Some l) (sym idle.own) in
-    let mixes : is_some c.bits_for-bits.result ≡ is_mixed setting c.choose_link-link.result = ap is_some c.bits_for-bits.ensures ∙ some_if (is_mixed setting c.choose_link-link.result) c.args.mix in
-    let may = may_start g.T.Token.plan setting past rows tickets c.self.invariant.stands row c.choose_server-server.result c.choose_link-link.result c.in-Some-free_id.id c.bits_for-bits.result c.self.inside.greatest_link
-    c.self.invariant.lawful.allowed c.self.invariant.counted.linked firsts stands server link free.3 mixes in
-    let may-so : MayStart setting past (leg_of c.in-Some.idle.number c.in-Some.idle.leg_number) c.choose_server-server.result c.choose_link-link.result c.in-Some-free_id.id c.bits_for-bits.result =
-    subst (λ (l : Leg). MayStart setting past l c.choose_server-server.result c.choose_link-link.result c.in-Some-free_id.id c.bits_for-bits.result) idle.own may in
+    let s = starts_at g.T.Token.plan setting past rows tickets c.self.invariant.stands c.in-Some.idle found in
+    let leg : Leg = leg_of_side s.side in
+    let server = server_taken setting past c.self.inside.list c.self.inside.servers c.self.inside.greatest_key c.self.inside.greatest_link c.self.inside.started c.self.invariant.counted leg c.in-Some.idle.leg.forced s.forces c.in_use-used.ensures.value c.first_place-place.ensures.value c.choose_server-server.ensures in
+    let link : c.choose_link-link.result ≡ link_with rows c.in-Some.idle.leg.over_tcp c.choose_server-server.result c.self.inside.greatest_link = rw c.as_slice-3.ensures.value at c.choose_link-link.ensures in
+    let may = may_begin g.T.Token.plan setting past rows tickets c.self.invariant.stands c.in-Some.idle s c.args.mix c.self.inside.greatest_link c.self.invariant.lawful.allowed c.self.invariant.counted.linked server link free.3 c.bits_for-bits.ensures in
     let what : What = Start c.in-Some.idle.number c.in-Some.idle.leg_number c.choose_server-server.result c.choose_link-link.result c.in-Some-free_id.id c.bits_for-bits.result c.args.at in
     let entry : Entry = record { seat = c.args.seat; by = 0; what = what } in
     let added : c.push_reserved.new.self.items ≡ c.self.inside.entries.items ++ entry ∷ [] = c.push_reserved.ensures.items ∙ ap (λ es. es ++ entry ∷ []) c.make_room.ensures.items in
     let room = c.in_ok-make_room.ensures in
     let begins = c.begin.ensures.begins in
-    let same : begins.row ≡ row = sym (begins.is row) ∙ at.1 row in
+    let same : begins.row ≡ s.row = sym (begins.is s.row) ∙ s.at_index s.row in
     let flying : Flying = attempt_from c.choose_server-server.result c.choose_link-link.result c.in-Some-free_id.id c.bits_for-bits.result c.args.at c.wait_of-wait.result in
-    let spent : begins.row.leg.spent ≡ c.in-Some.idle.leg.spent = ap (λ (r : Row g.row.T.Denot). r.leg.spent) same ∙ ap (λ (l : machine.Leg). l.spent) idle.leg in
+    let there = ap (side_at c.in-Some.idle.is_second) same ∙ s.at in
+    let spent : s.side.leg.spent ≡ c.in-Some.idle.leg.spent = ap (λ (l : machine.Leg). l.spent) s.leg in
     let used : c.in_use-used.result ≡ in_use setting past = c.in_use-used.ensures.value ∙ used_is setting past c.self.inside.list c.self.inside.servers c.self.inside.greatest_key c.self.inside.greatest_link c.self.inside.started c.self.invariant.counted in
-    let wait : c.wait_of-wait.result ≡ wait_of setting.options begins.row.leg.spent (in_use setting past) = c.wait_of-wait.ensures ∙ ap₂ (wait_of setting.options) (sym spent) used in
+    let wait : c.wait_of-wait.result ≡ wait_of setting.options s.side.leg.spent (in_use setting past) = c.wait_of-wait.ensures ∙ ap₂ (wait_of setting.options) (sym spent) used in
     let due = ap (λ (w : ℕ). min (c.args.at + w) (2 ^ 64 - 1)) wait in
-    let begun = table_begun g.T.Token.plan setting past rows c.begin.new.rows.items tickets c.in-Some.idle.index flying c.self.invariant.lawful.allowed begins (ap (λ (r : Row g.row.T.Denot). flying_of r) same ∙ idle.lands) due c.self.invariant.stands in
-    let few_link = link_few g.T.Token.plan setting past rows tickets c.self.invariant.stands row.leg.over_tcp c.choose_server-server.result c.self.inside.greatest_link c.self.invariant.counted.linked in
+    let begun = table_begun g.T.Token.plan setting past rows c.begin.new.rows.items tickets c.in-Some.idle.index c.in-Some.idle.is_second flying c.self.invariant.lawful.allowed begins s.side there s.lands s.unended due c.self.invariant.stands in
+    let few_link = link_few g.T.Token.plan setting past rows tickets c.self.invariant.stands c.in-Some.idle.leg.over_tcp c.choose_server-server.result c.self.inside.greatest_link c.self.invariant.counted.linked in
     let counted = counted_begun setting past c.self.inside.list c.self.inside.servers c.self.inside.greatest_key c.self.inside.greatest_link c.self.inside.started c.self.invariant.counted (leg_of c.in-Some.idle.number c.in-Some.idle.leg_number) flying c.in-Some.idle.begun
-    (ap (λ (l : Leg). has_leg l (started past)) (sym idle.own) ∙ stands.begun ∙ idle.begun) in
-    kept_more g.T.Token.plan c.self.inside _ entry refl added c.self.invariant may-so
+    (ap (λ (l : Leg). has_leg l (started past)) (sym s.own) ∙ s.started_so) in
+    kept_more g.T.Token.plan c.self.inside _ entry refl added c.self.invariant may
     (subst (λ (l : Leg). TableStands g.T.Token.plan setting (Start l.request l.number c.choose_server-server.result c.choose_link-link.result c.in-Some-free_id.id c.bits_for-bits.result c.args.at ∷ past) c.begin.new.rows.items tickets)
-    (ap (λ (r : Row g.row.T.Denot). leg_of_row r) same ∙ idle.own) begun)
+    s.own begun)
     (rw (c.max-self-inside.ensures, c.starts_with-self-inside.ensures) counted)
     (no_more what past refl ∙ c.self.invariant.accepts) c.self.invariant.destroyed
     (omega (arith, c.self.invariant.few, c.push_reserved.ensures.len, c.make_room.ensures.len))
@@ -189,40 +166,29 @@ returns g c =
     let tickets : List (Ticket g.row.T.Denot) = c.self.inside.ready.items in
     let found = rw c.as_slice.ensures.value at c.in-Some.ensures in
     let free = rw c.as_slice-2.ensures.value at c.in-Some-free_id.ensures in
-    let at = item_at rows c.in-Some.idle.index found.inside in
-    let row : Row g.row.T.Denot = at.0 in
-    let idle = subst (λ (r : Row g.row.T.Denot). IsIdle r c.in-Some.idle) (at.1 row) (found.is row) in
-    let stands = stands_at g.T.Token.plan setting past rows tickets c.self.invariant.stands c.in-Some.idle.index row found.inside (sym (at.1 row)) in
-    let leg : Leg = leg_of_row row in
-    let forced : forced_server setting leg past ≡ c.in-Some.idle.leg.forced = ap (λ (f : LegFacts). f.forced) stands.leg.facts ∙ ap (λ (l : machine.Leg). l.forced) idle.leg in
-    let place = c.first_place-place.ensures.value ∙ ap (first_place setting.options c.self.inside.started) c.in_use-used.ensures.value in
-    let server : c.choose_server-server.result ≡ chosen_server setting leg past =
-    c.choose_server-server.ensures ∙ ap₂ (λ u p. server_with c.in-Some.idle.leg.forced u p c.self.inside.servers) c.in_use-used.ensures.value place ∙ server_is setting past c.self.inside.list c.self.inside.servers c.self.inside.greatest_key c.self.inside.greatest_link c.self.inside.started c.self.invariant.counted leg c.in-Some.idle.leg.forced forced in
-    let link : c.choose_link-link.result ≡ link_with rows row.leg.over_tcp c.choose_server-server.result c.self.inside.greatest_link =
-    (rw c.as_slice-3.ensures.value at c.choose_link-link.ensures) ∙ ap (λ (l : machine.Leg). link_with rows l.over_tcp c.choose_server-server.result c.self.inside.greatest_link) (sym idle.leg) in
-    let firsts : first (flat_map waits_of rows) ≡ Some (leg_of_row row) = found.firsts ∙ ap (λ (l : Leg). Some l) (sym idle.own) in
-    let mixes : is_some c.bits_for-bits.result ≡ is_mixed setting c.choose_link-link.result = ap is_some c.bits_for-bits.ensures ∙ some_if (is_mixed setting c.choose_link-link.result) c.args.mix in
-    let may = may_start g.T.Token.plan setting past rows tickets c.self.invariant.stands row c.choose_server-server.result c.choose_link-link.result c.in-Some-free_id.id c.bits_for-bits.result c.self.inside.greatest_link
-    c.self.invariant.lawful.allowed c.self.invariant.counted.linked firsts stands server link free.3 mixes in
-    let may-so : MayStart setting past (leg_of c.in-Some.idle.number c.in-Some.idle.leg_number) c.choose_server-server.result c.choose_link-link.result c.in-Some-free_id.id c.bits_for-bits.result =
-    subst (λ (l : Leg). MayStart setting past l c.choose_server-server.result c.choose_link-link.result c.in-Some-free_id.id c.bits_for-bits.result) idle.own may in
+    let s = starts_at g.T.Token.plan setting past rows tickets c.self.invariant.stands c.in-Some.idle found in
+    let leg : Leg = leg_of_side s.side in
+    let server = server_taken setting past c.self.inside.list c.self.inside.servers c.self.inside.greatest_key c.self.inside.greatest_link c.self.inside.started c.self.invariant.counted leg c.in-Some.idle.leg.forced s.forces c.in_use-used.ensures.value c.first_place-place.ensures.value c.choose_server-server.ensures in
+    let link : c.choose_link-link.result ≡ link_with rows c.in-Some.idle.leg.over_tcp c.choose_server-server.result c.self.inside.greatest_link = rw c.as_slice-3.ensures.value at c.choose_link-link.ensures in
+    let may = may_begin g.T.Token.plan setting past rows tickets c.self.invariant.stands c.in-Some.idle s c.args.mix c.self.inside.greatest_link c.self.invariant.lawful.allowed c.self.invariant.counted.linked server link free.3 c.bits_for-bits.ensures in
     let what : What = Start c.in-Some.idle.number c.in-Some.idle.leg_number c.choose_server-server.result c.choose_link-link.result c.in-Some-free_id.id c.bits_for-bits.result c.args.at in
     let entry : Entry = record { seat = c.args.seat; by = 0; what = what } in
     let added : c.push_reserved.new.self.items ≡ c.self.inside.entries.items ++ entry ∷ [] = c.push_reserved.ensures.items ∙ ap (λ es. es ++ entry ∷ []) c.make_room.ensures.items in
-    let same = get_or_read rows c.in-Some.idle.index c.index.result.now found.inside c.index.ensures row ∙ at.1 row in
+    let same = get_or_read rows c.in-Some.idle.index c.index.result.now found.inside c.index.ensures s.row ∙ s.at_index s.row in
+    let side_is : c.side.result.now ≡ s.side = subst (λ (o : Option Side). IfSome o (λ (one : Side). c.side.result.now ≡ one)) (ap (side_at c.in-Some.idle.is_second) same ∙ s.at) c.side.ensures in
     let address : address_of c.choose_server-server.result (servers_at setting past) ≡ Some c.address_of-address.result =
     ap (address_of c.choose_server-server.result) c.self.invariant.counted.listed ∙ (rw c.as_slice-4.ensures at c.address_of-address.ensures) in
     let query : option_map message_bytes (leg_query setting (leg_of c.in-Some.idle.number c.in-Some.idle.leg_number) c.in-Some-free_id.id c.bits_for-bits.result past) ≡ Some c.in_ok-message.message =
-    ap (λ (l : Leg). option_map message_bytes (leg_query setting l c.in-Some-free_id.id c.bits_for-bits.result past)) (sym idle.own)
-    ∙ query_told g.T.Token.plan setting past rows tickets c.self.invariant.stands row c.in-Some-free_id.id c.bits_for-bits.result stands
-    ∙ ap₂ (λ (r : Row g.row.T.Denot) (l : machine.Leg). Some (message_bytes (query_for c.in-Some-free_id.id (asked_with c.bits_for-bits.result r.question) setting.options.flags.norecurse (if l.has_opt then Some setting.options.edns_size else None)))) (sym same) idle.leg
+    ap (λ (l : Leg). option_map message_bytes (leg_query setting l c.in-Some-free_id.id c.bits_for-bits.result past)) (sym s.own)
+    ∙ query_told g.T.Token.plan setting past rows tickets c.self.invariant.stands s.row s.stands s.side c.in-Some-free_id.id c.bits_for-bits.result s.is_of
+    ∙ ap₂ (λ (r : Side) (l : machine.Leg). Some (message_bytes (query_for c.in-Some-free_id.id (asked_with c.bits_for-bits.result r.question) setting.options.flags.norecurse (if l.has_opt then Some setting.options.edns_size else None)))) (sym side_is) s.leg
     ∙ ap Some (sym c.in_ok-message.ensures) in
     let means : Starts c.args.word c.args.mix c.args.at (Ok (Started c.in-Some.idle.number c.in-Some.idle.leg_number c.choose_server-server.result c.address_of-address.result c.choose_link-link.result c.in-Some-free_id.id c.in_ok-message.message)) setting past (Some what) = (
       ap (λ (m : Option ℕ). Some (Start c.in-Some.idle.number c.in-Some.idle.leg_number c.choose_server-server.result c.choose_link-link.result c.in-Some-free_id.id m c.args.at)) c.bits_for-bits.ensures,
-      subst (λ (m : Option ℕ). MayStart setting past (leg_of c.in-Some.idle.number c.in-Some.idle.leg_number) c.choose_server-server.result c.choose_link-link.result c.in-Some-free_id.id m) c.bits_for-bits.ensures may-so,
+      subst (λ (m : Option ℕ). MayStart setting past (leg_of c.in-Some.idle.number c.in-Some.idle.leg_number) c.choose_server-server.result c.choose_link-link.result c.in-Some-free_id.id m) c.bits_for-bits.ensures may,
       first_free g.T.Token.plan setting past rows tickets c.self.invariant.stands c.args.word c.in-Some-free_id.id free,
       address,
       subst (λ (m : Option ℕ). option_map message_bytes (leg_query setting (leg_of c.in-Some.idle.number c.in-Some.idle.leg_number) c.in-Some-free_id.id m past) ≡ Some c.in_ok-message.message) c.bits_for-bits.ensures query,
     ) in
     rw (← c.self.view_is) (happens_by g.T.Token.plan (Starts c.args.word c.args.mix c.args.at (Ok (Started c.in-Some.idle.number c.in-Some.idle.leg_number c.choose_server-server.result c.address_of-address.result c.choose_link-link.result c.in-Some-free_id.id c.in_ok-message.message)))
-    c.self.inside c.push_reserved.new.self.items c.args.seat 0 what added c.self.invariant may-so means)
+    c.self.inside c.push_reserved.new.self.items c.args.seat 0 what added c.self.invariant may means)

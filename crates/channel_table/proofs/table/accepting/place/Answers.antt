@@ -1,4 +1,7 @@
-use Rattle.std.proofs.Common.{false, refl}
+use Rattle.std.proofs.Common.{false, refl, ap, ap₂, ◌∙◌}
+use Rattle.std.specs.Prelude.{option_map}
+use Rattle.channel_table.specs.Sides.{new_side}
+use Rattle.channel_table.specs.declared.side.Asked.{Asked}
 use Rattle.channel_table.proofs.table.accepting.place.Goals as goal
 
 pub returns-in-Asks-clause-places : goal.returns-in-Asks-clause-places
@@ -7,16 +10,20 @@ returns-in-Asks-clause-places g c =
       record {
         number = c.args.number;
         aim = c.args.aim;
-        leg_number = c.first_number.result;
-        question = c.in-Asks.question;
-        names = c.in-Asks.names;
+        first = c.new.result;
+        second = c.second_side.result;
         empty = false;
-        leg = c.new-leg.result;
-        begun = false;
         token = c.args.token;
         call = c.args.call;
       },
-      record { numbered = refl; aims = refl; legged = c.first_number.ensures; asks = refl; others = refl; unpassed = refl; fresh = c.new-leg.ensures; unbegun = refl; for' = refl },
+      record {
+        numbered = refl;
+        aims = refl;
+        first_side = c.new.ensures ∙ ap₂ (λ n l. new_side c.args.number n c.in-Asks.first l) c.first_number.ensures c.new-leg.ensures;
+        second_side = c.second_side.ensures ∙ ap (λ l. option_map (λ (a : Asked). new_side c.args.number 1 a l) c.in-Asks.second) c.new-leg.ensures;
+        unpassed = refl;
+        for' = refl;
+      },
       c.push_reserved.ensures.items,
       refl,
     )

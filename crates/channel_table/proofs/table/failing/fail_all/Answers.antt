@@ -1,7 +1,11 @@
-use Rattle.std.proofs.Common.{sym, ap, arith, ◌≡◌, ◌∙◌, [], ◌∷◌, ◌++◌, append_assoc, length, map, get_or, drop}
+use Rattle.std.proofs.Common.{sym, ap, ap₂, arith, ◌≡◌, ◌∙◌, [], ◌∷◌, ◌++◌, append_assoc, length}
 use Rattle.std.specs.Vec.Iter.{into_iter_items}
-use Rattle.channel_table.proofs.Failing.{ends_more, stays_more}
-use Rattle.channel_table.specs.Failing.{answer_over, fails_at, fails_with}
+use Rattle.channel_table.proofs.Failing.{answers_left, ends_more, stays_more}
+use Rattle.chan_types.specs.declared.status.Status.TheVariants.{ConnRefused}
+use Rattle.channel_model.specs.declared.judged.Judged.TheVariants.{Failed}
+use Rattle.channel_table.specs.After.{after}
+use Rattle.channel_table.specs.Failing.{answer_over, fails_at}
+use Rattle.channel_table.specs.declared.side.Hits.TheVariants.{Over}
 use Rattle.channel_table.proofs.table.failing.fail_all.Goals as goal
 
 pub loop-row-preserved-in-Stays : goal.loop-row-preserved-in-Stays
@@ -11,10 +15,9 @@ loop-row-preserved-in-Stays g c =
     let steps : into_iter_items at.row-iterator ≡ x ∷ into_iter_items c.next.new.self = c.in-Some.ensures.steps.0 in
     let gone = c.in-Some.ensures.steps.1 in
     let short = ap length steps in
-    let answers = at.invariant.10 ∙ ap (map (answer_over c.args.options.now c.args.server c.args.link c.args.most)) steps in
-    let answer : c.remove-answer.result ≡ answer_over c.args.options.now c.args.server c.args.link c.args.most x = c.remove-answer.ensures.value ∙ ap (λ them. get_or them 0 c.remove-answer.result) answers in
-    let left = c.remove-answer.ensures.items ∙ ap (drop 1) answers in
-    let more = stays_more (fails_at c.args.options.now c.args.server c.args.link c.args.most) at.yielded x c.in-Stays.row (ap (λ a. fails_with c.args.options.now.flags c.args.server c.args.link c.args.most a x) (sym answer) ∙ sym c.in-Stays.ensures) in
+    let front = answers_left (answer_over c.args.options.now c.args.server c.args.link c.args.most) c.remove-answer.result at.invariant.10 steps in
+    let answer = c.remove-answer.ensures.value ∙ front.0 in
+    let more = stays_more (fails_at c.args.options.now c.args.server c.args.link c.args.most) at.yielded x c.in-Stays.row (ap₂ (λ b a. after c.args.options.now.flags (Over c.args.server c.args.link) (Failed ConnRefused) b c.args.most x a) (sym c.new-in-loop-row.ensures) (sym answer) ∙ sym c.in-Stays.ensures) in
     let kept = at.invariant.3 in
     let tickets = at.invariant.4 in
     let len = at.invariant.5 in
@@ -29,7 +32,7 @@ loop-row-preserved-in-Stays g c =
       at.invariant.7,
       at.invariant.8,
       c.push_reserved.ensures.capacity ∙ at.invariant.9,
-      left,
+      c.remove-answer.ensures.items ∙ front.1,
     )
 
 pub loop-row-preserved : goal.loop-row-preserved
@@ -39,10 +42,9 @@ loop-row-preserved g c =
     let steps : into_iter_items at.row-iterator ≡ x ∷ into_iter_items c.next.new.self = c.in-Some.ensures.steps.0 in
     let gone = c.in-Some.ensures.steps.1 in
     let short = ap length steps in
-    let answers = at.invariant.10 ∙ ap (map (answer_over c.args.options.now c.args.server c.args.link c.args.most)) steps in
-    let answer : c.remove-answer.result ≡ answer_over c.args.options.now c.args.server c.args.link c.args.most x = c.remove-answer.ensures.value ∙ ap (λ them. get_or them 0 c.remove-answer.result) answers in
-    let left = c.remove-answer.ensures.items ∙ ap (drop 1) answers in
-    let more = ends_more (fails_at c.args.options.now c.args.server c.args.link c.args.most) at.yielded x c.in-Ends.ticket (ap (λ a. fails_with c.args.options.now.flags c.args.server c.args.link c.args.most a x) (sym answer) ∙ sym c.in-Ends.ensures) in
+    let front = answers_left (answer_over c.args.options.now c.args.server c.args.link c.args.most) c.remove-answer.result at.invariant.10 steps in
+    let answer = c.remove-answer.ensures.value ∙ front.0 in
+    let more = ends_more (fails_at c.args.options.now c.args.server c.args.link c.args.most) at.yielded x c.in-Ends.ticket (ap₂ (λ b a. after c.args.options.now.flags (Over c.args.server c.args.link) (Failed ConnRefused) b c.args.most x a) (sym c.new-in-loop-row.ensures) (sym answer) ∙ sym c.in-Ends.ensures) in
     let kept = at.invariant.3 in
     let tickets = at.invariant.4 in
     let len = at.invariant.5 in
@@ -57,5 +59,5 @@ loop-row-preserved g c =
       omega (arith, at.invariant.7, c.push_reserved-in-Ends.ensures.len),
       c.push_reserved-in-Ends.ensures.capacity ∙ at.invariant.8,
       at.invariant.9,
-      left,
+      c.remove-answer.ensures.items ∙ front.1,
     )

@@ -1,8 +1,8 @@
 use Rattle.std.proofs.Common.{◌≡◌, [], take}
 use Rattle.std.specs.Prelude.{flat_map}
-use Rattle.channel_table.specs.Rows.{waits_of}
+use Rattle.channel_table.specs.Rows.{row_waits}
 use Rattle.channel_table.proofs.table.starting.find_idle.Given as goal
 
 -- no row before this index waits
 abbrev pub invariant-loop-index : goal.invariant-loop-index
-invariant-loop-index g l = flat_map waits_of (take l.index l.rows) ≡ []
+invariant-loop-index g l = flat_map row_waits (take l.index l.rows) ≡ []

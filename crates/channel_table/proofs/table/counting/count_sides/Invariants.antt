@@ -1,0 +1,7 @@
+use Rattle.std.proofs.Common.{◌≡◌, ◌≤◌, ◌*◌, take}
+use Rattle.std.specs.List.{sum_by}
+use Rattle.channel_table.specs.Sought.{sought_in}
+use Rattle.channel_table.proofs.table.counting.count_sides.Given as goal
+
+abbrev pub invariant-loop-row : goal.invariant-loop-row
+invariant-loop-row g l = (l.count ≡ sum_by (sought_in l.sought) (take l.row-index l.rows)) × (l.count ≤ 2 * l.row-index)
