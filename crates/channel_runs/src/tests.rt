@@ -3,18 +3,25 @@
 ghost use Rattle.std.specs.Prelude.{All, IfOk};
 ghost use Rattle.net_world.specs.Script.{MayCome};
 
+mod addresses;
+mod asking;
+mod both;
+mod calls;
 mod datagrams;
+mod ending;
 mod failing;
 mod links;
+mod searching;
+mod servers;
+mod sorting;
 mod strays;
 mod telling;
 
-use chan_types::{Bytes, Quiet, Spec};
+use calls::{Call, Request, answers_told, channel_of};
+use chan_types::{Bytes, Quiet};
 use channel_model::Desk;
 use channel_table::Alone;
-use dns_message::numbers::{CLASS_IN, KIND_A};
 use event_runner::Runner;
-use hosts_file::Hosts;
 use item_list::NoMemory;
 use net_world::{Got, ScriptWorld, Timed};
 use resolv_options::read_resolv;
@@ -26,50 +33,57 @@ use telling::{calls_told, journal_told};
 const REPLY: &[u8] =
     b"\x12\x34\x81\x80\0\x01\0\x01\0\0\0\0\x07example\x03com\0\0\x01\0\x01\xc0\x0c\0\x01\0\x01\0\0\0\x3c\0\x04\xc0\0\x02\x01";
 
-/// One server, which is asked once, for 2 seconds (resolv.conf(5)).
+/// One server, which is asked three times, first for 2 seconds (resolv.conf(5)).
+const PLAIN: &[u8] = b"nameserver 192.0.2.53\noptions timeout:2\n";
+
+/// One server, which is asked once, for 2 seconds.
 const ONE: &[u8] = b"nameserver 192.0.2.53\noptions timeout:2 attempts:1\n";
 
 /// One server, which is asked over TCP alone.
 const OVER_TCP: &[u8] = b"nameserver 192.0.2.53\noptions timeout:2 use-vc\n";
 
+/// Asks for the addresses of IPv4 that example.com has.
+const ASK: Call<'static> = Call::Ask(Request::Query(b"example.com"));
+
 /// The random word that the network gives each time: the identifier of an attempt that flies alone.
 const WORD: u16 = 0x1234;
 
-/// A channel with one owner, its runner and its network, and the codes of the statuses that were taken.
+/// A channel with one owner, its runner and its network, what it answered, and the codes of the statuses that were taken.
 #[derive(Drop)]
 struct Run {
     desk: Alone<Quiet>,
     runner: Runner,
     world: ScriptWorld,
+    answers: Vec<u8>,
     statuses: Vec<u8>,
 }
 
 /// A run over a network on which this comes, where the calls of these numbers fail, for a channel as resolv.conf says.
 fn begun(alloc: Global, resolv: &[u8], comings: &[Coming<'_>], fails: &[u64]) -> Result<Run, Fail> {
     let options = read_resolv(alloc, resolv)?;
-    let words = Vec::from_elem(alloc, WORD, 64)?;
-    let items = items_of(alloc, comings)?;
-    let mut world = ScriptWorld::make(words, items, fails.to_vec(alloc)?);
+    let mut world = world_of(alloc, comings, fails)?;
     let runner = Runner::make(alloc, &mut world, &options)?;
     Ok(Run {
-        desk: Alone::make(alloc, options, Hosts::empty(alloc))?,
+        desk: channel_of(alloc, options)?,
         runner,
         world,
+        answers: Vec::new(alloc),
         statuses: Vec::new(alloc),
     })
 }
 
-/// Asks for the addresses of IPv4 that example.com has. The number is that of the request, or 0 where it is refused.
-fn asked(run: &mut Run, alloc: Global) -> Result<u64, Fail> {
-    let spec = Spec::Query {
-        name: Bytes::of(alloc, b"example.com")?,
-        kind: KIND_A,
-        class: CLASS_IN,
-    };
-    match run.desk.accept(spec, Quiet::new(alloc)) {
-        Ok(number) => Ok(number),
-        Err(_) => Ok(0),
-    }
+/// A network on which this comes, where the calls of these numbers fail.
+fn world_of(alloc: Global, comings: &[Coming<'_>], fails: &[u64]) -> Result<ScriptWorld, Fail> {
+    let words = Vec::from_elem(alloc, WORD, 64)?;
+    let items = items_of(alloc, comings)?;
+    Ok(ScriptWorld::make(words, items, fails.to_vec(alloc)?))
+}
+
+/// Makes these calls of the channel, and keeps what it answers.
+fn make_calls(alloc: Global, run: &mut Run, calls: &[Call<'_>]) -> Result<(), Fail> {
+    let told = answers_told(alloc, &mut run.desk, calls)?;
+    run.answers.extend_from_slice(told.as_slice())?;
+    Ok(())
 }
 
 /// Takes each request that is ready.
@@ -98,7 +112,22 @@ fn played(run: &mut Run, turns: u64) -> Result<(), Fail> {
     Ok(())
 }
 
-/// A run of one request: so many turns over what this network gives.
+/// A run of these calls, and then so many turns over what this network gives.
+fn played_with(
+    alloc: Global,
+    resolv: &[u8],
+    comings: &[Coming<'_>],
+    fails: &[u64],
+    calls: &[Call<'_>],
+    turns: u64,
+) -> Result<Run, Fail> {
+    let mut run = begun(alloc, resolv, comings, fails)?;
+    make_calls(alloc, &mut run, calls)?;
+    played(&mut run, turns)?;
+    Ok(run)
+}
+
+/// The same for one request, for the addresses of IPv4 that example.com has.
 fn played_alone(
     alloc: Global,
     resolv: &[u8],
@@ -106,10 +135,7 @@ fn played_alone(
     fails: &[u64],
     turns: u64,
 ) -> Result<Run, Fail> {
-    let mut run = begun(alloc, resolv, comings, fails)?;
-    let _number = asked(&mut run, alloc)?;
-    played(&mut run, turns)?;
-    Ok(run)
+    played_with(alloc, resolv, comings, fails, &[ASK], turns)
 }
 
 /// The first status that was taken, or 100.

@@ -103,7 +103,8 @@ take 1
 }
 
 /// Each send to the only server fails: its three attempts are spent in one turn, without a wait. The calls of the
-/// network are, by number: 0 tells the server, 1 reads the clock, 2 receives, and then a word is drawn before each send.
+/// network are, by number: 0 tells the server, 1 reads the clock, 2 receives, and then a word is drawn before each
+/// send.
 #[test]
 fn sends_fail_in_one_turn(rt: HostRuntime) -> Result<(), Fail> {
     let alloc = rt.alloc();

@@ -1,7 +1,7 @@
 //! Each call of the network fails in turn.
 
-use super::links::{PLAIN, TRUNCATED_FIRST};
-use super::{Run, played_alone};
+use super::links::TRUNCATED_FIRST;
+use super::{PLAIN, Run, played_alone};
 use chan_types::{Entry, What};
 use channel_table::Alone;
 use net_world::{Got, Sent, WorldCall, Wrote};
@@ -42,8 +42,8 @@ fn failures_in(calls: &[WorldCall]) -> u64 {
     failures
 }
 
-/// How many faults the journal has, and how many calls failed, in a run whose call of this number fails: its first reply is
-/// truncated, and the whole one comes over TCP.
+/// How many faults the journal has, and how many calls failed, in a run whose call of this number fails: its first
+/// reply is truncated, and the whole one comes over TCP.
 fn failed_once(alloc: Global, number: u64) -> Result<(u64, u64), Fail> {
     let run = played_alone(alloc, PLAIN, &TRUNCATED_FIRST, &[number], 6)?;
     let Run { desk, world, .. } = run;
@@ -51,8 +51,8 @@ fn failed_once(alloc: Global, number: u64) -> Result<(u64, u64), Fail> {
     Ok((faults_in(Alone::close(desk).entries()), failures))
 }
 
-/// Each failure of a send, a connect, a write or a receive leaves one fault, and no other call does. Of the first forty calls
-/// at least ten are such.
+/// Each failure of a send, a connect, a write or a receive leaves one fault, and no other call does. Of the first forty
+/// calls at least ten are such.
 #[test]
 fn each_failure_is_one_fault(rt: HostRuntime) -> Result<(), Fail> {
     let alloc = rt.alloc();

@@ -1,10 +1,7 @@
 //! Runs over links.
 
-use super::{Coming, OVER_TCP, asked, begun, is_told, played, played_alone, status_of};
+use super::{ASK, Coming, OVER_TCP, PLAIN, is_told, played_alone, played_with, status_of};
 use std::test::Fail;
-
-/// One server (resolv.conf(5)).
-pub const PLAIN: &[u8] = b"nameserver 192.0.2.53\noptions timeout:2\n";
 
 /// A truncated reply to the query with identifier 0x1234 for example.com: TC is set (RFC 1035, section 4.1.1).
 const TRUNCATED: &[u8] = b"\x12\x34\x83\x80\0\x01\0\0\0\0\0\0\x07example\x03com\0\0\x01\0\x01";
@@ -13,8 +10,8 @@ const TRUNCATED: &[u8] = b"\x12\x34\x83\x80\0\x01\0\0\0\0\0\0\x07example\x03com\
 const FRAME_REST: &[u8] =
     b"\x2d\x12\x34\x81\x80\0\x01\0\x01\0\0\0\0\x07example\x03com\0\0\x01\0\x01\xc0\x0c\0\x01\0\x01\0\0\0\x3c\0\x04\xc0\0\x02\x01";
 
-/// A reply that is truncated, and the whole one over TCP: its frame (section 4.2.2) comes in two pieces, of which the first has
-/// one byte.
+/// A reply that is truncated, and the whole one over TCP: its frame (section 4.2.2) comes in two pieces, of which the
+/// first has one byte.
 pub const TRUNCATED_FIRST: [Coming<'static>; 3] = [
     Coming::Datagram {
         from: 1,
@@ -56,9 +53,7 @@ take 1
 fn an_ended_link_fails_both_attempts(rt: HostRuntime) -> Result<(), Fail> {
     let alloc = rt.alloc();
     let items = [Coming::End { from: 1, link: 1 }];
-    let mut run = begun(alloc, OVER_TCP, &items, &[])?;
-    assert_eq!(rt; (asked(&mut run, alloc)?, asked(&mut run, alloc)?), (1, 2));
-    played(&mut run, 2)?;
+    let run = played_with(alloc, OVER_TCP, &items, &[], &[ASK, ASK], 2)?;
     let journal = "accept 1
 accept 2
 start 1 on 0 over 1 at 0

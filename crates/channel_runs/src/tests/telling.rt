@@ -1,6 +1,6 @@
 //! Journals and logs as lines of text.
 
-use chan_types::{Entry, What};
+use chan_types::{Entry, ServerKey, What};
 use net_world::WorldCall;
 use std::alloc::Global;
 use std::test::Fail;
@@ -28,8 +28,19 @@ fn line_of(alloc: Global, what: &What) -> Result<String, Fail> {
             link,
             moment,
         } => format!(in alloc; "fault of {server} over {link} at {moment}\n")?,
-        What::Servers { .. } => format!(in alloc; "servers\n")?,
+        What::Servers { list } => keys_told(alloc, list.as_slice())?,
     })
+}
+
+/// The line of a list of servers: their keys, in order.
+fn keys_told(alloc: Global, list: &[ServerKey]) -> Result<String, Fail> {
+    let mut text = format!(in alloc; "servers")?;
+    for server in list {
+        let key = server.key;
+        text.push_str(format!(in alloc; " {key}")?.as_str())?;
+    }
+    text.push_str("\n")?;
+    Ok(text)
 }
 
 /// The lines of a journal.
