@@ -99,9 +99,15 @@ const CASES: &[Case] = &[
     },
 ];
 
-/// Whether a text begins and ends so.
-fn is_between(text: &[u8], head: &str, tail: &str) -> bool {
-    text.starts_with(head.as_bytes()) && text.ends_with(tail.as_bytes())
+/// Whether a page is this, with the digits of one number between its head and its tail, and nothing else.
+fn is_between(page: &[u8], head: &str, tail: &str) -> bool {
+    let Some(rest) = page.strip_prefix(head.as_bytes()) else {
+        return false;
+    };
+    match rest.strip_suffix(tail.as_bytes()) {
+        Some(id) => !id.is_empty() && id.iter().all(|byte| byte.is_ascii_digit()),
+        None => false,
+    }
 }
 
 /// A listener on a port that was free just now, and the port.
