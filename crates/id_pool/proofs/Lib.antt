@@ -1,0 +1,4 @@
+pub mod Theorems
+mod BitmapLemmas
+mod LevelsLemmas
+mod PoolLemmas

@@ -1,0 +1,3 @@
+pub mod Bitmap
+pub mod Identifiers
+pub mod Levels

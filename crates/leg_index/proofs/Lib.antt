@@ -1,0 +1,4 @@
+pub mod Theorems
+mod FlightLemmas
+mod LinkLemmas
+mod WaitingLemmas

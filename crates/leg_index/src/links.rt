@@ -1,0 +1,130 @@
+//! The links over which legs are in flight.
+ghost use Rattle.std.specs.Prelude.{◌≡◌, ◌+◌, ◌-◌, ◌^◌, ◌<◌, ◌==◌, ℕ, [], not, cond, MatchOption, OnOk, OnErr};
+ghost use Rattle.leg_index.specs.Links.{used, used_in, counts_tcp, is_link, FindsUse, IsOverTcp, NoneOverTcp};
+
+use std::alloc::{AllocError, Global};
+use std::marker::Model;
+
+/// How many legs are in flight on a server over a link: 0 is its socket for UDP, and any other one a connection.
+#[derive(Clone, Copy, Debug, PartialEq, Eq)]
+pub struct LinkUse {
+    pub server: u32,
+    pub link: u64,
+    pub count: u64,
+}
+
+/// The links over which legs are in flight, with how many those are. They are few: for each server its socket for UDP
+/// and mostly one connection.
+#[derive(Drop)]
+pub struct Links {
+    uses: Vec<LinkUse>,
+}
+
+impl Model for Links {
+    ghost use Rattle.std.specs.Prelude.{List};
+    ghost use Rattle.leg_index.specs.declared.links.LinkUse.{LinkUse};
+
+    ghost Value = { List LinkUse };
+
+    ghost view = { λ links. links.uses.items };
+}
+
+impl Links {
+    /// No leg is in flight. It takes no memory.
+    pub fn make(alloc: Global) -> Links
+        ensures { result ≡ [] }
+    {
+        Links {
+            uses: Vec::new(alloc),
+        }
+    }
+
+    /// Whether a leg is in flight on this server over this link.
+    pub fn is_busy(&self, server: u32, link: u64) -> bool
+        ensures { result ≡ not (used server link self.now == 0) }
+    {
+        find_use(self.uses.as_slice(), server, link).is_some()
+    }
+
+    /// One leg more is in flight on this server over this link. `AllocError` is want of memory.
+    pub fn begin(&mut self, server: u32, link: u64) -> Result<(), AllocError>
+        requires fits { used server link self.old + 1 < 2 ^ 64 }
+        ensures ok { OnOk result ((s l : ℕ)
+            → used s l self.new ≡ cond (is_link server link s l) 1 0 + used s l self.old) }
+        ensures err { OnErr result (self.new ≡ self.old) }
+    {
+        match find_use(self.uses.as_slice(), server, link) {
+            Some(index) => self.uses[index].count += 1,
+            None => self.uses.push(LinkUse {
+                server,
+                link,
+                count: 1,
+            })?,
+        }
+        Ok(())
+    }
+
+    /// One leg less is. Where none was, nothing changes. It takes no memory.
+    pub fn end(&mut self, server: u32, link: u64)
+        ensures { (s l : ℕ)
+            → used s l self.new ≡ used s l self.old - cond (is_link server link s l) 1 0 }
+    {
+        let Some(index) = find_use(self.uses.as_slice(), server, link) else {
+            return;
+        };
+        if self.uses[index].count == 1 {
+            self.uses.swap_remove(index);
+        } else {
+            self.uses[index].count -= 1;
+        }
+    }
+
+    /// A link over TCP to this server over which a leg is in flight.
+    pub fn over_tcp(&self, server: u32) -> Option<u64>
+        ensures { MatchOption result (NoneOverTcp server self.now) (IsOverTcp server self.now) }
+    {
+        find_tcp(self.uses.as_slice(), server)
+    }
+}
+
+// A link over TCP of the first item for this server that counts a leg over one.
+fn find_tcp(uses: &[LinkUse], server: u32) -> Option<u64>
+    ensures { MatchOption result (NoneOverTcp server uses.now) (IsOverTcp server uses.now) }
+{
+    for index in 0..uses.len() {
+        if counts_tcp(uses[index], server) {
+            return Some(uses[index].link);
+        }
+    }
+    None
+}
+
+// How many legs the item counts on this server over this link.
+fn used_in(item: LinkUse, server: u32, link: u64) -> u64
+    ensures { result ≡ used_in server link item }
+{
+    if item.server == server && item.link == link {
+        item.count
+    } else {
+        0
+    }
+}
+
+// Whether the item counts a leg on this server over TCP.
+fn counts_tcp(item: LinkUse, server: u32) -> bool
+    ensures { result ≡ counts_tcp server item }
+{
+    item.server == server && item.link != 0 && item.count != 0
+}
+
+// The first item for this server and this link that counts a leg.
+fn find_use(uses: &[LinkUse], server: u32, link: u64) -> Option<usize>
+    ensures { FindsUse server link uses.now result }
+{
+    for index in 0..uses.len() {
+        if used_in(uses[index], server, link) != 0 {
+            return Some(index);
+        }
+    }
+    None
+}
