@@ -23,12 +23,12 @@ module _ {T : Type 0} (plan : T → Script) where
   -- a table that went on with one entry, allowed there, and stands for the past behind it
   pub kept_more : (old new : Inside T) (entry : Entry) → setting_of new ≡ setting_of old → new.entries.items ≡ old.entries.items ++ entry ∷ []
       → IsKept plan old → IsAllowed (setting_of old) (past_of old.entries.items) entry.what
-      → TableStands plan (setting_of old) (entry.what ∷ past_of old.entries.items) new.rows.items new.ready.items
+      → TableStands plan (setting_of old) (entry.what ∷ past_of old.entries.items) new.rows new.ready.items
       → AreCounted (setting_of old) (entry.what ∷ past_of old.entries.items) new.list new.servers new.greatest_key new.greatest_link new.started
       → length (accepted (entry.what ∷ past_of old.entries.items)) ≡ new.accepted → is_destroyed (entry.what ∷ past_of old.entries.items) ≡ new.closed
       → new.accepted ≤ vec_len new.entries → new.greatest_link ≤ vec_len new.entries → new.started ≤ vec_len new.entries
-      → vec_len new.entries + 2 * vec_len new.rows + vec_len new.ready + cond new.closed 0 1 ≤ vec_capacity new.entries
-      → vec_len new.rows + vec_len new.ready ≤ vec_capacity new.ready → IsKept plan new
+      → vec_len new.entries + 2 * length new.rows + vec_len new.ready + cond new.closed 0 1 ≤ vec_capacity new.entries
+      → length new.rows + vec_len new.ready ≤ vec_capacity new.ready → IsKept plan new
   kept_more old new entry same added kept allowed stands counted accepts destroyed few few_links few_starts room room_ready =
       let past : past_of new.entries.items ≡ entry.what ∷ past_of old.entries.items = ap past_of added ∙ past_of-push old.entries.items entry in
       record {
@@ -43,6 +43,24 @@ module _ {T : Type 0} (plan : T → Script) where
         few_starts = few_starts;
         room = room;
         room_ready = room_ready;
+      }
+
+  -- a table that made room alone
+  pub kept_grown : (old new : Inside T) → record new { entries = old.entries } ≡ old → new.entries.items ≡ old.entries.items → vec_len new.entries ≡ vec_len old.entries → vec_capacity old.entries ≤ vec_capacity new.entries → IsKept plan old → IsKept plan new
+  kept_grown old new same items len more kept =
+      let all : IsKept plan (record new { entries = old.entries }) = subst (IsKept plan) (sym same) kept in
+      record {
+        limits = all.limits;
+        lawful = rw items all.lawful;
+        stands = rw items all.stands;
+        counted = rw items all.counted;
+        accepts = rw items all.accepts;
+        destroyed = rw items all.destroyed;
+        few = omega (arith, all.few, len);
+        few_links = omega (arith, all.few_links, len);
+        few_starts = omega (arith, all.few_starts, len);
+        room = omega (arith, all.room, len, more);
+        room_ready = all.room_ready;
       }
 
   -- what a call means that added an entry

@@ -7,6 +7,7 @@ mod TableSteps
 mod RowFrames
 mod Counting
 mod Keeping
+mod Newest
 mod FreshLegs
 mod AcceptSteps
 mod Candidates
@@ -31,3 +32,10 @@ mod Links
 mod Begins
 mod Listing
 mod Desks
+mod Apart
+mod ListedLemmas
+mod IndexLemmas
+mod EntryLemmas
+mod FlownLemmas
+mod FlownRows
+mod LandingRow

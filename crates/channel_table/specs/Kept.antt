@@ -22,12 +22,12 @@ seen_of t = record { setting = setting_of t; journal = t.entries.items }
 pub record IsKept {T : Type 0} (plan : T → Script) (t : Inside T) : Type 0 where
   pub limits : AreWithinLimits t.options
   pub lawful : IsLawful (setting_of t) t.entries.items
-  pub stands : TableStands plan (setting_of t) (past_of t.entries.items) t.rows.items t.ready.items
+  pub stands : TableStands plan (setting_of t) (past_of t.entries.items) t.rows t.ready.items
   pub counted : AreCounted (setting_of t) (past_of t.entries.items) t.list t.servers t.greatest_key t.greatest_link t.started
   pub accepts : length (accepted (past_of t.entries.items)) ≡ t.accepted
   pub destroyed : is_destroyed (past_of t.entries.items) ≡ t.closed
   pub few : t.accepted ≤ vec_len t.entries
   pub few_links : t.greatest_link ≤ vec_len t.entries
   pub few_starts : t.started ≤ vec_len t.entries
-  pub room : vec_len t.entries + 2 * vec_len t.rows + vec_len t.ready + cond t.closed 0 1 ≤ vec_capacity t.entries
-  pub room_ready : vec_len t.rows + vec_len t.ready ≤ vec_capacity t.ready
+  pub room : vec_len t.entries + 2 * length t.rows + vec_len t.ready + cond t.closed 0 1 ≤ vec_capacity t.entries
+  pub room_ready : length t.rows + vec_len t.ready ≤ vec_capacity t.ready

@@ -13,6 +13,11 @@ pub mod Ends
 pub mod Arriving
 pub mod Failing
 pub mod Starting
+pub mod Apart
+pub mod Listed
+pub mod Flown
+pub mod Forgotten
+pub mod Indexed
 pub mod Listing
 pub mod Sought
 pub mod Calling

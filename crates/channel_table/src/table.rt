@@ -7,14 +7,17 @@ mod accepting;
 mod counting;
 mod ending;
 mod failing;
+mod finding;
+mod flown;
 mod landing;
 mod listing;
 mod moving;
+mod rows;
 mod seeking;
 mod starting;
 mod taking;
 
-use crate::row::Row;
+use self::rows::Rows;
 use chan_types::{Entry, Journal, KeyList, NoMemory, ServerKey, Ticket, Token};
 use hosts_file::Hosts;
 use net_addr::ServerAddr;
@@ -32,7 +35,7 @@ pub struct Table<T: Token> {
     hosts: Hosts,
     entries: Vec<Entry>,
     /// The pending requests, by number.
-    rows: Vec<Row<T>>,
+    rows: Rows<T>,
     /// The completed requests that weren't taken, in the order of their completion.
     ready: Vec<Ticket<T>>,
     /// The servers with their keys, in the order of the list.
@@ -81,7 +84,7 @@ impl<T: Token> Table<T> {
             options,
             hosts,
             entries: Vec::with_capacity(alloc, 1)?,
-            rows: Vec::new(alloc),
+            rows: Rows::make(alloc)?,
             ready: Vec::new(alloc),
             list,
             servers,

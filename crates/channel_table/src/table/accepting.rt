@@ -1,14 +1,17 @@
 //! Accepting a request: what it comes to, and the room that its later entries need.
 
-ghost use Rattle.std.specs.Prelude.{◌≡◌, ◌≢◌, ◌+◌, ◌*◌, ◌≤◌, [], ◌∷◌, IfOk, OnOk, Ok, option_map, vec_len, vec_capacity};
+ghost use Rattle.std.specs.List.{AllByRecursion};
+ghost use Rattle.std.specs.Prelude.{◌≡◌, ◌≢◌, ◌+◌, ◌*◌, ◌<◌, ◌≤◌, [], ◌∷◌, IfErr, IfOk, OnErr, OnOk, Ok, length, map, option_map, vec_len, vec_capacity};
 ghost use Rattle.channel_model.specs.Meanings.{Accepts};
 ghost use Rattle.channel_table.specs.Opening.{AreAsked, Opens, OpensHost, OpensName, OpensText, itself, searched, with_second};
 ghost use Rattle.channel_table.specs.Sides.{new_side};
 ghost use Rattle.channel_table.specs.Places.{Places};
+ghost use Rattle.channel_table.specs.Rows.{number_of};
 ghost use Rattle.addr_lookup.specs.Channels.{set_to};
 ghost use Rattle.channel_model.specs.Seen.{Happens};
 
 use super::Table;
+use super::rows::Rows;
 use crate::aim::Aim;
 use crate::row::{Row, ticket_of, ticket_with};
 use crate::side::{Asked, Side};
@@ -64,7 +67,7 @@ impl<T: Token> Table<T> {
             self.alloc,
             opening,
             &mut self.entries,
-            &mut self.rows,
+            self.rows.len(),
             &mut self.ready,
             &token,
         ) {
@@ -74,17 +77,7 @@ impl<T: Token> Table<T> {
                     script,
                     call,
                 } = prepared;
-                self.entries.push_reserved(Entry {
-                    seat,
-                    by,
-                    what: What::Accept {
-                        number,
-                        spec,
-                        script,
-                    },
-                });
-                self.accepted = number;
-                place(
+                match place(
                     self.alloc,
                     &self.options,
                     &mut self.rows,
@@ -94,8 +87,26 @@ impl<T: Token> Table<T> {
                     aim,
                     token,
                     call,
-                );
-                Ok(number)
+                ) {
+                    Ok(()) => {
+                        self.entries.push_reserved(Entry {
+                            seat,
+                            by,
+                            what: What::Accept {
+                                number,
+                                spec,
+                                script,
+                            },
+                        });
+                        self.accepted = number;
+                        Ok(number)
+                    }
+                    Err(token) => Err(Refused {
+                        why: Refusal::NoMemory,
+                        spec,
+                        token,
+                    }),
+                }
             }
             Err(NoMemory) => Err(Refused {
                 why: Refusal::NoMemory,
@@ -106,36 +117,32 @@ impl<T: Token> Table<T> {
     }
 }
 
-/// What an accept of a request that comes to this needs, if memory was found for it: room for its entry, for those that
-/// its request may need, and for its row or its ticket.
+/// What an accept of a request that comes to this needs beside so many rows, if memory was found for it: room for its
+/// entry, for those that its request may need, and for its ticket.
 fn prepare<T: Token>(
     alloc: Global,
     opening: Result<Opening, NoMemory>,
     entries: &mut Vec<Entry>,
-    rows: &mut Vec<Row<T>>,
+    rows: usize,
     ready: &mut Vec<Ticket<T>>,
     token: &T,
 ) -> Result<Prepared, NoMemory>
-    requires room { 2 * vec_len rows.old + vec_len ready.old ≤ vec_capacity entries.old }
+    requires room { 2 * rows + vec_len ready.old ≤ vec_capacity entries.old }
     ensures opening { IfOk result (λ prepared. opening ≡ Ok prepared.opening) }
     ensures script { IfOk result (λ prepared. prepared.script ≡ T.plan token.now) }
     ensures room { OnOk result
-        (vec_len entries.new + 2 * vec_len rows.new + vec_len ready.new + 4 ≤ vec_capacity entries.new) }
-    ensures room_rows { OnOk result (vec_len rows.new + 1 ≤ vec_capacity rows.new) }
-    ensures room_ready { OnOk result (vec_len rows.new + vec_len ready.new + 1 ≤ vec_capacity ready.new) }
-    ensures same { (entries.new.items ≡ entries.old.items) × (rows.new.items ≡ rows.old.items)
-        × (ready.new.items ≡ ready.old.items) }
-    ensures lens { (vec_len entries.new ≡ vec_len entries.old)
-        × (vec_len rows.new ≡ vec_len rows.old) × (vec_len ready.new ≡ vec_len ready.old) }
+        (vec_len entries.new + 2 * rows + vec_len ready.new + 4 ≤ vec_capacity entries.new) }
+    ensures room_ready { OnOk result (rows + vec_len ready.new + 1 ≤ vec_capacity ready.new) }
+    ensures same { (entries.new.items ≡ entries.old.items) × (ready.new.items ≡ ready.old.items) }
+    ensures lens { (vec_len entries.new ≡ vec_len entries.old) × (vec_len ready.new ≡ vec_len ready.old) }
     ensures capacities { (vec_capacity entries.old ≤ vec_capacity entries.new)
         × (vec_capacity ready.old ≤ vec_capacity ready.new) }
 {
     let opening = opening?;
     let script = token.script().copy(alloc)?;
     let call = Call::make(alloc)?;
-    rows.reserve(1)?;
-    ready.reserve(rows.len() + 1)?;
-    entries.reserve(2 * rows.len() + ready.len() + 4)?;
+    ready.reserve(rows + 1)?;
+    entries.reserve(2 * rows + ready.len() + 4)?;
     Ok(Prepared {
         opening,
         script,
@@ -144,41 +151,53 @@ fn prepare<T: Token>(
 }
 
 /// Puts the request of this number, whose answer is made of this, among the pending ones, or among the ready ones. It
-/// takes no memory.
+/// gives the token back where there is no memory.
 fn place<T: Token>(
     alloc: Global,
     options: &Options,
-    rows: &mut Vec<Row<T>>,
+    rows: &mut Rows<T>,
     ready: &mut Vec<Ticket<T>>,
     opening: Opening,
     number: u64,
     aim: Aim,
     token: T,
     call: Call,
-)
-    requires room_rows { vec_len rows.old + 1 ≤ vec_capacity rows.old }
-    requires room_ready { vec_len rows.old + vec_len ready.old + 1 ≤ vec_capacity ready.old }
-    ensures places { Places options.now.flags number aim token
-        rows.old.items rows.new.items ready.old.items ready.new.items opening }
-    ensures most { vec_len rows.new ≤ vec_len rows.old + 1 }
-    ensures len { vec_len rows.new + vec_len ready.new ≡ vec_len rows.old + vec_len ready.old + 1 }
+) -> Result<(), T>
+    requires newer { AllByRecursion (λ n. n < number) (map number_of rows.old) }
+    requires room_ready { length rows.old + vec_len ready.old + 1 ≤ vec_capacity ready.old }
+    ensures places { OnOk result (Places options.now.flags number aim token
+        rows.old rows.new ready.old.items ready.new.items opening) }
+    ensures most { OnOk result (length rows.new ≤ length rows.old + 1) }
+    ensures len { OnOk result (length rows.new + vec_len ready.new ≡ length rows.old + vec_len ready.old + 1) }
+    ensures err { OnErr result ((rows.new ≡ rows.old) × (ready.new ≡ ready.old)) }
+    ensures back { IfErr result (λ given. given ≡ token) }
     ensures capacity { vec_capacity ready.new ≡ vec_capacity ready.old }
 {
     let leg = Leg::new(options);
     match opening {
-        Opening::Asks(first, second) => rows.push_reserved(Row {
-            number,
-            aim,
-            first: Side::new(alloc, number, aim.first_number(), first, leg),
-            second: second_side(alloc, number, second, leg),
-            empty: false,
-            token,
-            call,
-        }),
+        Opening::Asks(first, second) => {
+            let row = Row {
+                number,
+                aim,
+                first: Side::new(alloc, number, aim.first_number(), first, leg),
+                second: second_side(alloc, number, second, leg),
+                empty: false,
+                token,
+                call,
+            };
+            match rows.push(row) {
+                Ok(()) => Ok(()),
+                Err(row) => Err(row.token),
+            }
+        }
         Opening::Ends(status) => {
             ready.push_reserved(ticket_of(alloc, number, status, Bytes::new(alloc), token, call));
+            Ok(())
         }
-        Opening::Answered(answer) => ready.push_reserved(ticket_with(answer, token, call)),
+        Opening::Answered(answer) => {
+            ready.push_reserved(ticket_with(answer, token, call));
+            Ok(())
+        }
     }
 }
 

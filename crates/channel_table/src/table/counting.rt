@@ -23,8 +23,8 @@ impl<T: Token> Table<T> {
         Counts {
             pending: self.rows.len() as u64,
             ready: self.ready.len() as u64,
-            waiting: count_sides(self.rows.as_slice(), Sought::Waiting),
-            flying: count_sides(self.rows.as_slice(), Sought::Flying),
+            waiting: self.rows.waiting_count(),
+            flying: self.rows.flying_count(),
         }
     }
 }
@@ -57,7 +57,7 @@ impl Sought<'_> {
 }
 
 /// The side has an attempt on a server that isn't in the list.
-fn has_left(side: &Side, list: &[ServerKey]) -> bool
+pub fn has_left(side: &Side, list: &[ServerKey]) -> bool
     ensures { result ≡ has_left list.now side.now }
 {
     match side.leg.phase {

@@ -30,12 +30,8 @@ impl<T: Token> Table<T> {
             by,
             what: What::Cancel,
         });
-        complete_all(
-            self.alloc,
-            &mut self.rows,
-            &mut self.ready,
-            Status::Cancelled,
-        );
+        self.rows
+            .complete_all(self.alloc, &mut self.ready, Status::Cancelled);
         count
     }
 
@@ -53,18 +49,14 @@ impl<T: Token> Table<T> {
             by,
             what: What::Destroy,
         });
-        complete_all(
-            self.alloc,
-            &mut self.rows,
-            &mut self.ready,
-            Status::Destruction,
-        );
+        self.rows
+            .complete_all(self.alloc, &mut self.ready, Status::Destruction);
         true
     }
 }
 
 /// Completes each row with this status and without a reply. It takes no memory.
-fn complete_all<T: Token>(
+pub fn complete_all<T: Token>(
     alloc: Global,
     rows: &mut Vec<Row<T>>,
     ready: &mut Vec<Ticket<T>>,

@@ -53,7 +53,7 @@ pub fn find_landing<T: Token>(
 }
 
 /// The side of the row at this index that the message answers.
-fn row_landing<T: Token>(
+pub fn row_landing<T: Token>(
     alloc: Global,
     row: &Row<T>,
     index: usize,
@@ -73,6 +73,14 @@ fn row_landing<T: Token>(
     match judged_of(alloc, row.aim, side, flags, server, link, bytes)? {
         Some(judged) => Ok(Some(landing_of(side, index, true, judged))),
         None => Ok(None),
+    }
+}
+
+/// The identifier of a message: its first two bytes, if it has them.
+pub fn id_of(bytes: &[u8]) -> Option<u16> {
+    match bytes {
+        [high, low, ..] => Some(u16::from_be_bytes([*high, *low])),
+        _ => None,
     }
 }
 

@@ -7,7 +7,6 @@ ghost use Rattle.channel_model.specs.Servers.{greatest_of, has_key, rekeyed, sam
 ghost use Rattle.channel_table.specs.Listing.{kept_in, leg_set, row_set};
 
 use super::Table;
-use super::counting::{Sought, count_sides};
 use super::moving::make_room;
 use crate::row::Row;
 use chan_types::{Entry, KeyList, NoMemory, ServerKey, Token, What};
@@ -35,7 +34,7 @@ impl<T: Token> Table<T> {
         }
         let list = rekey(self.alloc, servers, self.list.as_slice(), self.greatest_key)?;
         let kept = KeyList::of(self.alloc, list.as_slice())?;
-        let count = count_sides(self.rows.as_slice(), Sought::Left(list.as_slice()));
+        let count = self.rows.count_left(list.as_slice());
         make_room(&mut self.entries, self.rows.len(), self.ready.len())?;
         self.servers.renew(&list)?;
         self.entries.push_reserved(Entry {
@@ -43,7 +42,7 @@ impl<T: Token> Table<T> {
             by: 0,
             what: What::Servers { list: kept },
         });
-        set_rows(&mut self.rows, list.as_slice());
+        self.rows.set_list(list.as_slice());
         self.greatest_key = greatest_of(self.greatest_key, list.as_slice());
         self.list = list;
         Ok(count)
@@ -165,7 +164,7 @@ fn greatest_of(greatest: u32, servers: &[ServerKey]) -> u32
 
 /// Makes the list that of the rows: attempts on servers that aren't in it end, and no such server is forced. It takes
 /// no memory.
-fn set_rows<T: Token>(rows: &mut Vec<Row<T>>, list: &[ServerKey])
+pub fn set_rows<T: Token>(rows: &mut Vec<Row<T>>, list: &[ServerKey])
     ensures items { rows.new.items ≡ map (row_set list.now) rows.old.items }
     ensures len { vec_len rows.new ≡ vec_len rows.old }
 {

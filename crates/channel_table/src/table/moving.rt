@@ -10,11 +10,7 @@ ghost use Rattle.channel_table.specs.Arriving.{recount_by};
 ghost use Rattle.channel_table.specs.Ends.{attempts_with, server_of};
 
 use super::Table;
-use super::counting::{Sought, count_sides};
-use super::ending::end_row;
-use super::failing::{answers_over, count_fault, fail_all};
-use super::landing::find_landing;
-use super::seeking::find_soonest;
+use super::failing::count_fault;
 use crate::side::Hits;
 use chan_types::{Bytes, Entry, KeyList, NoMemory, Status, Token, What};
 use channel_model::{Judged, Landed, Lapse};
@@ -32,14 +28,9 @@ impl<T: Token> Table<T> {
     ) -> Result<Landed, NoMemory>
         ensures { Happens (Arrives server link bytes.now result) seat 0 self.old self.new }
     {
-        let found = find_landing(
-            self.alloc,
-            self.rows.as_slice(),
-            self.options.flags(),
-            server,
-            link,
-            bytes,
-        )?;
+        let found = self
+            .rows
+            .find_landing(self.alloc, self.options.flags(), server, link, bytes)?;
         let kept = Bytes::of(self.alloc, bytes)?;
         make_room(&mut self.entries, self.rows.len(), self.ready.len())?;
         match found {
@@ -51,7 +42,7 @@ impl<T: Token> Table<T> {
             Some(landing) => {
                 let most = most_attempts(&self.options, &self.list);
                 let reply = Bytes::of(self.alloc, bytes)?;
-                let answer = self.rows[landing.index].answer_behind(
+                let answer = self.rows.row(landing.index).answer_behind(
                     self.alloc,
                     &self.options,
                     Hits::at(landing.is_second),
@@ -59,13 +50,9 @@ impl<T: Token> Table<T> {
                     bytes,
                     most,
                 )?;
-                self.entries
-                    .push_reserved(arrival(seat, server, link, kept));
-                count_end(&mut self.servers, server, landing.judged);
-                end_row(
+                self.rows.end_row(
                     self.alloc,
                     &self.options,
-                    &mut self.rows,
                     &mut self.ready,
                     landing.index,
                     Hits::at(landing.is_second),
@@ -73,7 +60,10 @@ impl<T: Token> Table<T> {
                     reply,
                     most,
                     answer,
-                );
+                )?;
+                self.entries
+                    .push_reserved(arrival(seat, server, link, kept));
+                count_end(&mut self.servers, server, landing.judged);
                 Ok(Landed::Matched {
                     number: landing.number,
                     leg: landing.leg_number,
@@ -86,18 +76,29 @@ impl<T: Token> Table<T> {
     pub fn expire(&mut self, seat: u64, at: u64) -> Result<Lapse, NoMemory>
         ensures { Happens (Expires at result) seat 0 self.old self.new }
     {
-        match find_soonest(self.rows.as_slice()) {
+        match self.rows.find_soonest() {
             Some(first) if first.at <= at => {
                 let most = most_attempts(&self.options, &self.list);
-                let server = server_of(&self.rows[first.index].side(first.is_second).leg);
+                let server = server_of(&self.rows.row(first.index).side(first.is_second).leg);
                 make_room(&mut self.entries, self.rows.len(), self.ready.len())?;
-                let answer = self.rows[first.index].answer_behind(
+                let answer = self.rows.row(first.index).answer_behind(
                     self.alloc,
                     &self.options,
                     Hits::at(first.is_second),
                     Judged::Failed(Status::TimedOut),
                     &[],
                     most,
+                )?;
+                self.rows.end_row(
+                    self.alloc,
+                    &self.options,
+                    &mut self.ready,
+                    first.index,
+                    Hits::at(first.is_second),
+                    Judged::Failed(Status::TimedOut),
+                    Bytes::new(self.alloc),
+                    most,
+                    answer,
                 )?;
                 self.entries.push_reserved(Entry {
                     seat,
@@ -109,18 +110,6 @@ impl<T: Token> Table<T> {
                     },
                 });
                 self.servers.failed(server);
-                end_row(
-                    self.alloc,
-                    &self.options,
-                    &mut self.rows,
-                    &mut self.ready,
-                    first.index,
-                    Hits::at(first.is_second),
-                    Judged::Failed(Status::TimedOut),
-                    Bytes::new(self.alloc),
-                    most,
-                    answer,
-                );
                 Ok(Lapse::Expired {
                     number: first.number,
                     leg: first.leg_number,
@@ -135,14 +124,17 @@ impl<T: Token> Table<T> {
     pub fn fault(&mut self, seat: u64, server: u32, link: u64, at: u64) -> Result<u64, NoMemory>
         ensures { Happens (Fails server link at result) seat 0 self.old self.new }
     {
-        let count = count_sides(self.rows.as_slice(), Sought::Over(server, link));
+        let count = self.rows.count_over(server, link);
         let most = most_attempts(&self.options, &self.list);
-        let kept = Vec::with_capacity(self.alloc, self.rows.len())?;
         make_room(&mut self.entries, self.rows.len(), self.ready.len())?;
-        let answers = answers_over(
+        let answers = self
+            .rows
+            .answers_over(self.alloc, &self.options, server, link, most)?;
+        self.rows.fail_all(
             self.alloc,
             &self.options,
-            self.rows.as_slice(),
+            answers,
+            &mut self.ready,
             server,
             link,
             most,
@@ -157,17 +149,6 @@ impl<T: Token> Table<T> {
             },
         });
         count_fault(&mut self.servers, server, count);
-        fail_all(
-            self.alloc,
-            &self.options,
-            &mut self.rows,
-            kept,
-            answers,
-            &mut self.ready,
-            server,
-            link,
-            most,
-        );
         Ok(count)
     }
 }

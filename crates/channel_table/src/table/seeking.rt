@@ -18,14 +18,14 @@ impl<T: Token> Table<T> {
     pub fn link_busy(&self, server: u32, link: u64) -> bool
         ensures { Happens (TellsBusy server link result) 0 0 self.now self.now }
     {
-        any_over(self.rows.as_slice(), server, link)
+        self.rows.any_over(server, link)
     }
 
     /// When the next attempt in flight is due.
     pub fn next_due(&self) -> Option<u64>
         ensures { Happens (TellsDue result) 0 0 self.now self.now }
     {
-        match find_soonest(self.rows.as_slice()) {
+        match self.rows.find_soonest() {
             Some(first) => Some(first.at),
             None => None,
         }
@@ -33,7 +33,7 @@ impl<T: Token> Table<T> {
 }
 
 /// Whether a row has an attempt in flight on this server over this link.
-fn any_over<T: Token>(rows: &[Row<T>], server: u32, link: u64) -> bool
+pub fn any_over<T: Token>(rows: &[Row<T>], server: u32, link: u64) -> bool
     ensures { result ≡ list_any (row_over server link) rows.now }
 {
     for row in rows {

@@ -1,7 +1,6 @@
 //! Starting the attempt of the first leg that waits: its server, its link and its identifier.
 
 ghost use Rattle.std.specs.Bool.{then_some};
-ghost use Rattle.std.specs.List.{list_any};
 ghost use Rattle.std.specs.Prelude.{◌≡◌, ◌≢◌, ◌+◌, ◌<◌, ◌≤◌, ◌==◌, ◌&&◌, ◌^◌, if◌then◌else◌, IfOk, IsTrue, Some, None, cond, flat_map, length, vec_len};
 ghost use Rattle.channel_model.specs.Flight.{asked_with};
 ghost use Rattle.channel_model.specs.Lawful.{first};
@@ -11,10 +10,11 @@ ghost use Rattle.channel_model.specs.Seen.{Happens};
 ghost use Rattle.channel_model.specs.Servers.{address_of, has_key};
 ghost use Rattle.dns_message.specs.Spelling.{message_bytes};
 ghost use Rattle.query_machine.specs.Legs.{attempt_from, flying_in};
-ghost use Rattle.channel_table.specs.Starting.{BeginsRow, FindsIdle, FindsIdleSide, IsFree, WaitsAt, first_place, has_id, idle_of, link_on, link_with, row_has_id, row_links, server_with, used_of};
+ghost use Rattle.channel_table.specs.Starting.{BeginsRow, FindsIdle, FindsIdleSide, WaitsAt, first_place, idle_of, link_on, link_with, row_links, server_with, used_of};
 
 use super::Table;
 use super::moving::make_room;
+use super::rows::Rows;
 use crate::row::Row;
 use crate::side::Side;
 use chan_types::{Bytes, Entry, KeyList, NoMemory, ServerKey, Token, What};
@@ -42,33 +42,29 @@ impl<T: Token> Table<T> {
     pub fn start(&mut self, seat: u64, word: u16, mix: u16, at: u64) -> Result<Begun, NoMemory>
         ensures { Happens (Starts word mix at result) seat 0 self.old self.new }
     {
-        let Some(idle) = find_idle(self.rows.as_slice()) else {
+        let Some(idle) = self.rows.find_idle() else {
             return Ok(Begun::Idle);
         };
-        let Some(id) = free_id(self.rows.as_slice(), word) else {
+        let Some(id) = self.rows.free_id(word) else {
             return Ok(Begun::NoId);
         };
         let used = in_use(&self.options, &self.list);
         let place = first_place(&self.options, self.started, used);
         let server = choose_server(&self.servers, idle.leg.forced, used, place);
-        let link = choose_link(
-            self.rows.as_slice(),
-            idle.leg.over_tcp,
-            server,
-            self.greatest_link,
-        );
+        let link = choose_link(&self.rows, idle.leg.over_tcp, server, self.greatest_link);
         let bits = bits_for(&self.options, link, mix);
         let wait = wait_of(&self.options, idle.leg.spent, used);
         let address = address_of(self.list.as_slice(), server);
         let message = message_for(
             self.alloc,
             &self.options,
-            &self.rows[idle.index].side(idle.is_second).question,
+            &self.rows.row(idle.index).side(idle.is_second).question,
             id,
             bits,
             idle.leg.has_opt,
         )?;
         make_room(&mut self.entries, self.rows.len(), self.ready.len())?;
+        self.rows.begin(idle.index, idle.is_second, server, link, id, bits, at, wait)?;
         self.entries.push_reserved(Entry {
             seat,
             by: 0,
@@ -82,17 +78,6 @@ impl<T: Token> Table<T> {
                 moment: at,
             },
         });
-        begin(
-            &mut self.rows,
-            idle.index,
-            idle.is_second,
-            server,
-            link,
-            id,
-            bits,
-            at,
-            wait,
-        );
         self.greatest_link = self.greatest_link.max(link);
         self.started = starts_with(self.started, idle.begun);
         Ok(Begun::Started {
@@ -116,7 +101,7 @@ fn starts_with(starts: u64, begun: bool) -> u64
 }
 
 /// The first side that waits.
-fn find_idle<T: Token>(rows: &[Row<T>]) -> Option<Idle>
+pub fn find_idle<T: Token>(rows: &[Row<T>]) -> Option<Idle>
     ensures { FindsIdle rows.now result }
 {
     for index in 0..rows.len() {
@@ -128,7 +113,7 @@ fn find_idle<T: Token>(rows: &[Row<T>]) -> Option<Idle>
 }
 
 /// The first side of the row at this index that waits.
-fn idle_side<T: Token>(row: &Row<T>, index: usize) -> Option<Idle>
+pub fn idle_side<T: Token>(row: &Row<T>, index: usize) -> Option<Idle>
     ensures { FindsIdleSide index row.now result }
 {
     if row.first.waits() {
@@ -151,52 +136,6 @@ fn idle_of(side: &Side, index: usize, is_second: bool) -> Idle
         leg_number: side.leg_number,
         leg: side.leg,
         begun: side.begun,
-    }
-}
-
-/// The first identifier from the word upwards that no attempt has.
-fn free_id<T: Token>(rows: &[Row<T>], word: u16) -> Option<u16>
-    ensures { IsFree rows.now word result }
-{
-    for step in 0..65536u32 {
-        let id = word.wrapping_add(step as u16);
-        if !is_used(rows, id) {
-            return Some(id);
-        }
-    }
-    None
-}
-
-/// An attempt of the rows has this identifier.
-fn is_used<T: Token>(rows: &[Row<T>], id: u16) -> bool
-    ensures { result ≡ list_any (row_has_id id) rows.now }
-{
-    for row in rows {
-        if row_has_id(row, id) {
-            return true;
-        }
-    }
-    false
-}
-
-/// An attempt of the row has this identifier.
-fn row_has_id<T: Token>(row: &Row<T>, id: u16) -> bool
-    ensures { result ≡ row_has_id id row.now }
-{
-    has_id(&row.first, id)
-        || match &row.second {
-            Some(side) => has_id(side, id),
-            None => false,
-        }
-}
-
-/// The side's attempt has this identifier.
-fn has_id(side: &Side, id: u16) -> bool
-    ensures { result ≡ has_id id side.now }
-{
-    match side.leg.phase {
-        Phase::InFlight(flying) => flying.id == id,
-        Phase::Waiting | Phase::Ended(_) => false,
     }
 }
 
@@ -242,21 +181,21 @@ fn choose_server(servers: &Servers, forced: Option<u32>, used: u32, place: u32) 
 }
 
 /// The link of an attempt to this server: 0 over UDP.
-fn choose_link<T: Token>(rows: &[Row<T>], over_tcp: bool, server: u32, greatest: u64) -> u64
+fn choose_link<T: Token>(rows: &Rows<T>, over_tcp: bool, server: u32, greatest: u64) -> u64
     requires { greatest + 1 < 2 ^ 64 }
     ensures { result ≡ link_with rows.now over_tcp server greatest }
 {
     if !over_tcp {
         return 0;
     }
-    match tcp_link(rows, server) {
+    match rows.tcp_link(server) {
         Some(link) => link,
         None => greatest + 1,
     }
 }
 
 /// A link over TCP to the server on which an attempt is in flight.
-fn tcp_link<T: Token>(rows: &[Row<T>], server: u32) -> Option<u64>
+pub fn tcp_link<T: Token>(rows: &[Row<T>], server: u32) -> Option<u64>
     ensures { result ≡ first (flat_map (row_links server) rows.now) }
 {
     for index in 0..rows.len() {
@@ -351,7 +290,7 @@ fn message_for(
 }
 
 /// Begins an attempt of this side of the row at this index, which is given so long.
-fn begin<T: Token>(
+pub fn begin<T: Token>(
     rows: &mut Vec<Row<T>>,
     index: usize,
     is_second: bool,

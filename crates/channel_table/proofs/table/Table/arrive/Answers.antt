@@ -15,7 +15,7 @@ use Rattle.channel_model.specs.declared.answers.Landed.TheVariants.{Matched, Str
 use Rattle.channel_table.proofs.Attempts.{attempts_are, list_few, list_some}
 use Rattle.channel_table.proofs.Counting.{counted_kept}
 use Rattle.channel_table.proofs.FailureSteps.{past_of-length, recount_is}
-use Rattle.channel_table.proofs.Keeping.{few_closed, happens_one, happens_same, kept_more, no_more}
+use Rattle.channel_table.proofs.Keeping.{few_closed, happens_one, happens_same, kept_grown, kept_more, no_more}
 use Rattle.channel_table.proofs.Landing.{arrives_failed, counted_landed, lands_at, matched_closes, stray_closes_none, table_landed, table_stray}
 use Rattle.channel_table.proofs.RowAt.{counted_at_side}
 use Rattle.channel_table.specs.Arriving.{judged_of, recount_by, row_lands}
@@ -54,14 +54,14 @@ pub invariant_of-self-in-None : goal.invariant_of-self-in-None
 invariant_of-self-in-None g c =
     let past : Past = past_of c.self.inside.entries.items in
     let setting : Setting = setting_of c.self.inside in
-    let none : list_any (row_lands setting.options.flags c.args.server c.args.link c.args.bytes.now) c.self.inside.rows.items ≡ false = rw (c.as_slice.ensures.value, c.flags.ensures.value, c.in-None.is) at c.in_ok-found.ensures in
-    let closes_none = stray_closes_none g.T.Token.plan setting past c.args.server c.args.link c.args.bytes.now c.self.inside.rows.items c.self.inside.ready.items none c.self.invariant.stands in
+    let none : list_any (row_lands setting.options.flags c.args.server c.args.link c.args.bytes.now) c.self.inside.rows ≡ false = rw (c.flags.ensures.value, c.in-None.is) at c.in_ok-found.ensures in
+    let closes_none = stray_closes_none g.T.Token.plan setting past c.args.server c.args.link c.args.bytes.now c.self.inside.rows c.self.inside.ready.items none c.self.invariant.stands in
     let what : What = Arrive c.args.server c.args.link c.args.bytes.now in
     let entry : Entry = record { seat = c.args.seat; by = 0; what = what } in
     let added : c.push_reserved.new.self.items ≡ c.self.inside.entries.items ++ entry ∷ [] = rw (c.push_reserved.ensures.items, c.arrival.ensures, c.make_room.ensures.items, c.in_ok-kept.ensures) refl in
     let room = c.in_ok-make_room.ensures in
     kept_more g.T.Token.plan c.self.inside _ entry refl added c.self.invariant tt
-    (table_stray g.T.Token.plan setting past c.args.server c.args.link c.args.bytes.now c.self.inside.rows.items c.self.inside.ready.items none c.self.invariant.stands)
+    (table_stray g.T.Token.plan setting past c.args.server c.args.link c.args.bytes.now c.self.inside.rows c.self.inside.ready.items none c.self.invariant.stands)
     (counted_kept setting what past c.self.inside.list c.self.inside.servers c.self.inside.greatest_key c.self.inside.greatest_link c.self.inside.started c.self.invariant.counted refl refl (λ a flies. in_flight-none setting (λ b. closes setting b (Arrive c.args.server c.args.link c.args.bytes.now) past) a.leg past a flies closes_none))
     (no_more (Arrive c.args.server c.args.link c.args.bytes.now) past refl ∙ c.self.invariant.accepts) c.self.invariant.destroyed
     (omega (arith, c.self.invariant.few, c.push_reserved.ensures.len, c.make_room.ensures.len)) (omega (arith, c.self.invariant.few_links, c.push_reserved.ensures.len, c.make_room.ensures.len)) (omega (arith, c.self.invariant.few_starts, c.push_reserved.ensures.len, c.make_room.ensures.len))
@@ -72,8 +72,8 @@ pub returns-in-None : goal.returns-in-None
 returns-in-None g c =
     let past : Past = past_of c.self.inside.entries.items in
     let setting : Setting = setting_of c.self.inside in
-    let none : list_any (row_lands setting.options.flags c.args.server c.args.link c.args.bytes.now) c.self.inside.rows.items ≡ false = rw (c.as_slice.ensures.value, c.flags.ensures.value, c.in-None.is) at c.in_ok-found.ensures in
-    let closes_none = stray_closes_none g.T.Token.plan setting past c.args.server c.args.link c.args.bytes.now c.self.inside.rows.items c.self.inside.ready.items none c.self.invariant.stands in
+    let none : list_any (row_lands setting.options.flags c.args.server c.args.link c.args.bytes.now) c.self.inside.rows ≡ false = rw (c.flags.ensures.value, c.in-None.is) at c.in_ok-found.ensures in
+    let closes_none = stray_closes_none g.T.Token.plan setting past c.args.server c.args.link c.args.bytes.now c.self.inside.rows c.self.inside.ready.items none c.self.invariant.stands in
     let what : What = Arrive c.args.server c.args.link c.args.bytes.now in
     let entry : Entry = record { seat = c.args.seat; by = 0; what = what } in
     let added : c.push_reserved.new.self.items ≡ c.self.inside.entries.items ++ entry ∷ [] = rw (c.push_reserved.ensures.items, c.arrival.ensures, c.make_room.ensures.items, c.in_ok-kept.ensures) refl in
@@ -84,9 +84,9 @@ pub count_end-requires : goal.count_end-requires
 count_end-requires g c =
     let past : Past = past_of c.self.inside.entries.items in
     let setting : Setting = setting_of c.self.inside in
-    let found = rw (c.as_slice.ensures.value, c.flags.ensures.value, c.in-Some.is) at c.in_ok-found.ensures in
-    let s = lands_at g.T.Token.plan setting past c.args.server c.args.link c.args.bytes.now c.self.inside.rows.items c.self.inside.ready.items c.self.invariant.stands c.in-Some.landing found in
-    let there = counted_at_side g.T.Token.plan setting past c.self.inside.rows.items c.self.inside.ready.items c.self.invariant.stands c.in-Some.landing.index s.row found.inside (sym (s.at_index s.row)) c.in-Some.landing.is_second s.side s.at s.landed.flying s.landed.flies
+    let found = rw (c.flags.ensures.value, c.in-Some.is) at c.in_ok-found.ensures in
+    let s = lands_at g.T.Token.plan setting past c.args.server c.args.link c.args.bytes.now c.self.inside.rows c.self.inside.ready.items c.self.invariant.stands c.in-Some.landing found in
+    let there = counted_at_side g.T.Token.plan setting past c.self.inside.rows c.self.inside.ready.items c.self.invariant.stands c.in-Some.landing.index s.row found.inside (sym (s.at_index s.row)) c.in-Some.landing.is_second s.side s.at s.landed.flying s.landed.flies
     c.self.inside.list c.self.inside.servers c.self.inside.greatest_key c.self.inside.greatest_link c.self.inside.started c.self.invariant.counted c.self.invariant.limits c.self.invariant.lawful.allowed in
     record { there = subst (λ (n : ℕ). list_any (λ (item : Failing). item.server == n) c.self.inside.servers ≡ true) s.landed.same_server there }
 
@@ -94,14 +94,14 @@ pub invariant_of-self-in-Some : goal.invariant_of-self-in-Some
 invariant_of-self-in-Some g c =
     let past : Past = past_of c.self.inside.entries.items in
     let setting : Setting = setting_of c.self.inside in
-    let found = rw (c.as_slice.ensures.value, c.flags.ensures.value, c.in-Some.is) at c.in_ok-found.ensures in
-    let s = lands_at g.T.Token.plan setting past c.args.server c.args.link c.args.bytes.now c.self.inside.rows.items c.self.inside.ready.items c.self.invariant.stands c.in-Some.landing found in
+    let found = rw (c.flags.ensures.value, c.in-Some.is) at c.in_ok-found.ensures in
+    let s = lands_at g.T.Token.plan setting past c.args.server c.args.link c.args.bytes.now c.self.inside.rows c.self.inside.ready.items c.self.invariant.stands c.in-Some.landing found in
     let what : What = Arrive c.args.server c.args.link c.args.bytes.now in
     let entry : Entry = record { seat = c.args.seat; by = 0; what = what } in
     let added : c.push_reserved-in-Some.new.self.items ≡ c.self.inside.entries.items ++ entry ∷ [] = rw (c.push_reserved-in-Some.ensures.items, c.arrival-in-Some.ensures, c.make_room.ensures.items, c.in_ok-kept.ensures) refl in
     let room = c.in_ok-make_room.ensures in
-    let ends = rw (c.at-in-Some.ensures, c.in_ok-reply-in-Some.ensures) at c.end_row.ensures.ends in
-    let answers = (rw c.at.ensures at c.in_ok-answer-in-Some.ensures) ∙ ap (λ (r : Row g.row.T.Denot). answer_behind setting.options (at_side c.in-Some.landing.is_second) c.in-Some.landing.judged c.args.bytes.now c.most_attempts-most.result r) (get_or_read c.self.inside.rows.items c.in-Some.landing.index c.index.result.now found.inside c.index.ensures ends.row ∙ ends.is ends.row) in
+    let ends = rw (c.at-in-Some.ensures, c.in_ok-reply-in-Some.ensures) at c.in_ok-end_row-in-Some.ensures.ends in
+    let answers = (rw c.at.ensures at c.in_ok-answer-in-Some.ensures) ∙ ap (λ (r : Row g.row.T.Denot). answer_behind setting.options (at_side c.in-Some.landing.is_second) c.in-Some.landing.judged c.args.bytes.now c.most_attempts-most.result r) (get_or_read c.self.inside.rows c.in-Some.landing.index c.row.result.now found.inside c.row.ensures ends.row ∙ ends.is ends.row) in
     let same : ends.row ≡ s.row = sym (ends.is s.row) ∙ s.at_index s.row in
     let there = ap (side_at c.in-Some.landing.is_second) same ∙ s.at in
     let judged = ap (λ (r : Row g.row.T.Denot). judged_of setting.options.flags c.args.server c.args.link c.args.bytes.now r.aim s.side) same ∙ s.judged in
@@ -110,7 +110,7 @@ invariant_of-self-in-Some g c =
     c.self.inside.list c.self.inside.servers c.self.inside.greatest_key c.self.inside.greatest_link c.self.inside.started (recount_by c.in-Some.landing.judged) (λ n few. recount_is c.in-Some.landing.judged n (length past) few small) c.self.invariant.counted in
     let may_spend = attempts_are setting past c.self.inside.list c.self.inside.servers c.self.inside.greatest_key c.self.inside.greatest_link c.self.inside.started c.self.invariant.counted c.self.invariant.limits c.self.invariant.lawful.allowed ∙ sym c.most_attempts-most.ensures.value in
     kept_more g.T.Token.plan c.self.inside _ entry refl added c.self.invariant tt
-    (table_landed g.T.Token.plan setting past c.args.server c.args.link c.args.bytes.now c.in-Some.landing.judged c.in_ok-answer-in-Some.answer c.most_attempts-most.result c.in-Some.landing.index c.in-Some.landing.is_second c.self.inside.rows.items c.end_row.new.rows.items c.self.inside.ready.items c.end_row.new.ready.items
+    (table_landed g.T.Token.plan setting past c.args.server c.args.link c.args.bytes.now c.in-Some.landing.judged c.in_ok-answer-in-Some.answer c.most_attempts-most.result c.in-Some.landing.index c.in-Some.landing.is_second c.self.inside.rows c.end_row.new.self c.self.inside.ready.items c.end_row.new.ready.items
     c.self.invariant.lawful.allowed ends s.side there judged may_spend c.most_attempts-most.ensures.few answers c.self.invariant.stands)
     (subst (λ (s : List Failing). AreCounted setting (Arrive c.args.server c.args.link c.args.bytes.now ∷ past) c.self.inside.list s c.self.inside.greatest_key c.self.inside.greatest_link c.self.inside.started) (sym c.count_end.ensures) counted)
     (no_more (Arrive c.args.server c.args.link c.args.bytes.now) past refl ∙ c.self.invariant.accepts) c.self.invariant.destroyed
@@ -118,12 +118,12 @@ invariant_of-self-in-Some g c =
     (omega (arith, room.room, c.len.ensures, c.len-2.ensures, c.make_room.ensures.len, c.push_reserved-in-Some.ensures.len, c.push_reserved-in-Some.ensures.capacity, c.end_row.ensures.fewer, c.end_row.ensures.len, few_closed c.self.inside.closed))
     (omega (arith, c.self.invariant.room_ready, c.end_row.ensures.len, c.end_row.ensures.capacity))
 
-pub returns-in_ok-answer-in-Some : goal.returns-in_ok-answer-in-Some
-returns-in_ok-answer-in-Some g c =
+pub returns-in_ok-end_row-in-Some : goal.returns-in_ok-end_row-in-Some
+returns-in_ok-end_row-in-Some g c =
     let past : Past = past_of c.self.inside.entries.items in
     let setting : Setting = setting_of c.self.inside in
-    let found = rw (c.as_slice.ensures.value, c.flags.ensures.value, c.in-Some.is) at c.in_ok-found.ensures in
-    let s = lands_at g.T.Token.plan setting past c.args.server c.args.link c.args.bytes.now c.self.inside.rows.items c.self.inside.ready.items c.self.invariant.stands c.in-Some.landing found in
+    let found = rw (c.flags.ensures.value, c.in-Some.is) at c.in_ok-found.ensures in
+    let s = lands_at g.T.Token.plan setting past c.args.server c.args.link c.args.bytes.now c.self.inside.rows c.self.inside.ready.items c.self.invariant.stands c.in-Some.landing found in
     let what : What = Arrive c.args.server c.args.link c.args.bytes.now in
     let entry : Entry = record { seat = c.args.seat; by = 0; what = what } in
     let added : c.push_reserved-in-Some.new.self.items ≡ c.self.inside.entries.items ++ entry ∷ [] = rw (c.push_reserved-in-Some.ensures.items, c.arrival-in-Some.ensures, c.make_room.ensures.items, c.in_ok-kept.ensures) refl in
@@ -132,3 +132,12 @@ returns-in_ok-answer-in-Some g c =
       matched_closes g.T.Token.plan setting past c.args.server c.args.link c.args.bytes.now c.self.invariant.lawful.allowed s.row c.in-Some.landing.judged s.stands c.in-Some.landing.is_second s.side s.at s.landed (leg_of c.in-Some.landing.number c.in-Some.landing.leg_number) s.own,
     ) in
     rw (← c.self.view_is) (happens_one g.T.Token.plan (Arrives c.args.server c.args.link c.args.bytes.now (Ok (Matched c.in-Some.landing.number c.in-Some.landing.leg_number))) c.self.inside _ c.args.seat 0 what refl added (invariant_of-self-in-Some g c) means)
+
+pub invariant_of-self-in_err-end_row-in-Some : goal.invariant_of-self-in_err-end_row-in-Some
+invariant_of-self-in_err-end_row-in-Some g c =
+    kept_grown g.T.Token.plan c.self.inside _ (rw (c.in_err-end_row-in-Some.ensures.err.0, c.in_err-end_row-in-Some.ensures.err.1) refl) c.make_room.ensures.items c.make_room.ensures.len c.make_room.ensures.capacity c.self.invariant
+
+pub returns-in_err-end_row-in-Some : goal.returns-in_err-end_row-in-Some
+returns-in_err-end_row-in-Some g c =
+    rw (← c.self.view_is) (happens_same g.T.Token.plan (Arrives c.args.server c.args.link c.args.bytes.now c.from_residual-in_err-end_row-in-Some.result) c.self.inside c.make_room.new.entries.items c.args.seat 0 c.make_room.ensures.items c.self.invariant
+    (arrives_failed c.args.server c.args.link c.args.bytes.now c.from_residual-in_err-end_row-in-Some.result (setting_of c.self.inside) (past_of c.self.inside.entries.items) c.from_residual-in_err-end_row-in-Some.ensures.0))

@@ -14,7 +14,7 @@ use Rattle.channel_model.specs.declared.answers.Lapse.TheVariants.{Expired, NotD
 use Rattle.query_machine.specs.Servers.{one_more, recounted}
 use Rattle.channel_table.proofs.Attempts.{attempts_are, list_few, list_some}
 use Rattle.channel_table.proofs.FailureSteps.{counted_expired, past_of-length}
-use Rattle.channel_table.proofs.Keeping.{few_closed, happens_nothing, happens_one, happens_same, kept_more, no_more}
+use Rattle.channel_table.proofs.Keeping.{few_closed, happens_nothing, happens_one, happens_same, kept_grown, kept_more, no_more}
 use Rattle.channel_table.proofs.Lapsing.{expires_failed, found_says, table_expired}
 use Rattle.channel_table.proofs.RowAt.{counted_at_side, flight_at}
 use Rattle.channel_table.proofs.Telling.{first_due_rows}
@@ -44,8 +44,8 @@ most_attempts-most-requires-clause-few g c =
 
 pub returns-in_err-make_room-in-Some : goal.returns-in_err-make_room-in-Some
 returns-in_err-make_room-in-Some g c =
-    let told = first_due_rows g.T.Token.plan (setting_of c.self.inside) (past_of c.self.inside.entries.items) c.self.inside.rows.items c.self.inside.ready.items c.self.invariant.stands in
-    let is = told ∙ (rw c.as_slice.ensures.value at c.in-Some.ensures).1 in
+    let told = first_due_rows g.T.Token.plan (setting_of c.self.inside) (past_of c.self.inside.entries.items) c.self.inside.rows c.self.inside.ready.items c.self.invariant.stands in
+    let is = told ∙ c.in-Some.ensures.1 in
     rw (← c.self.view_is) (happens_same g.T.Token.plan (Expires c.args.at c.from_residual.result) c.self.inside c.make_room.new.entries.items c.args.seat 0 c.make_room.ensures.items c.self.invariant
     (expires_failed c.args.at c.from_residual.result (setting_of c.self.inside) (past_of c.self.inside.entries.items) c.from_residual.ensures.0 (rw is c.if-first-at.true)))
 
@@ -53,13 +53,13 @@ pub failed-requires : goal.failed-requires
 failed-requires g c =
     let past : Past = past_of c.self.inside.entries.items in
     let setting : Setting = setting_of c.self.inside in
-    let found = rw c.as_slice.ensures.value at c.in-Some.ensures in
-    let row : Row g.row.T.Denot = c.index.result.now in
-    let same = get_or_read c.self.inside.rows.items c.in-Some.first.index row found.0.inside c.index.ensures row in
+    let found = c.in-Some.ensures in
+    let row : Row g.row.T.Denot = c.row.result.now in
+    let same = get_or_read c.self.inside.rows c.in-Some.first.index row found.0.inside c.row.ensures row in
     let is = found_says row c.in-Some.first (ap (λ (r : Row g.row.T.Denot). option_and_then due_of_side (side_at c.in-Some.first.is_second r)) same ∙ found.0.is_due row) in
     let side_is : c.side.result.now ≡ is.side = subst (λ (o : Option Side). IfSome o (λ (s : Side). c.side.result.now ≡ s)) is.at c.side.ensures in
     let server = c.server_of-server.ensures ∙ ap (λ (s : Side). server_in (flying_of s)) side_is ∙ ap server_in is.flies in
-    let there = counted_at_side g.T.Token.plan setting past c.self.inside.rows.items c.self.inside.ready.items c.self.invariant.stands c.in-Some.first.index row found.0.inside same c.in-Some.first.is_second is.side is.at is.flying is.flies
+    let there = counted_at_side g.T.Token.plan setting past c.self.inside.rows c.self.inside.ready.items c.self.invariant.stands c.in-Some.first.index row found.0.inside same c.in-Some.first.is_second is.side is.at is.flying is.flies
     c.self.inside.list c.self.inside.servers c.self.inside.greatest_key c.self.inside.greatest_link c.self.inside.started c.self.invariant.counted c.self.invariant.limits c.self.invariant.lawful.allowed in
     record { there = subst (λ (s : ℕ). list_any (λ (item : Failing). item.server == s) c.self.inside.servers ≡ true) (sym server) there }
 
@@ -67,26 +67,26 @@ pub invariant_of-self-then-first-at : goal.invariant_of-self-then-first-at
 invariant_of-self-then-first-at g c =
     let past : Past = past_of c.self.inside.entries.items in
     let setting : Setting = setting_of c.self.inside in
-    let found = rw c.as_slice.ensures.value at c.in-Some.ensures in
-    let row : Row g.row.T.Denot = c.index.result.now in
-    let same = get_or_read c.self.inside.rows.items c.in-Some.first.index row found.0.inside c.index.ensures row in
+    let found = c.in-Some.ensures in
+    let row : Row g.row.T.Denot = c.row.result.now in
+    let same = get_or_read c.self.inside.rows c.in-Some.first.index row found.0.inside c.row.ensures row in
     let is = found_says row c.in-Some.first (ap (λ (r : Row g.row.T.Denot). option_and_then due_of_side (side_at c.in-Some.first.is_second r)) same ∙ found.0.is_due row) in
     let side_is : c.side.result.now ≡ is.side = subst (λ (o : Option Side). IfSome o (λ (s : Side). c.side.result.now ≡ s)) is.at c.side.ensures in
     let server = c.server_of-server.ensures ∙ ap (λ (s : Side). server_in (flying_of s)) side_is ∙ ap server_in is.flies in
-    let told = first_due_rows g.T.Token.plan setting past c.self.inside.rows.items c.self.inside.ready.items c.self.invariant.stands in
+    let told = first_due_rows g.T.Token.plan setting past c.self.inside.rows c.self.inside.ready.items c.self.invariant.stands in
     let may : MayExpire setting past (leg_of c.in-Some.first.number c.in-Some.first.leg_number) c.args.at = record { due_at = c.in-Some.first.at; first = told ∙ found.1; due = c.if-first-at.true } in
-    let ends = rw (c.at-in-Some.ensures, c.new.ensures) at c.end_row.ensures.ends in
-    let answers = (rw c.at.ensures at c.in_ok-answer-in-Some.ensures) ∙ ap (λ (r : Row g.row.T.Denot). answer_behind setting.options (at_side c.in-Some.first.is_second) (Failed TimedOut) [] c.most_attempts-most.result r) (get_or_read c.self.inside.rows.items c.in-Some.first.index c.index-in-Some.result.now found.0.inside c.index-in-Some.ensures ends.row ∙ ends.is ends.row) in
+    let ends = rw (c.at-in-Some.ensures, c.new.ensures) at c.in_ok-end_row-in-Some.ensures.ends in
+    let answers = (rw c.at.ensures at c.in_ok-answer-in-Some.ensures) ∙ ap (λ (r : Row g.row.T.Denot). answer_behind setting.options (at_side c.in-Some.first.is_second) (Failed TimedOut) [] c.most_attempts-most.result r) (get_or_read c.self.inside.rows c.in-Some.first.index c.row-in-Some.result.now found.0.inside c.row-in-Some.ensures ends.row ∙ ends.is ends.row) in
     let due = ap (λ (r : Row g.row.T.Denot). option_and_then due_of_side (side_at c.in-Some.first.is_second r)) (sym (ends.is ends.row)) ∙ found.0.is_due ends.row in
     let room = c.in_ok-make_room-in-Some.ensures in
     let entry : Entry = record { seat = c.args.seat; by = 0; what = Expire c.in-Some.first.number c.in-Some.first.leg_number c.args.at } in
-    let flies = flight_at g.T.Token.plan setting past c.self.inside.rows.items c.self.inside.ready.items c.self.invariant.stands c.in-Some.first.index row found.0.inside same c.in-Some.first.is_second is.side is.at is.flying is.flies in
+    let flies = flight_at g.T.Token.plan setting past c.self.inside.rows c.self.inside.ready.items c.self.invariant.stands c.in-Some.first.index row found.0.inside same c.in-Some.first.is_second is.side is.at is.flying is.flies in
     let small : length past + 1 < 2 ^ 64 = omega (arith, past_of-length c.self.inside.entries.items, c.push_reserved.ensures.len, c.make_room.ensures.len) in
     let counted = counted_expired setting past c.in-Some.first.number c.in-Some.first.leg_number c.args.at c.self.inside.list c.self.inside.servers c.self.inside.greatest_key c.self.inside.greatest_link c.self.inside.started (attempt_of (leg_of_side is.side) is.flying) small
     (ap (λ (l : Leg). flight setting l past) is.own ∙ flies) (sym is.own) c.self.invariant.counted in
     let may_spend = attempts_are setting past c.self.inside.list c.self.inside.servers c.self.inside.greatest_key c.self.inside.greatest_link c.self.inside.started c.self.invariant.counted c.self.invariant.limits c.self.invariant.lawful.allowed ∙ sym c.most_attempts-most.ensures.value in
     kept_more g.T.Token.plan c.self.inside _ entry refl (c.push_reserved.ensures.items ∙ ap (λ es. es ++ entry ∷ []) c.make_room.ensures.items) c.self.invariant may
-    (table_expired g.T.Token.plan setting past c.in-Some.first c.args.at c.most_attempts-most.result c.in_ok-answer-in-Some.answer c.self.inside.rows.items c.end_row.new.rows.items c.self.inside.ready.items c.end_row.new.ready.items
+    (table_expired g.T.Token.plan setting past c.in-Some.first c.args.at c.most_attempts-most.result c.in_ok-answer-in-Some.answer c.self.inside.rows c.end_row.new.self c.self.inside.ready.items c.end_row.new.ready.items
     c.self.invariant.lawful.allowed ends due may_spend c.most_attempts-most.ensures.few answers c.self.invariant.stands)
     (subst (λ (s : List Failing). AreCounted setting (Expire c.in-Some.first.number c.in-Some.first.leg_number c.args.at ∷ past) c.self.inside.list s c.self.inside.greatest_key c.self.inside.greatest_link c.self.inside.started)
     (sym (c.failed.ensures ∙ ap (λ (k : ℕ). recounted k one_more c.self.inside.servers) server)) counted)
@@ -97,17 +97,17 @@ invariant_of-self-then-first-at g c =
 
 pub returns-in_err-answer-in-Some : goal.returns-in_err-answer-in-Some
 returns-in_err-answer-in-Some g c =
-    let told = first_due_rows g.T.Token.plan (setting_of c.self.inside) (past_of c.self.inside.entries.items) c.self.inside.rows.items c.self.inside.ready.items c.self.invariant.stands in
-    let is = told ∙ (rw c.as_slice.ensures.value at c.in-Some.ensures).1 in
+    let told = first_due_rows g.T.Token.plan (setting_of c.self.inside) (past_of c.self.inside.entries.items) c.self.inside.rows c.self.inside.ready.items c.self.invariant.stands in
+    let is = told ∙ c.in-Some.ensures.1 in
     rw (← c.self.view_is) (happens_same g.T.Token.plan (Expires c.args.at c.from_residual-in_err-answer-in-Some.result) c.self.inside c.make_room.new.entries.items c.args.seat 0 c.make_room.ensures.items c.self.invariant
     (expires_failed c.args.at c.from_residual-in_err-answer-in-Some.result (setting_of c.self.inside) (past_of c.self.inside.entries.items) c.from_residual-in_err-answer-in-Some.ensures.0 (rw is c.if-first-at.true)))
 
-pub returns-in_ok-answer-in-Some : goal.returns-in_ok-answer-in-Some
-returns-in_ok-answer-in-Some g c =
+pub returns-in_ok-end_row-in-Some : goal.returns-in_ok-end_row-in-Some
+returns-in_ok-end_row-in-Some g c =
     let past : Past = past_of c.self.inside.entries.items in
     let setting : Setting = setting_of c.self.inside in
-    let found = rw c.as_slice.ensures.value at c.in-Some.ensures in
-    let told = first_due_rows g.T.Token.plan setting past c.self.inside.rows.items c.self.inside.ready.items c.self.invariant.stands in
+    let found = c.in-Some.ensures in
+    let told = first_due_rows g.T.Token.plan setting past c.self.inside.rows c.self.inside.ready.items c.self.invariant.stands in
     let may : MayExpire setting past (leg_of c.in-Some.first.number c.in-Some.first.leg_number) c.args.at = record { due_at = c.in-Some.first.at; first = told ∙ found.1; due = c.if-first-at.true } in
     rw (← c.self.view_is) (happens_one g.T.Token.plan (Expires c.args.at (Ok (Expired c.in-Some.first.number c.in-Some.first.leg_number))) c.self.inside _ c.args.seat 0 (Expire c.in-Some.first.number c.in-Some.first.leg_number c.args.at) refl
     (c.push_reserved.ensures.items ∙ ap (λ es. es ++ record { seat = c.args.seat; by = 0; what = Expire c.in-Some.first.number c.in-Some.first.leg_number c.args.at } ∷ []) c.make_room.ensures.items) (invariant_of-self-then-first-at g c) (refl, may))
@@ -115,15 +115,26 @@ returns-in_ok-answer-in-Some g c =
 pub returns-in-Some-2 : goal.returns-in-Some-2
 returns-in-Some-2 g c =
     let past : Past = past_of c.self.inside.entries.items in
-    let told = first_due_rows g.T.Token.plan (setting_of c.self.inside) past c.self.inside.rows.items c.self.inside.ready.items c.self.invariant.stands in
-    let is = told ∙ (rw c.as_slice.ensures.value at c.in-Some.ensures).1 in
+    let told = first_due_rows g.T.Token.plan (setting_of c.self.inside) past c.self.inside.rows c.self.inside.ready.items c.self.invariant.stands in
+    let is = told ∙ c.in-Some.ensures.1 in
     let means : Expires c.args.at (Ok NotDue) (setting_of c.self.inside) past None = (refl, rw is c.if-first-at.false) in
     rw (← c.self.view_is) (happens_nothing g.T.Token.plan (Expires c.args.at (Ok NotDue)) c.self.inside c.args.seat 0 c.self.invariant means)
 
 pub returns-in-None : goal.returns-in-None
 returns-in-None g c =
     let past : Past = past_of c.self.inside.entries.items in
-    let told = first_due_rows g.T.Token.plan (setting_of c.self.inside) past c.self.inside.rows.items c.self.inside.ready.items c.self.invariant.stands in
-    let none = told ∙ ap least (rw c.as_slice.ensures.value at c.in-None.ensures) in
+    let told = first_due_rows g.T.Token.plan (setting_of c.self.inside) past c.self.inside.rows c.self.inside.ready.items c.self.invariant.stands in
+    let none = told ∙ ap least c.in-None.ensures in
     let means : Expires c.args.at (Ok NotDue) (setting_of c.self.inside) past None = (refl, rw none tt) in
     rw (← c.self.view_is) (happens_nothing g.T.Token.plan (Expires c.args.at (Ok NotDue)) c.self.inside c.args.seat 0 c.self.invariant means)
+
+pub invariant_of-self-in_err-end_row-in-Some : goal.invariant_of-self-in_err-end_row-in-Some
+invariant_of-self-in_err-end_row-in-Some g c =
+    kept_grown g.T.Token.plan c.self.inside _ (rw (c.in_err-end_row-in-Some.ensures.err.0, c.in_err-end_row-in-Some.ensures.err.1) refl) c.make_room.ensures.items c.make_room.ensures.len c.make_room.ensures.capacity c.self.invariant
+
+pub returns-in_err-end_row-in-Some : goal.returns-in_err-end_row-in-Some
+returns-in_err-end_row-in-Some g c =
+    let told = first_due_rows g.T.Token.plan (setting_of c.self.inside) (past_of c.self.inside.entries.items) c.self.inside.rows c.self.inside.ready.items c.self.invariant.stands in
+    let is = told ∙ c.in-Some.ensures.1 in
+    rw (← c.self.view_is) (happens_same g.T.Token.plan (Expires c.args.at c.from_residual-in_err-end_row-in-Some.result) c.self.inside c.make_room.new.entries.items c.args.seat 0 c.make_room.ensures.items c.self.invariant
+    (expires_failed c.args.at c.from_residual-in_err-end_row-in-Some.result (setting_of c.self.inside) (past_of c.self.inside.entries.items) c.from_residual-in_err-end_row-in-Some.ensures.0 (rw is c.if-first-at.true)))

@@ -10,7 +10,7 @@ use Rattle.channel_model.specs.Setting.{Setting}
 use Rattle.channel_table.proofs.Attempts.{attempts_are, list_few, list_some}
 use Rattle.channel_table.proofs.FailureSteps.{past_of-length}
 use Rattle.channel_table.proofs.Failing.{counted_faulted, counted_over, failed_count, table_failed}
-use Rattle.channel_table.proofs.Keeping.{few_closed, happens_by, kept_more, no_more}
+use Rattle.channel_table.proofs.Keeping.{few_closed, happens_by, kept_grown, kept_more, no_more}
 use Rattle.channel_table.specs.Counted.{AreCounted}
 use Rattle.channel_table.specs.Kept.{setting_of}
 use Rattle.channel_table.specs.declared.row.Row.{Row}
@@ -28,9 +28,9 @@ pub count_fault-requires : goal.count_fault-requires
 count_fault-requires g c =
     let past : Past = past_of c.self.inside.entries.items in
     let setting : Setting = setting_of c.self.inside in
-    let rows : List (Row g.row.T.Denot) = c.self.inside.rows.items in
+    let rows : List (Row g.row.T.Denot) = c.self.inside.rows in
     let tickets : List (Ticket g.row.T.Denot) = c.self.inside.ready.items in
-    let count = rw c.as_slice.ensures.value at c.count_sides-count.ensures in
+    let count = c.count_over-count.ensures in
     let what : What = Fault c.args.server c.args.link c.args.at in
     let entry : Entry = record { seat = c.args.seat; by = 0; what = what } in
     let added : c.push_reserved.new.self.items ≡ c.self.inside.entries.items ++ entry ∷ [] = c.push_reserved.ensures.items ∙ ap (λ es. es ++ entry ∷ []) c.make_room.ensures.items in
@@ -44,9 +44,9 @@ pub invariant_of-self-2 : goal.invariant_of-self-2
 invariant_of-self-2 g c =
     let past : Past = past_of c.self.inside.entries.items in
     let setting : Setting = setting_of c.self.inside in
-    let rows : List (Row g.row.T.Denot) = c.self.inside.rows.items in
+    let rows : List (Row g.row.T.Denot) = c.self.inside.rows in
     let tickets : List (Ticket g.row.T.Denot) = c.self.inside.ready.items in
-    let count = rw c.as_slice.ensures.value at c.count_sides-count.ensures in
+    let count = c.count_over-count.ensures in
     let what : What = Fault c.args.server c.args.link c.args.at in
     let entry : Entry = record { seat = c.args.seat; by = 0; what = what } in
     let added : c.push_reserved.new.self.items ≡ c.self.inside.entries.items ++ entry ∷ [] = c.push_reserved.ensures.items ∙ ap (λ es. es ++ entry ∷ []) c.make_room.ensures.items in
@@ -54,26 +54,30 @@ invariant_of-self-2 g c =
     let room = c.in_ok-make_room.ensures in
     let small : length past + 1 < 2 ^ 64 = omega (arith, past_of-length c.self.inside.entries.items, c.push_reserved.ensures.len, c.make_room.ensures.len) in
     let counted = counted_faulted g.T.Token.plan setting past c.args.server c.args.link c.args.at c.most_attempts-most.result may_spend c.most_attempts-most.ensures.few rows tickets
-    c.self.inside.list c.self.inside.servers c.self.inside.greatest_key c.self.inside.greatest_link c.self.inside.started c.count_sides-count.result c.self.invariant.stands c.self.invariant.counted small count in
+    c.self.inside.list c.self.inside.servers c.self.inside.greatest_key c.self.inside.greatest_link c.self.inside.started c.count_over-count.result c.self.invariant.stands c.self.invariant.counted small count in
     kept_more g.T.Token.plan c.self.inside _ entry refl added c.self.invariant tt
-    (rw (c.fail_all.ensures.rows, c.fail_all.ensures.tickets) (table_failed g.T.Token.plan setting past c.args.server c.args.link c.args.at c.most_attempts-most.result may_spend c.most_attempts-most.ensures.few rows tickets c.self.invariant.stands))
+    (rw (c.in_ok-fail_all.ensures.rows, c.in_ok-fail_all.ensures.tickets) (table_failed g.T.Token.plan setting past c.args.server c.args.link c.args.at c.most_attempts-most.result may_spend c.most_attempts-most.ensures.few rows tickets c.self.invariant.stands))
     (subst (λ (s : List Failing). AreCounted setting (Fault c.args.server c.args.link c.args.at ∷ past) c.self.inside.list s c.self.inside.greatest_key c.self.inside.greatest_link c.self.inside.started) (sym c.count_fault.ensures) counted)
     (no_more (Fault c.args.server c.args.link c.args.at) past refl ∙ c.self.invariant.accepts) c.self.invariant.destroyed
     (omega (arith, c.self.invariant.few, c.push_reserved.ensures.len, c.make_room.ensures.len)) (omega (arith, c.self.invariant.few_links, c.push_reserved.ensures.len, c.make_room.ensures.len)) (omega (arith, c.self.invariant.few_starts, c.push_reserved.ensures.len, c.make_room.ensures.len))
-    (omega (arith, room.room, c.len-2.ensures, c.len-3.ensures, c.make_room.ensures.len, c.push_reserved.ensures.len, c.push_reserved.ensures.capacity, c.fail_all.ensures.fewer, c.fail_all.ensures.len, few_closed c.self.inside.closed))
+    (omega (arith, room.room, c.len.ensures, c.len-2.ensures, c.make_room.ensures.len, c.push_reserved.ensures.len, c.push_reserved.ensures.capacity, c.fail_all.ensures.fewer, c.fail_all.ensures.len, few_closed c.self.inside.closed))
     (omega (arith, c.self.invariant.room_ready, c.fail_all.ensures.len, c.fail_all.ensures.capacity))
 
 pub returns : goal.returns
 returns g c =
     let past : Past = past_of c.self.inside.entries.items in
     let setting : Setting = setting_of c.self.inside in
-    let rows : List (Row g.row.T.Denot) = c.self.inside.rows.items in
+    let rows : List (Row g.row.T.Denot) = c.self.inside.rows in
     let tickets : List (Ticket g.row.T.Denot) = c.self.inside.ready.items in
-    let count = rw c.as_slice.ensures.value at c.count_sides-count.ensures in
+    let count = c.count_over-count.ensures in
     let what : What = Fault c.args.server c.args.link c.args.at in
     let entry : Entry = record { seat = c.args.seat; by = 0; what = what } in
     let added : c.push_reserved.new.self.items ≡ c.self.inside.entries.items ++ entry ∷ [] = c.push_reserved.ensures.items ∙ ap (λ es. es ++ entry ∷ []) c.make_room.ensures.items in
     let may_spend = attempts_are setting past c.self.inside.list c.self.inside.servers c.self.inside.greatest_key c.self.inside.greatest_link c.self.inside.started c.self.invariant.counted c.self.invariant.limits c.self.invariant.lawful.allowed ∙ sym c.most_attempts-most.ensures.value in
-    let means : Fails c.args.server c.args.link c.args.at (Ok c.count_sides-count.result) setting past (Some what) =
+    let means : Fails c.args.server c.args.link c.args.at (Ok c.count_over-count.result) setting past (Some what) =
     (refl, count ∙ sym (failed_count g.T.Token.plan setting past c.args.server c.args.link c.args.at c.most_attempts-most.result may_spend c.most_attempts-most.ensures.few rows tickets c.self.invariant.stands)) in
-    rw (← c.self.view_is) (happens_by g.T.Token.plan (Fails c.args.server c.args.link c.args.at (Ok c.count_sides-count.result)) c.self.inside c.push_reserved.new.self.items c.args.seat 0 what added c.self.invariant tt means)
+    rw (← c.self.view_is) (happens_by g.T.Token.plan (Fails c.args.server c.args.link c.args.at (Ok c.count_over-count.result)) c.self.inside c.push_reserved.new.self.items c.args.seat 0 what added c.self.invariant tt means)
+
+pub invariant_of-self-in_err-fail_all : goal.invariant_of-self-in_err-fail_all
+invariant_of-self-in_err-fail_all g c =
+    kept_grown g.T.Token.plan c.self.inside _ (rw (c.in_err-fail_all.ensures.err.0, c.in_err-fail_all.ensures.err.1) refl) c.make_room.ensures.items c.make_room.ensures.len c.make_room.ensures.capacity c.self.invariant

@@ -8,6 +8,6 @@ use Rattle.channel_table.proofs.table.Table.link_busy.Goals as goal
 
 pub returns : goal.returns
 returns g c =
-    let told = busy_rows g.T.Token.plan (setting_of c.self.inside) (past_of c.self.inside.entries.items) c.args.server c.args.link c.self.inside.rows.items c.self.inside.ready.items c.self.invariant.stands in
+    let told = busy_rows g.T.Token.plan (setting_of c.self.inside) (past_of c.self.inside.entries.items) c.args.server c.args.link c.self.inside.rows c.self.inside.ready.items c.self.invariant.stands in
     rw (← c.self.view_is) (happens_nothing g.T.Token.plan (TellsBusy c.args.server c.args.link c.any_over.result) c.self.inside 0 0 c.self.invariant
-    (record { nothing = refl; answer = (rw c.as_slice.ensures.value at c.any_over.ensures) ∙ sym told }))
+    (record { nothing = refl; answer = c.any_over.ensures ∙ sym told }))

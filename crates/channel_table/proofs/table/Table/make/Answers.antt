@@ -12,7 +12,7 @@ invariant_of-result-2 g c =
     record {
       limits = c.options.invariant;
       lawful = rw none (record { allowed = tt });
-      stands = rw (none, c.new.ensures.items, c.new-2.ensures.items) (record { stand = record { pending_are = refl; ready_are = refl; flying_are = record { as_many = λ test. refl } }; each_row = tt; each_ticket = tt });
+      stands = rw (none, c.in_ok-make.ensures, c.new.ensures.items) (record { stand = record { pending_are = refl; ready_are = refl; flying_are = record { as_many = λ test. refl } }; each_row = tt; each_ticket = tt });
       counted = rw none (counted_first _ c.in_ok-list.list c.in_ok-servers.servers (c.len-count.result - 1) c.len-count.result c.options.invariant
           (c.in_ok-list.ensures ∙ ap (keyed_from 0) (c.as_slice.ensures ∙ c.servers-2.ensures.value ∙ same)) c.in_ok-servers.ensures count (omega (arith, count, c.options.invariant.some_server)));
       accepts = rw none refl;
@@ -20,6 +20,6 @@ invariant_of-result-2 g c =
       few = omega arith;
       few_links = omega arith;
       few_starts = omega arith;
-      room = omega (arith, c.in_ok-with_capacity.ensures.len, c.in_ok-with_capacity.ensures.capacity, c.new.ensures.len, c.new-2.ensures.len);
-      room_ready = omega (arith, c.new.ensures.len, c.new-2.ensures.len);
+      room = omega (arith, c.in_ok-with_capacity.ensures.len, c.in_ok-with_capacity.ensures.capacity, ap length c.in_ok-make.ensures, c.new.ensures.len);
+      room_ready = omega (arith, ap length c.in_ok-make.ensures, c.new.ensures.len);
     }

@@ -10,14 +10,14 @@ use Rattle.channel_table.proofs.table.Table.next_due.Goals as goal
 
 pub returns-in-Some : goal.returns-in-Some
 returns-in-Some g c =
-    let told = first_due_rows g.T.Token.plan (setting_of c.self.inside) (past_of c.self.inside.entries.items) c.self.inside.rows.items c.self.inside.ready.items c.self.invariant.stands in
-    let first = (rw c.as_slice.ensures.value at c.in-Some.ensures).1 in
+    let told = first_due_rows g.T.Token.plan (setting_of c.self.inside) (past_of c.self.inside.entries.items) c.self.inside.rows c.self.inside.ready.items c.self.invariant.stands in
+    let first = c.in-Some.ensures.1 in
     rw (← c.self.view_is) (happens_nothing g.T.Token.plan (TellsDue (Some c.in-Some.first.at)) c.self.inside 0 0 c.self.invariant
     (record { nothing = refl; answer = sym (ap (option_map (λ (d : Due). d.at)) (told ∙ first)) }))
 
 pub returns-in-None : goal.returns-in-None
 returns-in-None g c =
-    let told = first_due_rows g.T.Token.plan (setting_of c.self.inside) (past_of c.self.inside.entries.items) c.self.inside.rows.items c.self.inside.ready.items c.self.invariant.stands in
-    let none = rw c.as_slice.ensures.value at c.in-None.ensures in
+    let told = first_due_rows g.T.Token.plan (setting_of c.self.inside) (past_of c.self.inside.entries.items) c.self.inside.rows c.self.inside.ready.items c.self.invariant.stands in
+    let none = c.in-None.ensures in
     rw (← c.self.view_is) (happens_nothing g.T.Token.plan (TellsDue None) c.self.inside 0 0 c.self.invariant
     (record { nothing = refl; answer = sym (ap (option_map (λ (d : Due). d.at)) (told ∙ ap least none)) }))

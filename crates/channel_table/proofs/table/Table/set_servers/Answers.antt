@@ -1,4 +1,4 @@
-use Rattle.std.proofs.Common.{refl, sym, ap, ap₂, arith, subst, ◌≡◌, ◌∙◌, ◌-◌, ◌^◌, ◌≤◌, Some, Ok, List, [], ◌∷◌, ◌++◌, length, map, false}
+use Rattle.std.proofs.Common.{refl, sym, ap, arith, subst, ◌≡◌, ◌∙◌, ◌-◌, ◌^◌, ◌≤◌, Some, Ok, List, [], ◌∷◌, ◌++◌, length, map, false}
 use Rattle.std.specs.Prelude.{filter, not}
 use Rattle.std.specs.List.{sum_by}
 use Rattle.chan_types.specs.declared.journal.Entry.{Entry}
@@ -15,7 +15,6 @@ use Rattle.channel_table.proofs.Keeping.{few_closed, happens_by, happens_same, k
 use Rattle.channel_table.proofs.Listing.{counted_set, keys_apart, keys_are, may_become, set_count, sets_failed, set_length, table_set}
 use Rattle.channel_table.specs.Kept.{setting_of}
 use Rattle.channel_table.specs.Listing.{left_in, row_set}
-use Rattle.channel_table.specs.declared.row.Row.{Row}
 use Rattle.channel_table.proofs.table.Table.set_servers.Goals as goal
 
 pub renew-requires-clause-some : goal.renew-requires-clause-some
@@ -72,18 +71,18 @@ invariant_of-self-2 g c =
     let entry : Entry = record { seat = c.args.seat; by = 0; what = what } in
     let added : c.push_reserved.new.self.items ≡ c.self.inside.entries.items ++ entry ∷ [] = rw (c.push_reserved.ensures.items, c.make_room.ensures.items, c.in_ok-kept.ensures, c.as_slice-2.ensures) refl in
     let room = c.in_ok-make_room.ensures in
-    let rows : c.set_rows.new.rows.items ≡ map (row_set list) c.self.inside.rows.items = c.set_rows.ensures.items ∙ ap (λ (l : List ServerKey). map (row_set l) c.self.inside.rows.items) c.as_slice-5.ensures in
-    let greatest : c.greatest_of-self-inside.result ≡ greatest_of c.self.inside.greatest_key list = c.greatest_of-self-inside.ensures ∙ ap (greatest_of c.self.inside.greatest_key) c.as_slice-6.ensures in
+    let rows : c.set_list.new.self ≡ map (row_set list) c.self.inside.rows = c.set_list.ensures.rows ∙ ap (λ (l : List ServerKey). map (row_set l) c.self.inside.rows) c.as_slice-4.ensures in
+    let greatest : c.greatest_of-self-inside.result ≡ greatest_of c.self.inside.greatest_key list = c.greatest_of-self-inside.ensures ∙ ap (greatest_of c.self.inside.greatest_key) c.as_slice-5.ensures in
     let counted = counted_set setting past list c.self.inside.list c.self.inside.servers c.self.inside.greatest_key c.self.inside.greatest_link c.self.inside.started c.self.invariant.counted in
     kept_more g.T.Token.plan c.self.inside _ entry refl added c.self.invariant may
-    (rw rows (table_set g.T.Token.plan setting past list c.self.inside.rows.items c.self.inside.ready.items c.self.invariant.stands))
+    (rw rows (table_set g.T.Token.plan setting past list c.self.inside.rows c.self.inside.ready.items c.self.invariant.stands))
     (rw (c.in_ok-renew.ensures.ok, greatest) counted)
     (no_more what past refl ∙ c.self.invariant.accepts) c.self.invariant.destroyed
     (omega (arith, c.self.invariant.few, c.push_reserved.ensures.len, c.make_room.ensures.len))
     (omega (arith, c.self.invariant.few_links, c.push_reserved.ensures.len, c.make_room.ensures.len))
     (omega (arith, c.self.invariant.few_starts, c.push_reserved.ensures.len, c.make_room.ensures.len))
-    (omega (arith, room.room, c.len.ensures, c.len-2.ensures, c.make_room.ensures.len, c.push_reserved.ensures.len, c.push_reserved.ensures.capacity, c.set_rows.ensures.len, few_closed c.self.inside.closed))
-    (omega (arith, c.self.invariant.room_ready, c.set_rows.ensures.len))
+    (omega (arith, room.room, c.len.ensures, c.len-2.ensures, c.make_room.ensures.len, c.push_reserved.ensures.len, c.push_reserved.ensures.capacity, c.set_list.ensures.len, few_closed c.self.inside.closed))
+    (omega (arith, c.self.invariant.room_ready, c.set_list.ensures.len))
 
 pub returns : goal.returns
 returns g c =
@@ -97,8 +96,8 @@ returns g c =
     let what : What = Servers list in
     let entry : Entry = record { seat = c.args.seat; by = 0; what = what } in
     let added : c.push_reserved.new.self.items ≡ c.self.inside.entries.items ++ entry ∷ [] = rw (c.push_reserved.ensures.items, c.make_room.ensures.items, c.in_ok-kept.ensures, c.as_slice-2.ensures) refl in
-    let count : c.count_sides-count.result ≡ sum_by (left_in list) c.self.inside.rows.items = c.count_sides-count.ensures ∙ ap₂ (λ (l : List ServerKey) (rs : List (Row g.row.T.Denot)). sum_by (left_in l) rs) c.as_slice-4.ensures c.as_slice-3.ensures.value in
-    let told = count ∙ sym (set_count g.T.Token.plan setting past list c.self.inside.rows.items c.self.inside.ready.items c.self.invariant.stands) in
-    let means : SetsServers addresses (Ok c.count_sides-count.result) setting past (Some what) = subst (λ (l : List ServerKey). SetsServers addresses (Ok c.count_sides-count.result) setting past (Some (Servers l))) (sym is)
-    (refl, subst (MaySet setting past) is may, subst (λ (l : List ServerKey). c.count_sides-count.result ≡ length (filter (λ (a : Attempt). not (has_key a.server l)) (in_flight setting past))) is told) in
-    rw (← c.self.view_is) (happens_by g.T.Token.plan (SetsServers addresses (Ok c.count_sides-count.result)) c.self.inside c.push_reserved.new.self.items c.args.seat 0 what added c.self.invariant may means)
+    let count : c.count_left-count.result ≡ sum_by (left_in list) c.self.inside.rows = c.count_left-count.ensures ∙ ap (λ (l : List ServerKey). sum_by (left_in l) c.self.inside.rows) c.as_slice-3.ensures in
+    let told = count ∙ sym (set_count g.T.Token.plan setting past list c.self.inside.rows c.self.inside.ready.items c.self.invariant.stands) in
+    let means : SetsServers addresses (Ok c.count_left-count.result) setting past (Some what) = subst (λ (l : List ServerKey). SetsServers addresses (Ok c.count_left-count.result) setting past (Some (Servers l))) (sym is)
+    (refl, subst (MaySet setting past) is may, subst (λ (l : List ServerKey). c.count_left-count.result ≡ length (filter (λ (a : Attempt). not (has_key a.server l)) (in_flight setting past))) is told) in
+    rw (← c.self.view_is) (happens_by g.T.Token.plan (SetsServers addresses (Ok c.count_left-count.result)) c.self.inside c.push_reserved.new.self.items c.args.seat 0 what added c.self.invariant may means)

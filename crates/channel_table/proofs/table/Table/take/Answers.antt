@@ -17,7 +17,7 @@ invariant_of-self g c =
     let parts = head_and_rest c.self.inside.ready.items c.remove-ticket.new.self.items c.remove-ticket.result some c.remove-ticket.ensures.value c.remove-ticket.ensures.items in
     let waits = ap first (c.self.invariant.stands.stand.ready_are ∙ ap (map ticket_number) parts) in
     kept_more g.T.Token.plan c.self.inside _ _ refl c.push_reserved.ensures.items c.self.invariant (waits ∙ ap Some (sym c.number.ensures))
-    (rw c.number.ensures (table_taken g.T.Token.plan (setting_of c.self.inside) _ c.self.inside.rows.items c.remove-ticket.result c.remove-ticket.new.self.items (rw parts at c.self.invariant.stands)))
+    (rw c.number.ensures (table_taken g.T.Token.plan (setting_of c.self.inside) _ c.self.inside.rows c.remove-ticket.result c.remove-ticket.new.self.items (rw parts at c.self.invariant.stands)))
     (counted_kept (setting_of c.self.inside) (Take c.number.result) (past_of c.self.inside.entries.items) c.self.inside.list c.self.inside.servers c.self.inside.greatest_key c.self.inside.greatest_link c.self.inside.started c.self.invariant.counted refl refl (λ a flies. refl))
     (no_more (Take c.number.result) (past_of c.self.inside.entries.items) refl ∙ c.self.invariant.accepts) c.self.invariant.destroyed
     (omega (arith, c.self.invariant.few, c.push_reserved.ensures.len)) (omega (arith, c.self.invariant.few_links, c.push_reserved.ensures.len)) (omega (arith, c.self.invariant.few_starts, c.push_reserved.ensures.len))

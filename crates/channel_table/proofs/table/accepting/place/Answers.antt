@@ -1,11 +1,18 @@
 use Rattle.std.proofs.Common.{false, refl, ap, ap₂, ◌∙◌}
 use Rattle.std.specs.Prelude.{option_map}
+use Rattle.query_machine.specs.Legs.{flying_in}
+use Rattle.query_machine.specs.declared.leg.Leg as machine
+use Rattle.channel_table.proofs.FlownRows.{new_idle}
 use Rattle.channel_table.specs.Sides.{new_side}
 use Rattle.channel_table.specs.declared.side.Asked.{Asked}
 use Rattle.channel_table.proofs.table.accepting.place.Goals as goal
 
-pub returns-in-Asks-clause-places : goal.returns-in-Asks-clause-places
-returns-in-Asks-clause-places g c =
+pub push-requires-clause-idle : goal.push-requires-clause-idle
+push-requires-clause-idle g c =
+    rw (c.new.ensures, c.second_side.ensures) (new_idle c.args.number c.first_number.result c.in-Asks.first c.in-Asks.second c.new-leg.result (ap (λ (l : machine.Leg). flying_in l.phase) c.new-leg.ensures))
+
+pub returns-in-Ok-clause-places : goal.returns-in-Ok-clause-places
+returns-in-Ok-clause-places g c =
     rw c.in-Asks.is (
       record {
         number = c.args.number;
@@ -24,6 +31,6 @@ returns-in-Asks-clause-places g c =
         unpassed = refl;
         for' = refl;
       },
-      c.push_reserved.ensures.items,
+      c.in-Ok.ensures.ok,
       refl,
     )

@@ -1,0 +1,10 @@
+use Rattle.std.proofs.Common.{ap, ◌∙◌}
+use Rattle.channel_table.proofs.ListedLemmas.{finds_with}
+use Rattle.channel_table.specs.Rows.{number_of}
+use Rattle.channel_table.proofs.table.finding.idle_with.Goals as goal
+
+pub returns : goal.returns
+returns g c =
+    let row = c.index-rows-index.result in
+    let found = c.in_ok-index.ensures in
+    finds_with c.args.rows.now c.args.number c.in_ok-index.index row c.idle_side.result c.requires found.0 c.index-rows-index.is (ap number_of c.index-rows-index.is ∙ found.1 row) c.idle_side.ensures

@@ -1,0 +1,8 @@
+use Rattle.std.proofs.Common.{take}
+use Rattle.std.specs.List.{AllByRecursion}
+use Rattle.channel_table.specs.Listed.{IsListed}
+use Rattle.channel_table.proofs.table.finding.list_all.Given as goal
+
+-- the rows before this index that wait are listed
+abbrev pub invariant-loop-row : goal.invariant-loop-row
+invariant-loop-row g l = AllByRecursion (IsListed l.waiting) (take l.row-index l.rows)

@@ -1,0 +1,19 @@
+use Rattle.std.proofs.Common.{List, ap₂, arith, map, subst, ◌++◌, ◌∙◌}
+use Rattle.std.proofs.lemmas.List.{append-nil, take_all}
+use Rattle.channel_table.proofs.FlownRows.{drop_none, set_step}
+use Rattle.channel_table.specs.Flown.{AreFlown}
+use Rattle.channel_table.specs.Listing.{row_set}
+use Rattle.channel_table.specs.Rows.{all_sides}
+use Rattle.channel_table.specs.declared.row.Row.{Row}
+use Rattle.channel_table.proofs.table.flown.forget_left.Goals as goal
+
+pub loop-index-preserved : goal.loop-index-preserved
+loop-index-preserved g c = λ are.
+    rw c.forget_left.ensures (set_step c.loop-index.flown c.args.rows.now c.loop-index.index c.index-rows-index.result c.loop-index-test.true c.index-rows-index.is c.args.list.now (c.loop-index.invariant are))
+
+pub returns : goal.returns
+returns g c = λ are.
+    let rows : List (Row g.row.T.Denot) = c.args.rows.now in
+    subst (AreFlown c.loop-index.flown)
+    (ap₂ (λ (xs ys : List (Row g.row.T.Denot)). all_sides (map (row_set c.args.list.now) xs) ++ all_sides ys) (take_all c.loop-index.index rows c.loop-index-test.false) (drop_none rows c.loop-index.index (omega (arith, c.loop-index-test.false)))
+    ∙ append-nil (all_sides (map (row_set c.args.list.now) rows))) (c.loop-index.invariant are)

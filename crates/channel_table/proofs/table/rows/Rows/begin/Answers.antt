@@ -1,0 +1,44 @@
+use Rattle.std.proofs.Common.{List, ap₂, false, subst, sym, ◌∙◌, ◌≡◌, ℕ}
+use Rattle.std.specs.FinMap as map
+use Rattle.std.specs.List.{list_any}
+use Rattle.std.specs.Prelude.{IfSome}
+use Rattle.query_machine.specs.Legs.{attempt_from}
+use Rattle.query_machine.specs.declared.leg.Flying.{Flying}
+use Rattle.timeout_queue.specs.declared.key.Key.{Key}
+use Rattle.channel_table.proofs.FlownRows.{begin_found, leg_idle}
+use Rattle.channel_table.proofs.IndexLemmas.{begins_listed, begins_rising}
+use Rattle.channel_table.specs.Apart.{IsApart}
+use Rattle.channel_table.specs.Flown.{AreFlown}
+use Rattle.channel_table.specs.Forgotten.{begun_flown}
+use Rattle.channel_table.specs.Rows.{all_sides, side_at}
+use Rattle.channel_table.specs.Starting.{WaitsAt, row_has_id}
+use Rattle.channel_table.specs.declared.row.Row.{Row}
+use Rattle.channel_table.specs.declared.side.Side.{Side}
+use Rattle.channel_table.specs.declared.table.flown.Flown.{Flown}
+use Rattle.channel_table.proofs.table.rows.Rows.begin.Goals as goal
+
+pub add-requires : goal.add-requires
+add-requires g c =
+    let rows : List (Row g.row.T.Denot) = c.self.inside.list.items in
+    let apart = subst (IsApart c.args.index c.args.is_second) (sym c.self.view_is) c.requires.apart in
+    record {
+      idle = subst (λ (k : Key). map.contains_key c.self.inside.flown.deadlines k ≡ false) (sym c.key_of_side-leg.ensures)
+          (leg_idle c.self.inside.flown c.args.index c.args.is_second rows apart c.self.invariant.flown c.side.result.now c.index.result.now c.index.ensures c.side.ensures);
+    }
+
+pub invariant_of-self-2 : goal.invariant_of-self-2
+invariant_of-self-2 g c =
+    let rows : List (Row g.row.T.Denot) = c.self.inside.list.items in
+    let new : List (Row g.row.T.Denot) = c.begin.new.rows.items in
+    let flying : Flying = attempt_from c.args.server c.args.link c.args.id c.args.mix c.args.at c.args.wait in
+    let apart = subst (IsApart c.args.index c.args.is_second) (sym c.self.view_is) c.requires.apart in
+    let waits = subst (WaitsAt c.args.index c.args.is_second) (sym c.self.view_is) c.requires.waits in
+    let free = subst (λ (rs : List (Row g.row.T.Denot)). list_any (row_has_id c.args.id) rs ≡ false) (sym c.self.view_is) c.requires.free in
+    let begins = c.begin.ensures.begins in
+    let told = subst (λ (r : Row g.row.T.Denot). IfSome (side_at c.args.is_second r) (λ (s : Side). c.side.result.now ≡ s)) (c.index.ensures ∙ begins.is c.index.result.now) c.side.ensures in
+    record {
+      rising = begins_rising flying c.args.index c.args.is_second rows new begins c.self.invariant.rising;
+      flown = subst (λ (f : Flown). AreFlown f (all_sides new)) (sym (c.in_ok-add.ensures.ok ∙ ap₂ (λ (k : Key) (due : ℕ). begun_flown k c.args.id due c.self.inside.flown) c.key_of_side-leg.ensures c.saturating_add-due.ensures))
+          (begin_found c.self.inside.flown c.args.index c.args.is_second rows apart c.self.invariant.flown c.side.result.now flying new begins waits free told);
+      listed = λ on. begins_listed flying c.args.index c.args.is_second rows new begins c.self.inside.waiting (c.self.invariant.listed on);
+    }

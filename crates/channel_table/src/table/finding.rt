@@ -1,0 +1,136 @@
+//! Finding a request by its number, and the first that waits.
+
+ghost use Rattle.std.specs.FinSet as set;
+ghost use Rattle.std.specs.List.{AllByRecursion};
+ghost use Rattle.std.specs.Prelude.{◌≡◌, ◌<◌, ◌≤◌, map, true, OnErr, OnOk};
+ghost use Rattle.channel_table.specs.Listed.{FindsIdleWith, FindsNumber, IsListed, IsRising, Keeps, key_of, some_waits, stays};
+ghost use Rattle.channel_table.specs.Rows.{number_of};
+ghost use Rattle.channel_table.specs.Starting.{FindsIdle};
+
+use super::starting::{Idle, idle_side};
+use crate::row::Row;
+use chan_types::{Answer, NoMemory, Token};
+use leg_index::Waiting;
+use timeout_queue::Key;
+
+/// The index of the request with this number, by halves.
+pub fn find_row<T: Token>(rows: &[Row<T>], number: u64) -> Option<usize>
+    requires { IsRising (map number_of rows.now) }
+    ensures { FindsNumber number rows.now result }
+{
+    let mut low = 0;
+    let mut high = rows.len();
+    while low < high {
+        let middle = middle_of(low, high);
+        let here = rows[middle].number;
+        if here == number {
+            return Some(middle);
+        }
+        if here < number {
+            low = middle + 1;
+        } else {
+            high = middle;
+        }
+    }
+    None
+}
+
+/// The middle of a range that isn't empty.
+fn middle_of(low: usize, high: usize) -> usize
+    requires { low < high }
+    ensures from { low ≤ result }
+    ensures below { result < high }
+{
+    low + (high - low) / 2
+}
+
+/// The first side that waits. Requests of which none waits any longer leave those that wait, where they come first.
+pub fn first_idle<T: Token>(rows: &[Row<T>], waiting: &mut Waiting) -> Option<Idle>
+    requires rising { IsRising (map number_of rows.now) }
+    requires listed { AllByRecursion (IsListed waiting.old) rows.now }
+    ensures found { FindsIdle rows.now result }
+    ensures listed { AllByRecursion (IsListed waiting.new) rows.now }
+{
+    while let Some(first) = waiting.first() {
+        if let Some(idle) = idle_with(rows, first.number) {
+            return Some(idle);
+        }
+        waiting.drop_first(first);
+    }
+    None
+}
+
+/// The first side that waits of the request with this number.
+fn idle_with<T: Token>(rows: &[Row<T>], number: u64) -> Option<Idle>
+    requires { IsRising (map number_of rows.now) }
+    ensures { FindsIdleWith number rows.now result }
+{
+    let index = find_row(rows, number)?;
+    idle_side(&rows[index], index)
+}
+
+/// The key under which a request waits.
+pub fn key_of(number: u64) -> Key
+    ensures { result ≡ key_of number }
+{
+    Key { number, leg: 0 }
+}
+
+/// Lists all requests that wait.
+pub fn list_all<T: Token>(rows: &[Row<T>], waiting: &mut Waiting) -> Result<(), NoMemory>
+    ensures { OnOk result (AllByRecursion (IsListed waiting.new) rows.now) }
+{
+    for row in rows {
+        list_row(row, waiting)?;
+    }
+    Ok(())
+}
+
+/// Lists the request, if it waits.
+fn list_row<T: Token>(row: &Row<T>, waiting: &mut Waiting) -> Result<(), NoMemory>
+    ensures listed { OnOk result (IsListed waiting.new row.now) }
+    ensures kept { OnOk result (Keeps waiting.old waiting.new) }
+{
+    if some_waits(row) {
+        waiting.put(key_of(row.number))?;
+    }
+    Ok(())
+}
+
+/// Lists the request, if it stays where its current candidate has this answer, if it has one.
+pub fn list_staying<T: Token>(
+    row: &Row<T>,
+    answer: &Option<Answer>,
+    waiting: &mut Waiting,
+) -> Result<(), NoMemory>
+    ensures listed { OnOk result (stays answer.now row.now ≡ true
+        → set.contains waiting.new (key_of row.now.number) ≡ true) }
+    ensures kept { OnOk result (Keeps waiting.old waiting.new) }
+    ensures err { OnErr result (waiting.new ≡ waiting.old) }
+{
+    if stays(row, answer) {
+        waiting.put(key_of(row.number))?;
+    }
+    Ok(())
+}
+
+/// A leg of the row waits.
+fn some_waits<T: Token>(row: &Row<T>) -> bool
+    ensures { result ≡ some_waits row.now }
+{
+    row.first.waits()
+        || match &row.second {
+            Some(side) => side.waits(),
+            None => false,
+        }
+}
+
+/// The row stays, where its current candidate has this answer, if it has one.
+fn stays<T: Token>(row: &Row<T>, answer: &Option<Answer>) -> bool
+    ensures { result ≡ stays answer.now row.now }
+{
+    match answer {
+        None => true,
+        Some(answer) => row.has_next(answer.status),
+    }
+}

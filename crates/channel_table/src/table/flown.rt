@@ -1,0 +1,166 @@
+//! What finds the attempts in flight: by their identifiers, and by when they are due.
+
+ghost use Rattle.std.specs.FinMap as map;
+ghost use Rattle.std.specs.Prelude.{◌≡◌, [], false, filter_map, is_some, length, map, ℕ, IfOk, OnErr, OnOk};
+ghost use Rattle.channel_table.specs.Flown.{AreFlown, key_of_side};
+ghost use Rattle.channel_table.specs.Forgotten.{begun_flown, ended_of, forgotten, hits_second, left_of, left_second};
+ghost use Rattle.channel_table.specs.Failing.{answer_over, fails_at, kept_of};
+ghost use Rattle.channel_table.specs.Listing.{has_left, row_set};
+ghost use Rattle.channel_table.specs.Rows.{all_sides};
+ghost use Rattle.resolv_options.specs.declared.options.Options.{Options};
+
+use super::counting::has_left;
+use crate::row::Row;
+use crate::side::{Hits, Side};
+use chan_types::{Answer, NoMemory, ServerKey, Token};
+use leg_index::Flights;
+use query_machine::Phase;
+use std::alloc::Global;
+use timeout_queue::{Key, Queue};
+
+/// What finds the attempts in flight.
+#[derive(Drop)]
+pub struct Flown {
+    /// Their legs, by their identifiers.
+    pub flights: Flights,
+    /// When they are due, by their legs.
+    pub deadlines: Queue,
+}
+
+impl Flown {
+    /// No attempt.
+    pub fn make(alloc: Global) -> Result<Flown, NoMemory>
+        ensures { IfOk result (λ flown. AreFlown flown []) }
+    {
+        let flights = Flights::make(alloc)?;
+        let deadlines = Queue::make(alloc);
+        Ok(Flown { flights, deadlines })
+    }
+
+    /// An attempt of the leg begins, with this identifier, and is due at this moment.
+    pub fn add(&mut self, leg: Key, id: u16, due: u64) -> Result<(), NoMemory>
+        requires idle { map.contains_key self.old.deadlines leg ≡ false }
+        ensures ok { OnOk result (self.new ≡ begun_flown leg id due self.old) }
+        ensures err { OnErr result (self.new ≡ self.old) }
+    {
+        self.deadlines.put(leg, due)?;
+        match self.flights.begin(id, leg) {
+            Ok(()) => Ok(()),
+            Err(_) => {
+                self.deadlines.drop_key(leg);
+                Err(NoMemory)
+            }
+        }
+    }
+
+    /// Forgets the attempt of the side, if it has one. It takes no memory.
+    fn forget(&mut self, side: &Side)
+        ensures { self.new ≡ forgotten side.now self.old }
+    {
+        if let Phase::InFlight(flying) = side.leg.phase {
+            self.flights.end(flying.id);
+            self.deadlines.drop_key(key_of_side(side));
+        }
+    }
+
+    /// Forgets the attempts of the sides of the row for which this is so. It takes no memory.
+    fn forget_sides<T: Token>(&mut self, row: &Row<T>, first: bool, second: bool)
+        ensures { self.new ≡ left_of first second row.now self.old }
+    {
+        if first {
+            self.forget(&row.first);
+        }
+        if let Some(side) = &row.second
+            && second
+        {
+            self.forget(side);
+        }
+    }
+
+    /// Forgets the attempts of the row that an entry concerns, and all of them where its current candidate then has an
+    /// answer. It takes no memory.
+    pub fn forget_ended<T: Token>(&mut self, row: &Row<T>, concerned: Hits, answer: &Option<Answer>)
+        ensures { self.new ≡ ended_of concerned (is_some answer.now) row.now self.old }
+    {
+        let all = answer.is_some();
+        let first = all || concerned.concerns(&row.first, false);
+        let second = all || concerns_second(row, concerned);
+        self.forget_sides(row, first, second);
+    }
+
+    /// Forgets the attempts of the row on servers that aren't in the list. It takes no memory.
+    fn forget_left<T: Token>(&mut self, row: &Row<T>, list: &[ServerKey])
+        ensures { self.new ≡ left_of (has_left list.now row.now.first) (left_second list.now row.now.second) row.now self.old }
+    {
+        let first = has_left(&row.first, list);
+        let second = second_left(row, list);
+        self.forget_sides(row, first, second);
+    }
+}
+
+/// The entry concerns the second side of the row, if there is one.
+fn concerns_second<T: Token>(row: &Row<T>, concerned: Hits) -> bool
+    ensures { result ≡ hits_second concerned row.now.second }
+{
+    match &row.second {
+        Some(side) => concerned.concerns(side, true),
+        None => false,
+    }
+}
+
+/// Forgets the attempts that went to this server over this link, and all of a row with an answer. It takes no memory.
+pub fn forget_over<T: Token>(
+    flown: &mut Flown,
+    rows: &[Row<T>],
+    answers: &[Option<Answer>],
+    server: u32,
+    link: u64,
+)
+    requires { length answers.now ≡ length rows.now }
+    ensures { (options : Options) (most : ℕ) → answers.now ≡ map (answer_over options server link most) rows.now
+        → AreFlown flown.old (all_sides rows.now)
+        → AreFlown flown.new (all_sides (filter_map kept_of (map (fails_at options server link most) rows.now))) }
+{
+    for index in 0..rows.len() {
+        flown.forget_ended(&rows[index], Hits::Over(server, link), &answers[index]);
+    }
+}
+
+/// Forgets the attempts on servers that aren't in the list. It takes no memory.
+pub fn forget_left<T: Token>(flown: &mut Flown, rows: &[Row<T>], list: &[ServerKey])
+    ensures { AreFlown flown.old (all_sides rows.now)
+        → AreFlown flown.new (all_sides (map (row_set list.now) rows.now)) }
+{
+    for index in 0..rows.len() {
+        flown.forget_left(&rows[index], list);
+    }
+}
+
+/// The attempt of the second side of the row is on a server that isn't in the list.
+fn second_left<T: Token>(row: &Row<T>, list: &[ServerKey]) -> bool
+    ensures { result ≡ left_second list.now row.now.second }
+{
+    match &row.second {
+        Some(side) => has_left(side, list),
+        None => false,
+    }
+}
+
+/// Forgets all attempts of the rows. It takes no memory.
+pub fn forget_all<T: Token>(flown: &mut Flown, rows: &[Row<T>])
+    ensures { AreFlown flown.old (all_sides rows.now) → AreFlown flown.new [] }
+{
+    for index in 0..rows.len() {
+        flown.forget_sides(&rows[index], true, true);
+    }
+}
+
+/// The key of a side's leg.
+pub fn key_of_side(side: &Side) -> Key
+    ensures { result ≡ key_of_side side.now }
+{
+    Key {
+        number: side.number,
+        leg: side.leg_number,
+    }
+}

@@ -1,0 +1,402 @@
+//! The pending requests of a table, and what finds their legs.
+
+ghost use Rattle.std.specs.FinSet as set;
+ghost use Rattle.std.specs.List.{AllByRecursion, list_any, sum_by};
+ghost use Rattle.std.specs.Prelude.{◌≡◌, ◌≤◌, ◌<◌, ◌+◌, ◌++◌, [], ◌∷◌, false, IfErr, IfOk, IfSome, OnErr, OnOk, filter_map, flat_map, get_or, length, map, vec_len, vec_capacity};
+ghost use Rattle.channel_model.specs.Lawful.{first};
+ghost use Rattle.query_machine.specs.Legs.{attempt_from};
+ghost use Rattle.channel_table.specs.Apart.{IsApart};
+ghost use Rattle.channel_table.specs.Arriving.{Finds, FindsAt};
+ghost use Rattle.channel_table.specs.Ends.{EndsRow};
+ghost use Rattle.channel_table.specs.Failing.{answer_over, fails_at, kept_of, ticket_made};
+ghost use Rattle.channel_table.specs.Listed.{key_of};
+ghost use Rattle.channel_table.specs.Listing.{left_in, row_set};
+ghost use Rattle.channel_table.specs.Rows.{ended_with, flying_in, number_of, sides, over_in, row_over, waiting_in};
+ghost use Rattle.channel_table.specs.Sides.{is_flying};
+ghost use Rattle.channel_table.specs.Soonest.{IsSoonest};
+ghost use Rattle.channel_table.specs.Starting.{BeginsRow, FindsIdle, IsFree, WaitsAt, row_has_id, row_links};
+
+use super::counting::{Sought, count_sides};
+use super::ending::{complete_all, end_row};
+use super::failing::{answers_over, fail_all};
+use super::finding::{find_row, first_idle, key_of, list_all, list_staying};
+use super::flown::{Flown, forget_all, forget_left, forget_over, key_of_side};
+use super::landing::{Landing, find_landing, id_of, row_landing};
+use super::listing::set_rows;
+use super::seeking::{Soonest, any_over, find_soonest};
+use super::starting::{Idle, begin, find_idle, tcp_link};
+use crate::row::Row;
+use crate::side::Hits;
+use chan_types::{Answer, Bytes, NoMemory, ServerKey, Status, Ticket, Token};
+use channel_model::Judged;
+use leg_index::Waiting;
+use resolv_options::{Flags, Options};
+use std::alloc::Global;
+use std::marker::Model;
+
+/// The pending requests, by number, with what finds their legs. Contracts see their list.
+#[derive(Drop)]
+pub struct Rows<T: Token> {
+    list: Vec<Row<T>>,
+    /// The requests of which a leg waits, by their numbers. One of which none waits any longer stays among them until it
+    /// comes first.
+    waiting: Waiting,
+    /// What finds the attempts in flight.
+    flown: Flown,
+    /// Some of which a leg waits may not be among these: many legs may come back at once where no memory may be taken.
+    unlisted: bool,
+}
+
+impl<T: Token> Model for Rows<T> {
+    ghost use Rattle.std.specs.Prelude.{List};
+    ghost use Rattle.channel_table.specs.declared.row.Row.{Row};
+
+    ghost Value = { List (Row T) };
+
+    ghost view = { λ rows. rows.list.items };
+
+    ghost use Rattle.channel_table.specs.Indexed.{IsIndexed};
+
+    ghost invariant = { IsIndexed };
+}
+
+impl<T: Token> Rows<T> {
+    /// No request.
+    pub fn make(alloc: Global) -> Result<Rows<T>, NoMemory>
+        ensures { IfOk result (λ rows. rows ≡ []) }
+    {
+        Ok(Rows {
+            list: Vec::new(alloc),
+            waiting: Waiting::make(alloc),
+            flown: Flown::make(alloc)?,
+            unlisted: false,
+        })
+    }
+
+    /// How many requests there are.
+    pub fn len(&self) -> usize
+        ensures { result ≡ length self.now }
+    {
+        self.list.len()
+    }
+
+    /// The request at this index.
+    pub fn row(&self, index: usize) -> &Row<T>
+        requires { index < length self.now }
+        ensures { result.now ≡ get_or self.now index result.now }
+    {
+        &self.list[index]
+    }
+
+    /// Puts a request behind the others, or hands it back where there is no memory.
+    pub fn push(&mut self, row: Row<T>) -> Result<(), Row<T>>
+        requires newer { AllByRecursion (λ n. n < row.number) (map number_of self.old) }
+        requires idle { AllByRecursion (λ side. is_flying side ≡ false) (sides row) }
+        ensures ok { OnOk result (self.new ≡ self.old ++ row ∷ []) }
+        ensures err { OnErr result (self.new ≡ self.old) }
+        ensures back { IfErr result (λ given. given ≡ row) }
+    {
+        match make_room(&mut self.list, &mut self.waiting, row.number) {
+            Ok(()) => {
+                self.list.push_reserved(row);
+                Ok(())
+            }
+            Err(NoMemory) => Err(row),
+        }
+    }
+
+    /// The first side that waits.
+    pub fn find_idle(&mut self) -> Option<Idle>
+        ensures found { FindsIdle self.old result }
+        ensures same { self.new ≡ self.old }
+    {
+        if self.unlisted && list_all(self.list.as_slice(), &mut self.waiting).is_ok() {
+            self.unlisted = false;
+        }
+        if self.unlisted {
+            return find_idle(self.list.as_slice());
+        }
+        first_idle(self.list.as_slice(), &mut self.waiting)
+    }
+
+    /// The first identifier from the word upwards that no attempt has.
+    pub fn free_id(&self, word: u16) -> Option<u16>
+        ensures { IsFree self.now word result }
+    {
+        self.flown.flights.first_free(word)
+    }
+
+    /// A link over TCP to the server on which an attempt is in flight.
+    pub fn tcp_link(&self, server: u32) -> Option<u64>
+        ensures { result ≡ first (flat_map (row_links server) self.now) }
+    {
+        tcp_link(self.list.as_slice(), server)
+    }
+
+    /// Begins an attempt of this side of the row at this index, which is given so long.
+    pub fn begin(
+        &mut self,
+        index: usize,
+        is_second: bool,
+        server: u32,
+        link: u64,
+        id: u16,
+        mix: Option<u16>,
+        at: u64,
+        wait: u64,
+    ) -> Result<(), NoMemory>
+        requires inside { index < length self.old }
+        requires waits { WaitsAt index is_second self.old }
+        requires apart { IsApart index is_second self.old }
+        requires free { list_any (row_has_id id) self.old ≡ false }
+        ensures begins { OnOk result (BeginsRow (attempt_from server link id mix at wait) index is_second
+            self.old self.new) }
+        ensures err { OnErr result (self.new ≡ self.old) }
+        ensures len { length self.new ≡ length self.old }
+    {
+        let leg = key_of_side(self.list[index].side(is_second));
+        let due = at.saturating_add(wait);
+        self.flown.add(leg, id, due)?;
+        begin(
+            &mut self.list,
+            index,
+            is_second,
+            server,
+            link,
+            id,
+            mix,
+            at,
+            wait,
+        );
+        Ok(())
+    }
+
+    /// The side whose attempt the message from this server over this link answers. Where that isn't one of the request
+    /// whose attempt has the message's identifier, all are looked through.
+    pub fn find_landing(
+        &self,
+        alloc: Global,
+        flags: Flags,
+        server: u32,
+        link: u64,
+        bytes: &[u8],
+    ) -> Result<Option<Landing>, NoMemory>
+        ensures { IfOk result (Finds flags server link bytes.now self.now) }
+    {
+        if let Some(landing) = self.landing_by_id(alloc, flags, server, link, bytes)? {
+            return Ok(Some(landing));
+        }
+        find_landing(alloc, self.list.as_slice(), flags, server, link, bytes)
+    }
+
+    /// The same, if it is one of the request whose attempt has the message's identifier.
+    fn landing_by_id(
+        &self,
+        alloc: Global,
+        flags: Flags,
+        server: u32,
+        link: u64,
+        bytes: &[u8],
+    ) -> Result<Option<Landing>, NoMemory>
+        ensures { IfOk result (λ found. IfSome found (FindsAt flags server link bytes.now self.now)) }
+    {
+        match self.index_by_id(bytes) {
+            Some(index) => row_landing(alloc, &self.list[index], index, flags, server, link, bytes),
+            None => Ok(None),
+        }
+    }
+
+    /// The index of the request whose attempt has the message's identifier.
+    fn index_by_id(&self, bytes: &[u8]) -> Option<usize>
+        ensures { IfSome result (λ index. index < length self.now) }
+    {
+        let leg = self.flown.flights.leg(id_of(bytes)?)?;
+        find_row(self.list.as_slice(), leg.number)
+    }
+
+    /// The attempt that is due first: by its deadline, then its request, then its leg.
+    pub fn find_soonest(&self) -> Option<Soonest>
+        ensures { IsSoonest self.now result }
+    {
+        find_soonest(self.list.as_slice())
+    }
+
+    /// Whether an attempt is in flight on this server over this link.
+    pub fn any_over(&self, server: u32, link: u64) -> bool
+        ensures { result ≡ list_any (row_over server link) self.now }
+    {
+        any_over(self.list.as_slice(), server, link)
+    }
+
+    /// How many legs wait.
+    pub fn waiting_count(&self) -> u64
+        ensures { result ≡ sum_by waiting_in self.now }
+    {
+        count_sides(self.list.as_slice(), Sought::Waiting)
+    }
+
+    /// How many attempts are in flight.
+    pub fn flying_count(&self) -> u64
+        ensures { result ≡ sum_by flying_in self.now }
+    {
+        count_sides(self.list.as_slice(), Sought::Flying)
+    }
+
+    /// How many attempts are in flight on this server over this link.
+    pub fn count_over(&self, server: u32, link: u64) -> u64
+        ensures { result ≡ sum_by (over_in server link) self.now }
+    {
+        count_sides(self.list.as_slice(), Sought::Over(server, link))
+    }
+
+    /// How many attempts are in flight on servers that aren't in this list.
+    pub fn count_left(&self, list: &[ServerKey]) -> u64
+        ensures { result ≡ sum_by (left_in list.now) self.now }
+    {
+        count_sides(self.list.as_slice(), Sought::Left(list))
+    }
+
+    /// The answers that the current candidates have where the attempts fail that went to this server over this link,
+    /// and a leg may spend so many attempts: none for a row that goes on.
+    pub fn answers_over(
+        &self,
+        alloc: Global,
+        options: &Options,
+        server: u32,
+        link: u64,
+        most: u32,
+    ) -> Result<Vec<Option<Answer>>, NoMemory>
+        ensures { IfOk result (λ answers. answers.items ≡ map (answer_over options.now server link most) self.now) }
+    {
+        answers_over(alloc, options, self.list.as_slice(), server, link, most)
+    }
+
+    /// Ends the attempts of the row at this index that an entry concerns, which meant this and came with this reply or
+    /// none, where a leg may spend so many attempts, and this is then the answer of its current candidate, if it has
+    /// one.
+    pub fn end_row(
+        &mut self,
+        alloc: Global,
+        options: &Options,
+        ready: &mut Vec<Ticket<T>>,
+        index: usize,
+        concerned: Hits,
+        judged: Judged,
+        reply: Bytes,
+        most: u32,
+        answer: Option<Answer>,
+    ) -> Result<(), NoMemory>
+        requires inside { index < length self.old }
+        requires room { length self.old + vec_len ready.old ≤ vec_capacity ready.old }
+        ensures ends { OnOk result (EndsRow options.now.flags concerned judged reply most answer index
+            self.old ready.old.items self.new ready.new.items) }
+        ensures err { OnErr result ((self.new ≡ self.old) × (ready.new ≡ ready.old)) }
+        ensures fewer { length self.new ≤ length self.old }
+        ensures len { length self.new + vec_len ready.new ≡ length self.old + vec_len ready.old }
+        ensures capacity { vec_capacity ready.new ≡ vec_capacity ready.old }
+    {
+        list_staying(&self.list[index], &answer, &mut self.waiting)?;
+        self.flown
+            .forget_ended(&self.list[index], concerned, &answer);
+        end_row(
+            alloc,
+            options,
+            &mut self.list,
+            ready,
+            index,
+            concerned,
+            judged,
+            reply,
+            most,
+            answer,
+        );
+        Ok(())
+    }
+
+    /// Fails the attempts that went to this server over this link, where a leg may spend so many attempts and the rows'
+    /// current candidates then have these answers: the rows that go on are kept in order, and the others get ready.
+    pub fn fail_all(
+        &mut self,
+        alloc: Global,
+        options: &Options,
+        answers: Vec<Option<Answer>>,
+        ready: &mut Vec<Ticket<T>>,
+        server: u32,
+        link: u64,
+        most: u32,
+    ) -> Result<(), NoMemory>
+        requires answers { answers.items ≡ map (answer_over options.now server link most) self.old }
+        requires room { length self.old + vec_len ready.old ≤ vec_capacity ready.old }
+        ensures rows { OnOk result (self.new
+            ≡ filter_map kept_of (map (fails_at options.now server link most) self.old)) }
+        ensures tickets { OnOk result (ready.new.items ≡ ready.old.items
+            ++ filter_map ticket_made (map (fails_at options.now server link most) self.old)) }
+        ensures err { OnErr result ((self.new ≡ self.old) × (ready.new ≡ ready.old)) }
+        ensures fewer { length self.new ≤ length self.old }
+        ensures len { length self.new + vec_len ready.new ≡ length self.old + vec_len ready.old }
+        ensures capacity { vec_capacity ready.new ≡ vec_capacity ready.old }
+    {
+        let kept = Vec::with_capacity(alloc, self.list.len())?;
+        self.unlisted = true;
+        forget_over(
+            &mut self.flown,
+            self.list.as_slice(),
+            answers.as_slice(),
+            server,
+            link,
+        );
+        fail_all(
+            alloc,
+            options,
+            &mut self.list,
+            kept,
+            answers,
+            ready,
+            server,
+            link,
+            most,
+        );
+        Ok(())
+    }
+
+    /// Makes the list that of the rows: attempts on servers that aren't in it end, and no such server is forced. It
+    /// takes no memory.
+    pub fn set_list(&mut self, list: &[ServerKey])
+        ensures rows { self.new ≡ map (row_set list.now) self.old }
+        ensures len { length self.new ≡ length self.old }
+    {
+        self.unlisted = true;
+        forget_left(&mut self.flown, self.list.as_slice(), list);
+        set_rows(&mut self.list, list);
+    }
+
+    /// Completes each request with this status and without a reply. It takes no memory.
+    pub fn complete_all(&mut self, alloc: Global, ready: &mut Vec<Ticket<T>>, status: Status)
+        requires room { length self.old + vec_len ready.old ≤ vec_capacity ready.old }
+        ensures none { self.new ≡ [] }
+        ensures tickets { ready.new.items ≡ ready.old.items ++ map (ended_with status) self.old }
+        ensures ready_len { vec_len ready.new ≡ vec_len ready.old + length self.old }
+        ensures capacity { vec_capacity ready.new ≡ vec_capacity ready.old }
+    {
+        forget_all(&mut self.flown, self.list.as_slice());
+        complete_all(alloc, &mut self.list, ready, status);
+        self.waiting.clear();
+        self.unlisted = false;
+    }
+}
+
+/// Room for a request of this number, which is among those that wait then.
+fn make_room<T: Token>(
+    rows: &mut Vec<Row<T>>,
+    waiting: &mut Waiting,
+    number: u64,
+) -> Result<(), NoMemory>
+    ensures room { OnOk result (vec_len rows.new + 1 ≤ vec_capacity rows.new) }
+    ensures items { rows.new.items ≡ rows.old.items }
+    ensures listed { OnOk result (waiting.new ≡ set.insert waiting.old (key_of number)) }
+    ensures err { OnErr result (waiting.new ≡ waiting.old) }
+{
+    rows.reserve(1)?;
+    waiting.put(key_of(number))?;
+    Ok(())
+}
