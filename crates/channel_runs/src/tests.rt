@@ -11,6 +11,8 @@ mod datagrams;
 mod ending;
 mod failing;
 mod links;
+mod making;
+mod refusing;
 mod searching;
 mod servers;
 mod sorting;

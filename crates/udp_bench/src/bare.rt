@@ -1,6 +1,7 @@
 //! The bare loop: a datagram is sent for each that comes, and nothing else is done.
 
 use crate::load::{Load, Spent};
+use crate::room::widen;
 use crate::served::local;
 use std::io;
 use std::net::{Net, UdpSocket};
@@ -12,6 +13,7 @@ const QUERY: &[u8; 29] = b"\0\0\x01\0\0\x01\0\0\0\0\0\0\x07example\x03com\0\0\x0
 /// Sends the queries of the load, and receives their replies, until none comes for two seconds.
 pub fn ask<R: Net + CpuClock>(rt: &R, load: &Load) -> io::Result<Spent> {
     let socket = UdpSocket::bind(rt, local(0))?;
+    widen(&socket);
     socket.connect(local(load.port))?;
     socket.set_read_timeout(Some(Duration::from_secs(2)))?;
     let begun = rt.thread_cpu_time()?;

@@ -6,6 +6,7 @@
 mod bare;
 mod channel;
 mod load;
+mod room;
 mod served;
 
 use load::{Load, number};

@@ -1,5 +1,6 @@
 //! A plain server: it answers each query with one address.
 
+use crate::room::widen;
 use std::io;
 use std::net::{Ipv4Addr, Net, SocketAddr, UdpSocket};
 use std::time::Duration;
@@ -18,6 +19,7 @@ pub fn local(port: u16) -> SocketAddr {
 /// Answers each query that comes to this port, until nothing comes for ten seconds.
 pub fn serve<R: Net>(rt: &R, port: u16) -> io::Result<()> {
     let socket = UdpSocket::bind(rt, local(port))?;
+    widen(&socket);
     socket.set_read_timeout(Some(Duration::from_secs(10)))?;
     let mut buffer = [0u8; 512];
     for _ in 0..u64::MAX {

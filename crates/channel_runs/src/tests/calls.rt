@@ -1,5 +1,6 @@
 //! Calls of a channel with one owner, in order, and what each of them answers, as a line of text.
 
+use super::making::{Move, Moved, accepted, listed, make_move};
 use chan_types::{Answer, Bytes, Quiet, Spec};
 use channel_model::{Begun, Counts, Desk, Landed, Lapse, SetFault};
 use channel_table::Alone;
@@ -86,14 +87,14 @@ pub fn answers_told(
 fn answer_told(alloc: Global, desk: &mut Alone<Quiet>, call: &Call<'_>) -> Result<Vec<u8>, Fail> {
     match *call {
         Call::Ask(request) => asked(alloc, desk, request),
-        Call::Start(word, at) => begun(alloc, desk, word, at),
-        Call::Arrive(server, bytes) => arrived(alloc, desk, server, bytes),
+        Call::Start(word, at) => moved_told(alloc, desk, Move::Start(word, at)),
+        Call::Arrive(server, bytes) => moved_told(alloc, desk, Move::Arrive(server, bytes)),
         Call::Reply(id, code, question, records) => {
             let bytes = reply(alloc, id, code, question, records)?;
-            arrived(alloc, desk, 0, bytes.as_slice())
+            moved_told(alloc, desk, Move::Arrive(0, bytes.as_slice()))
         }
-        Call::Expire(at) => expired(alloc, desk, at),
-        Call::Fault(link) => failed(alloc, desk, link),
+        Call::Expire(at) => moved_told(alloc, desk, Move::Expire(at)),
+        Call::Fault(link) => moved_told(alloc, desk, Move::Fault(link)),
         Call::Servers(servers) => set(alloc, desk, servers),
         Call::Cancel => cancelled(alloc, desk),
         Call::Destroy => destroyed(alloc, desk),
@@ -130,18 +131,34 @@ pub fn spec_of(alloc: Global, request: Request<'_>) -> Result<Spec, Fail> {
 }
 
 fn asked(alloc: Global, desk: &mut Alone<Quiet>, request: Request<'_>) -> Result<Vec<u8>, Fail> {
-    let line = match desk.accept(spec_of(alloc, request)?, Quiet::new(alloc)) {
+    let line = match accepted(desk, spec_of(alloc, request)?, Quiet::new(alloc))? {
         Ok(number) => format!(in alloc; "request {number}\n")?,
-        Err(refused) => {
-            let why = refused.why.number();
+        Err(why) => {
+            let why = why.number();
             format!(in alloc; "refused {why}\n")?
         }
     };
     Ok(line.into_bytes())
 }
 
-fn begun(alloc: Global, desk: &mut Alone<Quiet>, word: u16, at: u64) -> Result<Vec<u8>, Fail> {
-    let line = match desk.start(word, 0, at)? {
+fn moved_told(alloc: Global, desk: &mut Alone<Quiet>, step: Move<'_>) -> Result<Vec<u8>, Fail> {
+    let line = match make_move(desk, step)? {
+        Moved::Begun(begun) => begun_told(alloc, &begun)?,
+        Moved::Landed(Landed::Matched { number, leg }) => format!(in alloc;
+            "matched {number} leg {leg}\n"
+        )?,
+        Moved::Landed(Landed::Stray) => format!(in alloc; "stray\n")?,
+        Moved::Lapse(Lapse::Expired { number, leg }) => format!(in alloc;
+            "expired {number} leg {leg}\n"
+        )?,
+        Moved::Lapse(Lapse::NotDue) => format!(in alloc; "not due\n")?,
+        Moved::Failed(count) => format!(in alloc; "failed {count}\n")?,
+    };
+    Ok(line.into_bytes())
+}
+
+fn begun_told(alloc: Global, begun: &Begun) -> Result<String, Fail> {
+    Ok(match begun {
         Begun::Started {
             number,
             leg,
@@ -152,8 +169,7 @@ fn begun(alloc: Global, desk: &mut Alone<Quiet>, word: u16, at: u64) -> Result<V
         } => format!(in alloc; "start {number} leg {leg} on {server} over {link} as {id}\n")?,
         Begun::Idle => format!(in alloc; "idle\n")?,
         Begun::NoId => format!(in alloc; "no identifier\n")?,
-    };
-    Ok(line.into_bytes())
+    })
 }
 
 /// The bytes of a reply (RFC 1035, section 4.1): QR, RD and RA are set.
@@ -174,37 +190,11 @@ fn reply(
     Ok(bytes)
 }
 
-fn arrived(
-    alloc: Global,
-    desk: &mut Alone<Quiet>,
-    server: u32,
-    bytes: &[u8],
-) -> Result<Vec<u8>, Fail> {
-    let line = match desk.arrive(server, 0, bytes)? {
-        Landed::Matched { number, leg } => format!(in alloc; "matched {number} leg {leg}\n")?,
-        Landed::Stray => format!(in alloc; "stray\n")?,
-    };
-    Ok(line.into_bytes())
-}
-
-fn expired(alloc: Global, desk: &mut Alone<Quiet>, at: u64) -> Result<Vec<u8>, Fail> {
-    let line = match desk.expire(at)? {
-        Lapse::Expired { number, leg } => format!(in alloc; "expired {number} leg {leg}\n")?,
-        Lapse::NotDue => format!(in alloc; "not due\n")?,
-    };
-    Ok(line.into_bytes())
-}
-
-fn failed(alloc: Global, desk: &mut Alone<Quiet>, link: u64) -> Result<Vec<u8>, Fail> {
-    let count = desk.fault(0, link, 0)?;
-    Ok(format!(in alloc; "failed {count}\n")?.into_bytes())
-}
-
 fn set(alloc: Global, desk: &mut Alone<Quiet>, servers: &[ServerAddr]) -> Result<Vec<u8>, Fail> {
     if servers.is_empty() || 8 < servers.len() {
         return Ok(format!(in alloc; "no list\n")?.into_bytes());
     }
-    let line = match desk.set_servers(servers) {
+    let line = match listed(desk, servers)? {
         Ok(count) => format!(in alloc; "servers closed {count}\n")?,
         Err(SetFault::Closed) => format!(in alloc; "refused as closed\n")?,
         Err(SetFault::Full) => format!(in alloc; "refused as full\n")?,

@@ -1,0 +1,16 @@
+//! Room for what comes to a socket while nobody receives.
+
+use libc::net as c;
+use std::net::UdpSocket;
+use std::os::fd::AsRawFd;
+
+/// The receive buffer that is asked for, in bytes: 10,000 datagrams, of which each takes some 800 there. The system may
+/// give less.
+const RECEIVE_BUFFER: i32 = 8 << 20;
+
+/// Asks for a large receive buffer, as the channel's network has one, so that a window of queries loses nothing.
+pub fn widen(socket: &UdpSocket) {
+    let mut value = [0u8; 16];
+    value[..4].copy_from_slice(&RECEIVE_BUFFER.to_ne_bytes());
+    let _ = unsafe { c::setsockopt(socket.as_raw_fd(), c::SOL_SOCKET, c::SO_RCVBUF, &value, 4) };
+}
