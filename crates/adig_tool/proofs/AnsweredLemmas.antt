@@ -42,13 +42,14 @@ use Rattle.event_runner.specs.UnderWay.{LogGets}
 use Rattle.tool_line.specs.declared.ending.Exit.TheVariants.{OutOfMemory}
 use Rattle.adig_tool.specs.Answered.{AreAnswered, IsAnswered, IsMeantBy, WasExchanged, opens_no_link, status_meant}
 use Rattle.adig_tool.specs.Entries.{is_own, is_steady}
-use Rattle.adig_tool.specs.Outside.{FilesTold, Outside}
+use Rattle.tool_line.specs.Outside.{FilesTold, Outside}
 use Rattle.adig_tool.specs.Running.{Comes, IsRunFor, setting_with}
 use Rattle.resolv_options.specs.Values.{OptionValues}
 use Rattle.tool_line.specs.Files.{options_set}
 use Rattle.tool_line.specs.declared.adig.AdigAsk.{AdigAsk}
 use Rattle.tool_line.specs.declared.files.FileFault.{FileFault as FaultOfFile}
-use Rattle.adig_tool.specs.Output.{PutsText, text_at}
+use Rattle.adig_tool.specs.Output.{text_at}
+use Rattle.tool_line.specs.Put.{PutsText}
 use Rattle.adig_tool.specs.Promise.{IsTraffic, Promise}
 use Rattle.adig_tool.specs.Session.{first_request, longest_slice}
 use Rattle.adig_tool.specs.declared.ended.Ended.{Ended}

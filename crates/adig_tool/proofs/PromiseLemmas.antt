@@ -37,8 +37,9 @@ use Rattle.tool_line.specs.declared.ending.Exit.TheVariants.{Failure, OutOfMemor
 use Rattle.adig_tool.specs.Closing.{Closes}
 use Rattle.adig_tool.specs.Ends.{IsEndOf}
 use Rattle.adig_tool.specs.Entries.{closing, is_own, is_steady, no_orders}
-use Rattle.adig_tool.specs.Outside.{Outside, OutputTold}
-use Rattle.adig_tool.specs.Output.{IsPut, PutsText, page_for, text_at}
+use Rattle.tool_line.specs.Outside.{Outside, OutputTold}
+use Rattle.adig_tool.specs.Output.{page_for, text_at}
+use Rattle.tool_line.specs.Put.{IsPut, PutsText}
 use Rattle.adig_tool.specs.Promise.{AreGood, IsComplete, IsGivenTime, IsOver, IsPageEnd, IsRunEnd, IsTraffic, Promise}
 use Rattle.adig_tool.specs.Session.{FallsIntoTurns, HasAccepted, IsSession, LeavesPending, ShowsEnd, first_request, is_of_session, leaves_running, longest_slice}
 use Rattle.adig_tool.specs.SessionParts.{take_entry}

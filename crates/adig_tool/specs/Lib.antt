@@ -1,5 +1,4 @@
 pub mod Entries
-pub mod Outside
 pub mod Output
 pub mod Session
 pub mod SessionParts

@@ -25,8 +25,9 @@ use Rattle.tool_line.specs.declared.ending.Exit.{Exit}
 use Rattle.tool_line.specs.declared.ending.Exit.TheVariants.{Failure, OutOfMemory, Stalled, Success, WaitFault}
 use Rattle.event_runner.specs.UnderWay.{LogGets}
 use Rattle.adig_tool.specs.Entries.{closing, is_own, no_orders}
-use Rattle.adig_tool.specs.Outside.{GrowsBy, Outside, OutputTold}
-use Rattle.adig_tool.specs.Output.{IsPut, page_for, text_at}
+use Rattle.tool_line.specs.Outside.{GrowsBy, Outside, OutputTold}
+use Rattle.adig_tool.specs.Output.{page_for, text_at}
+use Rattle.tool_line.specs.Put.{IsPut}
 use Rattle.adig_tool.specs.Session.{first_request, longest_slice}
 use Rattle.adig_tool.specs.declared.ended.Ended.{Ended}
 

@@ -17,8 +17,8 @@ use Rattle.tool_line.specs.declared.ending.Exit.{Exit}
 use Rattle.tool_line.specs.declared.ending.Exit.TheVariants.{FileFault}
 use Rattle.tool_line.specs.declared.ending.Tool.TheVariants.{Adig}
 use Rattle.tool_line.specs.declared.files.FileFault.{FileFault as FaultOfFile}
-use Rattle.adig_tool.specs.Outside.{FilesTold, Outside}
-use Rattle.adig_tool.specs.Output.{IsPut}
+use Rattle.tool_line.specs.Outside.{FilesTold, Outside}
+use Rattle.tool_line.specs.Put.{IsPut}
 use Rattle.adig_tool.specs.Promise.{Promise}
 use Rattle.adig_tool.specs.declared.ended.Ended.{Ended}
 

@@ -2,7 +2,7 @@
 
 ghost use Rattle.std.specs.Prelude.{◌≡◌, List, Option, ℕ};
 ghost use Rattle.net_world.specs.declared.log.WorldCall.{WorldCall};
-ghost use Rattle.adig_tool.specs.Outside.{files_told, outside};
+ghost use Rattle.tool_line.specs.Outside.{files_told, outside};
 ghost use Rattle.adig_tool.specs.Running.{EndsEarly, IsRunFor};
 
 use crate::ended::Ended;

@@ -3,7 +3,8 @@
 ghost use Rattle.std.specs.Prelude.{◌≡◌, Some};
 ghost use Rattle.tool_line.specs.Ending.{text_of};
 ghost use Rattle.tool_line.specs.declared.ending.Tool.TheVariants.{Adig};
-ghost use Rattle.adig_tool.specs.Output.{IsPut, page_for, text_at};
+ghost use Rattle.adig_tool.specs.Output.{page_for, text_at};
+ghost use Rattle.tool_line.specs.Put.{IsPut};
 
 use chan_types::{Calls, Spec};
 use item_list::NoMemory;

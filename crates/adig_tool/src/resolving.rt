@@ -3,7 +3,7 @@
 ghost use Rattle.std.specs.Prelude.{◌≡◌, ◌↔◌, IfOk, IsTrue};
 ghost use Rattle.chan_types.specs.declared.status.Status.TheVariants.{Success as WentWell};
 ghost use Rattle.adig_tool.specs.Ends.{IsEndOf, IsPageEndOf, fresh};
-ghost use Rattle.adig_tool.specs.Outside.{outside};
+ghost use Rattle.tool_line.specs.Outside.{outside};
 ghost use Rattle.adig_tool.specs.Promise.{Promise};
 ghost use Rattle.adig_tool.specs.Running.{setting_with};
 

@@ -4,7 +4,7 @@ ghost use Rattle.std.specs.Prelude.{◌≡◌, map};
 ghost use Rattle.tool_line.specs.declared.ending.Exit.TheVariants.{Usage};
 ghost use Rattle.event_runner.specs.UnderWay.{LogGets};
 ghost use Rattle.adig_tool.specs.Answered.{AreAnswered};
-ghost use Rattle.adig_tool.specs.Outside.{files_told, outside};
+ghost use Rattle.tool_line.specs.Outside.{files_told, outside};
 ghost use Rattle.adig_tool.specs.Running.{AreRefused, EndsEarly, ForWords, IsRunFor};
 
 use crate::asking::{ask, leave};

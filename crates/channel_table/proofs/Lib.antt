@@ -39,3 +39,5 @@ mod EntryLemmas
 mod FlownLemmas
 mod FlownRows
 mod LandingRow
+mod FirstDue
+mod DueSideLemmas

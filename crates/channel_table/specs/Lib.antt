@@ -15,6 +15,7 @@ pub mod Failing
 pub mod Starting
 pub mod Apart
 pub mod Listed
+pub mod DueSides
 pub mod Flown
 pub mod Forgotten
 pub mod Indexed

@@ -6,8 +6,10 @@ pub mod Ending
 pub mod Files
 pub mod Heads
 pub mod Lookup
+pub mod Outside
 pub mod Page
 pub mod Parser
+pub mod Put
 pub mod SettingFields
 pub mod Settings
 pub mod Values

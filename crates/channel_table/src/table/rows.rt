@@ -2,7 +2,7 @@
 
 ghost use Rattle.std.specs.FinSet as set;
 ghost use Rattle.std.specs.List.{AllByRecursion, list_any, sum_by};
-ghost use Rattle.std.specs.Prelude.{◌≡◌, ◌≤◌, ◌<◌, ◌+◌, ◌++◌, [], ◌∷◌, false, IfErr, IfOk, IfSome, OnErr, OnOk, filter_map, flat_map, get_or, length, map, vec_len, vec_capacity};
+ghost use Rattle.std.specs.Prelude.{◌≡◌, ◌≤◌, ◌<◌, ◌+◌, ◌++◌, [], ◌∷◌, false, IfErr, IfOk, IfSome, OnErr, OnOk, Some, filter_map, flat_map, get_or, length, map, vec_len, vec_capacity};
 ghost use Rattle.channel_model.specs.Lawful.{first};
 ghost use Rattle.query_machine.specs.Legs.{attempt_from};
 ghost use Rattle.channel_table.specs.Apart.{IsApart};
@@ -23,7 +23,7 @@ use super::finding::{find_row, first_idle, key_of, list_all, list_staying};
 use super::flown::{Flown, forget_all, forget_left, forget_over, key_of_side};
 use super::landing::{Landing, find_landing, id_of, row_landing};
 use super::listing::set_rows;
-use super::seeking::{Soonest, any_over, find_soonest};
+use super::seeking::{Soonest, any_over, find_soonest, side_due};
 use super::starting::{Idle, begin, find_idle, tcp_link};
 use crate::row::Row;
 use crate::side::Hits;
@@ -218,7 +218,19 @@ impl<T: Token> Rows<T> {
     pub fn find_soonest(&self) -> Option<Soonest>
         ensures { IsSoonest self.now result }
     {
+        if let Some(found) = self.first_side() {
+            return Some(found);
+        }
         find_soonest(self.list.as_slice())
+    }
+
+    /// The same, by the first deadline that is kept.
+    fn first_side(&self) -> Option<Soonest>
+        ensures { IfSome result (λ found. IsSoonest self.now (Some found)) }
+    {
+        let (leg, due) = self.flown.deadlines.first_due()?;
+        let index = find_row(self.list.as_slice(), leg.number)?;
+        side_due(&self.list[index], index, leg, due)
     }
 
     /// Whether an attempt is in flight on this server over this link.

@@ -1,6 +1,7 @@
 //! What is due first, and whether a link is busy.
 
-ghost use Rattle.std.specs.Prelude.{◌≡◌, ◌<◌};
+ghost use Rattle.std.specs.Prelude.{◌≡◌, ◌<◌, IfSome};
+ghost use Rattle.channel_table.specs.DueSides.{IsDueOf, due_side, is_due};
 ghost use Rattle.std.specs.List.{list_any};
 ghost use Rattle.channel_model.specs.Meanings.{TellsBusy, TellsDue};
 ghost use Rattle.channel_table.specs.Rows.{row_over};
@@ -12,6 +13,7 @@ use crate::row::Row;
 use crate::side::Side;
 use chan_types::Token;
 use query_machine::Phase;
+use timeout_queue::Key;
 
 impl<T: Token> Table<T> {
     /// Whether an attempt is in flight on this server over this link.
@@ -121,4 +123,42 @@ fn is_sooner(next: Soonest, first: Soonest) -> bool
         || (next.at == first.at
             && (next.number < first.number
                 || (next.number == first.number && next.leg_number < first.leg_number)))
+}
+
+/// The side of the row at this index whose leg this is, if its attempt is due at this moment.
+pub fn side_due<T: Token>(row: &Row<T>, index: usize, leg: Key, due: u64) -> Option<Soonest>
+    ensures { IfSome result (IsDueOf index row.now leg due) }
+{
+    if is_due(&row.first, leg, due) {
+        return Some(due_side(index, false, leg, due));
+    }
+    match &row.second {
+        Some(side) if is_due(side, leg, due) => Some(due_side(index, true, leg, due)),
+        Some(_) | None => None,
+    }
+}
+
+/// This leg's attempt, which is due at this moment.
+fn due_side(index: usize, is_second: bool, leg: Key, due: u64) -> Soonest
+    ensures { result ≡ due_side index is_second leg due }
+{
+    Soonest {
+        index,
+        is_second,
+        at: due,
+        number: leg.number,
+        leg_number: leg.leg,
+    }
+}
+
+/// The side's leg is this one, and its attempt is due at this moment.
+fn is_due(side: &Side, leg: Key, due: u64) -> bool
+    ensures { result ≡ is_due leg due side.now }
+{
+    side.number == leg.number
+        && side.leg_number == leg.leg
+        && match side.leg.phase {
+            Phase::InFlight(flying) => flying.due == due,
+            Phase::Waiting | Phase::Ended(_) => false,
+        }
 }

@@ -1,0 +1,126 @@
+-- The first deadline that is kept is the first of the rows.
+use Rattle.std.proofs.Common.{◌≡◌, ◌∙◌, ℕ, Bool, true, false, ◌&&◌, ◌||◌, List, [], ◌∷◌, ◌++◌, Option, Some, None, refl, ap, sym, subst, append_assoc, arith, ◌⊎◌, inl, inr, ◌==◌}
+use Rattle.std.proofs.lemmas.Bool.{and_parts, eqb-true, false≢true}
+use Rattle.std.proofs.lemmas.Bool.Decides.{nat_tests}
+use Rattle.std.specs.List.{AllByRecursion, cons_option}
+use Rattle.std.specs.Ordering.{eq_by_cmp, is_eq, is_le, is_lt, nat_cmp, ordering_then}
+use Rattle.std.specs.Prelude.{filter_map, flat_map, if◌then◌else◌, nat_lt, option_map, option_to_list}
+use Rattle.std.specs.declared.cmp.Ordering.{Ordering}
+use Rattle.std.specs.declared.cmp.Ordering.TheVariants.{Less, Equal, Greater}
+use Rattle.channel_model.specs.Lawful.{Due, is_before, least, least_due}
+use Rattle.channel_model.specs.Legs.{leg_of}
+use Rattle.query_machine.specs.declared.leg.Flying.{Flying}
+use Rattle.timeout_queue.proofs.Theorems.{key_cmp_total, tied_keys}
+use Rattle.timeout_queue.specs.Key.{key_cmp}
+use Rattle.timeout_queue.specs.Queue.{IsFirst}
+use Rattle.timeout_queue.specs.declared.key.Key.{Key}
+use Rattle.channel_table.proofs.EntryLemmas.{entry_there}
+use Rattle.channel_table.specs.Flown.{AreFlown, entry_by_leg, key_of_side, value_at}
+use Rattle.channel_table.specs.Rows.{all_sides}
+use Rattle.channel_table.specs.Sides.{flying_of, leg_of_side}
+use Rattle.channel_table.specs.Soonest.{due_of_side, dues}
+use Rattle.channel_table.specs.declared.row.Row.{Row}
+use Rattle.channel_table.specs.declared.side.Side.{Side}
+use Rattle.channel_table.specs.declared.table.flown.Flown.{Flown}
+
+-- a deadline stands in the list
+abbrev IsThere : Due → List Due → Type 0
+IsThere first [] = ⊥
+IsThere first (d ∷ ds) = (d ≡ first) ⊎ IsThere first ds
+
+-- it doesn't come before the first one
+abbrev IsBehind : Due → Due → Type 0
+IsBehind first d = ((d ≡ first) ⊎ (is_before first d ≡ true)) × (is_before d first ≡ false)
+
+-- one that stands in the list, and behind which all are, is the least
+least_due_is : (first best : Due) (ds : List Due) → IsBehind first best → AllByRecursion (IsBehind first) ds → (best ≡ first) ⊎ IsThere first ds → least_due best ds ≡ first
+least_due_is first best [] own all (inl e) = e
+least_due_is first best [] own all (inr e) = absurd e
+least_due_is first best (next ∷ rest) own all there = by_test (is_before next best) refl there (λ b t. least_due_is first b rest t all.1)
+  where
+    by_test : (b : Bool) → is_before next best ≡ b → (best ≡ first) ⊎ ((next ≡ first) ⊎ IsThere first rest) → ((b : Due) → IsBehind first b → (b ≡ first) ⊎ IsThere first rest → least_due b rest ≡ first)
+        → least_due (if b then next else best) rest ≡ first
+    by_test true is (inl e) go = absurd (false≢true (sym all.0.1 ∙ ap (is_before next) (sym e) ∙ is))
+    by_test true is (inr (inl e)) go = go next all.0 (inl e)
+    by_test true is (inr (inr t)) go = go next all.0 (inr t)
+    by_test false is (inl e) go = go best own (inl e)
+    by_test false is (inr (inl e)) go = by_own own.0
+      where
+        by_own : (best ≡ first) ⊎ (is_before first best ≡ true) → least_due best rest ≡ first
+        by_own (inl same) = go best own (inl same)
+        by_own (inr before) = absurd (false≢true (sym is ∙ ap (λ (d : Due). is_before d best) e ∙ before))
+    by_test false is (inr (inr t)) go = go best own (inr t)
+
+least_is : (first : Due) (ds : List Due) → AllByRecursion (IsBehind first) ds → IsThere first ds → least ds ≡ Some first
+least_is first [] all there = absurd there
+least_is first (d ∷ ds) all there = ap Some (least_due_is first d ds all.0 all.1 there)
+
+-- ---- the order of keys and that of deadlines
+
+abbrev due_at_key : Key → ℕ → Due
+due_at_key key at = record { at = at; leg = leg_of key.number key.leg }
+
+is_le_then : (r s : Ordering) → is_le (ordering_then r s) ≡ (is_lt r || (is_eq r && is_le s))
+is_le_then Less s = refl
+is_le_then Equal s = refl
+is_le_then Greater s = refl
+
+not_before : (a n l b m k : ℕ) → is_le (ordering_then (nat_cmp a b) (ordering_then (nat_cmp n m) (nat_cmp l k))) ≡ true → (nat_lt b a || ((b == a) && (nat_lt m n || ((m == n) && nat_lt k l)))) ≡ false
+not_before a n l b m k upto = grind (arith, nat_tests, is_le_then (nat_cmp a b) (ordering_then (nat_cmp n m) (nat_cmp l k)), is_le_then (nat_cmp n m) (nat_cmp l k), upto)
+
+before_or : (a n l b m k : ℕ) → is_le (ordering_then (nat_cmp a b) (ordering_then (nat_cmp n m) (nat_cmp l k))) ≡ true → ((nat_lt a b || ((a == b) && (nat_lt n m || ((n == m) && nat_lt l k)))) || ((a == b) && ((n == m) && (l == k)))) ≡ true
+before_or a n l b m k upto = grind (arith, nat_tests, is_le_then (nat_cmp a b) (ordering_then (nat_cmp n m) (nat_cmp l k)), is_le_then (nat_cmp n m) (nat_cmp l k), upto)
+
+-- a key that comes first is due no later than another one
+behind_first : (key other : Key) (due moment : ℕ) → is_le (ordering_then (nat_cmp due moment) (key_cmp key other)) ≡ true → IsBehind (due_at_key key due) (due_at_key other moment)
+behind_first key other due moment upto =
+    (by_or (is_before (due_at_key key due) (due_at_key other moment)) refl (before_or due key.number key.leg moment other.number other.leg upto), not_before due key.number key.leg moment other.number other.leg upto)
+  where
+    same : ((due == moment) && ((key.number == other.number) && (key.leg == other.leg))) ≡ true → due_at_key other moment ≡ due_at_key key due
+    same e =
+        let one = and_parts (due == moment) ((key.number == other.number) && (key.leg == other.leg)) e in
+        let two = and_parts (key.number == other.number) (key.leg == other.leg) one.1 in
+        sym (λ i. record { at = eqb-true due moment one.0 i; leg = leg_of (eqb-true key.number other.number two.0 i) (eqb-true key.leg other.leg two.1 i) })
+
+    by_or : (b : Bool) → is_before (due_at_key key due) (due_at_key other moment) ≡ b → (b || ((due == moment) && ((key.number == other.number) && (key.leg == other.leg)))) ≡ true
+        → (due_at_key other moment ≡ due_at_key key due) ⊎ (is_before (due_at_key key due) (due_at_key other moment) ≡ true)
+    by_or true is e = inr is
+    by_or false is e = inl (same e)
+
+-- ---- the deadlines of sides
+
+module _ (flown : Flown) (key : Key) (due : ℕ) (first : IsFirst flown.deadlines key due) where
+  each_behind : (xs ss : List Side) → AreFlown flown (xs ++ ss) → AllByRecursion (IsBehind (due_at_key key due)) (filter_map due_of_side ss)
+  each_behind xs [] are = tt
+  each_behind xs (side ∷ ss) are = by_flying (flying_of side) refl (each_behind (xs ++ side ∷ []) ss (subst (AreFlown flown) (sym (append_assoc xs (side ∷ []) ss)) are))
+    where
+      by_flying : (o : Option Flying) → flying_of side ≡ o → AllByRecursion (IsBehind (due_at_key key due)) (filter_map due_of_side ss)
+          → AllByRecursion (IsBehind (due_at_key key due)) (cons_option (option_map (λ (flying : Flying). record { at = flying.due; leg = leg_of_side side }) o) (filter_map due_of_side ss))
+      by_flying None is rest = rest
+      by_flying (Some flying) is rest =
+          let there = entry_there key_cmp_total entry_by_leg flown.deadlines xs ss side (key_of_side side) flying.due (ap (λ (o : Option Flying). option_map (λ (f : Flying). (key_of_side side, f.due)) o) is) are.by_leg in
+          (behind_first key (key_of_side side) due flying.due (first.least (key_of_side side) flying.due there), rest)
+
+find_there : (key : Key) (due : ℕ) (ss : List Side) → flat_map (λ side. value_at key_cmp key (entry_by_leg side)) ss ≡ due ∷ [] → IsThere (due_at_key key due) (filter_map due_of_side ss)
+find_there key due [] e = absurd cc
+find_there key due (side ∷ ss) e = by_flying (flying_of side) e (find_there key due ss)
+  where
+    by_tie : (flying : Flying) (b : Bool) → eq_by_cmp key_cmp key (key_of_side side) ≡ b → (if b then flying.due ∷ [] else []) ++ flat_map (λ s. value_at key_cmp key (entry_by_leg s)) ss ≡ due ∷ []
+        → (flat_map (λ s. value_at key_cmp key (entry_by_leg s)) ss ≡ due ∷ [] → IsThere (due_at_key key due) (filter_map due_of_side ss))
+        → (record { at = flying.due; leg = leg_of_side side } ≡ due_at_key key due) ⊎ IsThere (due_at_key key due) (filter_map due_of_side ss)
+    by_tie flying true is e go =
+        let at : flying.due ≡ due = cc in
+        let own : key_of_side side ≡ key = sym (tied_keys key (key_of_side side) is) in
+        inl (λ i. record { at = at i; leg = leg_of (own i).number (own i).leg })
+    by_tie flying false is e go = inr (go e)
+
+    by_flying : (o : Option Flying) → value_at key_cmp key (option_map (λ (flying : Flying). (key_of_side side, flying.due)) o) ++ flat_map (λ s. value_at key_cmp key (entry_by_leg s)) ss ≡ due ∷ []
+        → (flat_map (λ s. value_at key_cmp key (entry_by_leg s)) ss ≡ due ∷ [] → IsThere (due_at_key key due) (filter_map due_of_side ss))
+        → IsThere (due_at_key key due) (cons_option (option_map (λ (flying : Flying). record { at = flying.due; leg = leg_of_side side }) o) (filter_map due_of_side ss))
+    by_flying None e go = go e
+    by_flying (Some flying) e go = by_tie flying (eq_by_cmp key_cmp key (key_of_side side)) refl e go
+
+-- the first deadline that is kept is the least of the rows
+pub first_least : {T : Type 0} (flown : Flown) (rows : List (Row T)) (key : Key) (due : ℕ) → AreFlown flown (all_sides rows) → IsFirst flown.deadlines key due → least (dues rows) ≡ Some (record { at = due; leg = leg_of key.number key.leg })
+first_least flown rows key due are first =
+    least_is (due_at_key key due) (dues rows) (each_behind flown key due first [] (all_sides rows) are) (find_there key due (all_sides rows) (are.by_leg key ∙ ap option_to_list first.there))
