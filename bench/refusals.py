@@ -10,6 +10,7 @@ Build the tests first, by `rt test` in crates/channel_runs, or name their progra
 import os, subprocess, sys, tempfile
 
 HERE = os.path.dirname(os.path.abspath(__file__))
+MOST = 5000  # allocations of a test that is tried
 OWN_WANT = ("error: NoMemory", "error: AllocError", "error: AllocFailed", "error: Error")
 
 
@@ -32,7 +33,11 @@ def main():
     with tempfile.TemporaryDirectory() as folder:
         subprocess.run(["cc", "-O1", "-shared", "-fPIC", "-o", f"{folder}/refuse.so", f"{HERE}/refuse.c"], check=True)
         for test in tests:
-            for number in range(1, allocations(program, test, folder) + 1):
+            wants = allocations(program, test, folder)
+            if wants > MOST:
+                print(f"{test}: {wants} allocations, left out")
+                continue
+            for number in range(1, wants + 1):
                 ended = run(program, test, folder, number)
                 if ended.returncode == 0:
                     passed += 1

@@ -10,6 +10,7 @@ mod calls;
 mod datagrams;
 mod ending;
 mod failing;
+mod identifiers;
 mod links;
 mod making;
 mod refusing;
