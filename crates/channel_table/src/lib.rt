@@ -3,6 +3,7 @@
 
 mod aim;
 mod alone;
+mod held;
 mod row;
 mod side;
 mod table;

@@ -5,10 +5,11 @@ ghost use Rattle.chan_types.specs.declared.status.Status.TheVariants as statuses
 ghost use Rattle.channel_model.specs.Merge.{bare, same_status};
 ghost use Rattle.channel_model.specs.Search.{goes_on};
 ghost use Rattle.query_machine.specs.Legs.{IsWaiting, attempt_from};
-ghost use Rattle.channel_table.specs.After.{after, after_answer, answer_behind, has_next, last_status, next_row, sides_behind};
+ghost use Rattle.channel_table.specs.After.{answer_behind, has_next, last_status, next_row, sides_behind};
 ghost use Rattle.channel_table.specs.Rows.{begun_row, side_at};
 
 use crate::aim::{Aim, answer_of, bare_answer};
+use crate::held::Held;
 use crate::side::{Hits, Side};
 use chan_types::{Answer, Bytes, Call, NoMemory, Status, Ticket, Token};
 use channel_model::Judged;
@@ -36,7 +37,7 @@ pub struct Row<T: Token> {
 #[derive(Drop)]
 pub enum After<T: Token> {
     /// It goes on.
-    Stays(Row<T>),
+    Stays(Held<T>),
     /// It is completed.
     Ends(Ticket<T>),
 }
@@ -112,31 +113,6 @@ impl<T: Token> Row<T> {
         )
     }
 
-    /// The request behind the end of the attempts that an entry concerns, which meant this and came with this reply or
-    /// none, where a leg may spend so many attempts, and this is then the answer of its current candidate, if it has
-    /// one. It takes no memory.
-    pub fn end_attempts(
-        self,
-        alloc: Global,
-        options: &Options,
-        concerned: Hits,
-        judged: Judged,
-        reply: Bytes,
-        most: u32,
-        answer: Option<Answer>,
-    ) -> After<T>
-        ensures { result ≡ after options.now.flags concerned judged reply most self answer }
-    {
-        match answer {
-            None => {
-                let mut row = self;
-                row.close(alloc, concerned, judged, reply, most);
-                After::Stays(row)
-            }
-            Some(answer) => self.end_candidate(alloc, options, answer),
-        }
-    }
-
     /// Ends the attempts that an entry concerns, which meant this and came with this reply or none, where a leg may
     /// spend so many. It takes no memory.
     pub fn close(&mut self, alloc: Global, concerned: Hits, judged: Judged, reply: Bytes, most: u32)
@@ -151,18 +127,6 @@ impl<T: Token> Row<T> {
         if let Some(side) = &mut self.second {
             side.close(concerned, true, judged, two, most);
         }
-    }
-
-    /// The request with this answer of its current candidate. It takes no memory.
-    fn end_candidate(self, alloc: Global, options: &Options, answer: Answer) -> After<T>
-        ensures { result ≡ after_answer options.now.flags answer self }
-    {
-        if self.has_next(answer.status) {
-            let mut row = self;
-            row.ask_next(alloc, answer.status, Leg::new(options));
-            return After::Stays(row);
-        }
-        After::Ends(self.into_ticket(answer))
     }
 
     /// The ticket of the request, whose last candidate has this answer. It takes no memory.

@@ -9,11 +9,13 @@ ghost use Rattle.channel_table.specs.Sought.{is_sought, sought_in};
 
 use super::Table;
 use super::listing::has_key;
+use crate::held::{Held, row_at};
 use crate::row::Row;
 use crate::side::Side;
 use chan_types::{ServerKey, Token};
 use channel_model::Counts;
 use query_machine::Phase;
+use std::collections::VecDeque;
 
 impl<T: Token> Table<T> {
     /// How much is pending, ready, waiting and in flight.
@@ -67,12 +69,12 @@ pub fn has_left(side: &Side, list: &[ServerKey]) -> bool
 }
 
 /// How many sides of the rows are counted.
-pub fn count_sides<T: Token>(rows: &[Row<T>], sought: Sought<'_>) -> u64
-    ensures { result ≡ sum_by (sought_in sought.entry) rows.now }
+pub fn count_sides<T: Token>(rows: &VecDeque<Held<T>>, sought: Sought<'_>) -> u64
+    ensures { result ≡ sum_by (sought_in sought.entry) rows.now.items }
 {
     let mut count: u64 = 0;
-    for row in rows {
-        count += count_in(row, sought);
+    for index in 0..rows.len() {
+        count += count_in(row_at(rows, index), sought);
     }
     count
 }

@@ -1,12 +1,14 @@
 //! Cancelling and destroying, and how a request ends.
 
 ghost use Rattle.std.specs.Prelude.{◌≡◌, ◌≤◌, ◌<◌, ◌+◌, ◌++◌, [], map, vec_len, vec_capacity};
+ghost use Rattle.std.specs.VecDeque.{deque_len};
 ghost use Rattle.channel_model.specs.Meanings.{Cancels, Destroys};
 ghost use Rattle.channel_table.specs.Ends.{EndsRow};
 ghost use Rattle.channel_table.specs.Rows.{ended_with};
 ghost use Rattle.channel_model.specs.Seen.{Happens};
 
 use super::Table;
+use crate::held::{Held, row_at, take_at};
 use crate::row::{Row, ticket_of};
 use crate::side::Hits;
 use chan_types::{Answer, Bytes, Entry, Status, Ticket, Token, What};
@@ -14,6 +16,7 @@ use channel_model::Judged;
 use query_machine::Leg;
 use resolv_options::Options;
 use std::alloc::Global;
+use std::collections::VecDeque;
 use std::mem;
 
 impl<T: Token> Table<T> {
@@ -58,19 +61,19 @@ impl<T: Token> Table<T> {
 /// Completes each row with this status and without a reply. It takes no memory.
 pub fn complete_all<T: Token>(
     alloc: Global,
-    rows: &mut Vec<Row<T>>,
+    rows: &mut VecDeque<Held<T>>,
     ready: &mut Vec<Ticket<T>>,
     status: Status,
 )
-    requires room { vec_len rows.old + vec_len ready.old ≤ vec_capacity ready.old }
+    requires room { deque_len rows.old + vec_len ready.old ≤ vec_capacity ready.old }
     ensures none { rows.new.items ≡ [] }
     ensures tickets { ready.new.items ≡ ready.old.items ++ map (ended_with status) rows.old.items }
-    ensures len { vec_len rows.new ≡ 0 }
-    ensures ready_len { vec_len ready.new ≡ vec_len ready.old + vec_len rows.old }
+    ensures len { deque_len rows.new ≡ 0 }
+    ensures ready_len { vec_len ready.new ≡ vec_len ready.old + deque_len rows.old }
     ensures capacity { vec_capacity ready.new ≡ vec_capacity ready.old }
 {
-    for row in mem::replace(rows, Vec::new(alloc)) {
-        ready.push_reserved(ended(alloc, row, status));
+    for row in mem::replace(rows, VecDeque::new(alloc)) {
+        ready.push_reserved(ended(alloc, row.into_row(), status));
     }
 }
 
@@ -93,7 +96,7 @@ fn ended<T: Token>(alloc: Global, row: Row<T>, status: Status) -> Ticket<T>
 pub fn end_row<T: Token>(
     alloc: Global,
     options: &Options,
-    rows: &mut Vec<Row<T>>,
+    rows: &mut VecDeque<Held<T>>,
     ready: &mut Vec<Ticket<T>>,
     index: usize,
     concerned: Hits,
@@ -102,21 +105,21 @@ pub fn end_row<T: Token>(
     most: u32,
     answer: Option<Answer>,
 )
-    requires inside { index < vec_len rows.old }
-    requires room { vec_len rows.old + vec_len ready.old ≤ vec_capacity ready.old }
+    requires inside { index < deque_len rows.old }
+    requires room { deque_len rows.old + vec_len ready.old ≤ vec_capacity ready.old }
     ensures ends { EndsRow options.now.flags concerned judged reply most answer index
         rows.old.items ready.old.items rows.new.items ready.new.items }
-    ensures fewer { vec_len rows.new ≤ vec_len rows.old }
-    ensures len { vec_len rows.new + vec_len ready.new ≡ vec_len rows.old + vec_len ready.old }
+    ensures fewer { deque_len rows.new ≤ deque_len rows.old }
+    ensures len { deque_len rows.new + vec_len ready.new ≡ deque_len rows.old + vec_len ready.old }
     ensures capacity { vec_capacity ready.new ≡ vec_capacity ready.old }
 {
     match answer {
         None => rows[index].close(alloc, concerned, judged, reply, most),
         Some(answer) => {
-            if rows[index].has_next(answer.status) {
+            if row_at(rows, index).has_next(answer.status) {
                 rows[index].ask_next(alloc, answer.status, Leg::new(options));
             } else {
-                ready.push_reserved(rows.remove(index).into_ticket(answer));
+                ready.push_reserved(take_at(rows, index).into_ticket(answer));
             }
         }
     }

@@ -2,16 +2,19 @@
 
 ghost use Rattle.std.specs.List.{list_any};
 ghost use Rattle.std.specs.Prelude.{◌≡◌, ◌≢◌, ◌≤◌, ◌+◌, ◌==◌, ◌++◌, if◌then◌else◌, IfOk, IsTrue, filter_map, map, vec_len, vec_capacity};
+ghost use Rattle.std.specs.VecDeque.{deque_capacity, deque_len};
 ghost use Rattle.query_machine.specs.Servers.{one_more, recounted};
 ghost use Rattle.channel_table.specs.Failing.{answer_over, fails_at, kept_of, ticket_made};
 
-use crate::row::{After, Row};
+use crate::held::{Held, row_at};
+use crate::row::After;
 use crate::side::Hits;
 use chan_types::{Answer, Bytes, NoMemory, Status, Ticket, Token};
 use channel_model::Judged;
 use query_machine::Servers;
 use resolv_options::Options;
 use std::alloc::Global;
+use std::collections::VecDeque;
 use std::mem;
 
 /// The answers that the current candidates of the rows have where the attempts fail that went to this server over this
@@ -19,16 +22,16 @@ use std::mem;
 pub fn answers_over<T: Token>(
     alloc: Global,
     options: &Options,
-    rows: &[Row<T>],
+    rows: &VecDeque<Held<T>>,
     server: u32,
     link: u64,
     most: u32,
 ) -> Result<Vec<Option<Answer>>, NoMemory>
-    ensures { IfOk result (λ answers. answers.items ≡ map (answer_over options.now server link most) rows.now) }
+    ensures { IfOk result (λ answers. answers.items ≡ map (answer_over options.now server link most) rows.now.items) }
 {
     let mut answers = Vec::with_capacity(alloc, rows.len())?;
     for index in 0..rows.len() {
-        let answer = rows[index].answer_behind(
+        let answer = row_at(rows, index).answer_behind(
             alloc,
             options,
             Hits::Over(server, link),
@@ -47,29 +50,29 @@ pub fn answers_over<T: Token>(
 pub fn fail_all<T: Token>(
     alloc: Global,
     options: &Options,
-    rows: &mut Vec<Row<T>>,
-    kept: Vec<Row<T>>,
+    rows: &mut VecDeque<Held<T>>,
+    kept: VecDeque<Held<T>>,
     answers: Vec<Option<Answer>>,
     ready: &mut Vec<Ticket<T>>,
     server: u32,
     link: u64,
     most: u32,
 )
-    requires empty { vec_len kept ≡ 0 }
-    requires room_kept { vec_len rows.old ≤ vec_capacity kept }
+    requires empty { deque_len kept ≡ 0 }
+    requires room_kept { deque_len rows.old ≤ deque_capacity kept }
     requires answers { answers.items ≡ map (answer_over options.now server link most) rows.old.items }
-    requires room { vec_len rows.old + vec_len ready.old ≤ vec_capacity ready.old }
+    requires room { deque_len rows.old + vec_len ready.old ≤ vec_capacity ready.old }
     ensures rows { rows.new.items
         ≡ filter_map kept_of (map (fails_at options.now server link most) rows.old.items) }
     ensures tickets { ready.new.items ≡ ready.old.items
         ++ filter_map ticket_made (map (fails_at options.now server link most) rows.old.items) }
-    ensures fewer { vec_len rows.new ≤ vec_len rows.old }
-    ensures len { vec_len rows.new + vec_len ready.new ≡ vec_len rows.old + vec_len ready.old }
+    ensures fewer { deque_len rows.new ≤ deque_len rows.old }
+    ensures len { deque_len rows.new + vec_len ready.new ≡ deque_len rows.old + vec_len ready.old }
     ensures capacity { vec_capacity ready.new ≡ vec_capacity ready.old }
 {
     let mut kept = kept;
     let mut answers = answers;
-    for row in mem::replace(rows, Vec::new(alloc)) {
+    for row in mem::replace(rows, VecDeque::new(alloc)) {
         let answer = answers.remove(0);
         let failed = row.end_attempts(
             alloc,
@@ -81,7 +84,7 @@ pub fn fail_all<T: Token>(
             answer,
         );
         match failed {
-            After::Stays(row) => kept.push_reserved(row),
+            After::Stays(row) => kept.push_back_reserved(row),
             After::Ends(ticket) => ready.push_reserved(ticket),
         }
     }

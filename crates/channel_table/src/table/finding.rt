@@ -8,21 +8,23 @@ ghost use Rattle.channel_table.specs.Rows.{number_of};
 ghost use Rattle.channel_table.specs.Starting.{FindsIdle};
 
 use super::starting::{Idle, idle_side};
+use crate::held::{Held, row_at};
 use crate::row::Row;
 use chan_types::{Answer, NoMemory, Token};
 use leg_index::Waiting;
+use std::collections::VecDeque;
 use timeout_queue::Key;
 
 /// The index of the request with this number, by halves.
-pub fn find_row<T: Token>(rows: &[Row<T>], number: u64) -> Option<usize>
-    requires { IsRising (map number_of rows.now) }
-    ensures { FindsNumber number rows.now result }
+pub fn find_row<T: Token>(rows: &VecDeque<Held<T>>, number: u64) -> Option<usize>
+    requires { IsRising (map number_of rows.now.items) }
+    ensures { FindsNumber number rows.now.items result }
 {
     let mut low = 0;
     let mut high = rows.len();
     while low < high {
         let middle = middle_of(low, high);
-        let here = rows[middle].number;
+        let here = row_at(rows, middle).number;
         if here == number {
             return Some(middle);
         }
@@ -45,11 +47,11 @@ fn middle_of(low: usize, high: usize) -> usize
 }
 
 /// The first side that waits. Requests of which none waits any longer leave those that wait, where they come first.
-pub fn first_idle<T: Token>(rows: &[Row<T>], waiting: &mut Waiting) -> Option<Idle>
-    requires rising { IsRising (map number_of rows.now) }
-    requires listed { AllByRecursion (IsListed waiting.old) rows.now }
-    ensures found { FindsIdle rows.now result }
-    ensures listed { AllByRecursion (IsListed waiting.new) rows.now }
+pub fn first_idle<T: Token>(rows: &VecDeque<Held<T>>, waiting: &mut Waiting) -> Option<Idle>
+    requires rising { IsRising (map number_of rows.now.items) }
+    requires listed { AllByRecursion (IsListed waiting.old) rows.now.items }
+    ensures found { FindsIdle rows.now.items result }
+    ensures listed { AllByRecursion (IsListed waiting.new) rows.now.items }
 {
     while let Some(first) = waiting.first() {
         if let Some(idle) = idle_with(rows, first.number) {
@@ -61,12 +63,12 @@ pub fn first_idle<T: Token>(rows: &[Row<T>], waiting: &mut Waiting) -> Option<Id
 }
 
 /// The first side that waits of the request with this number.
-fn idle_with<T: Token>(rows: &[Row<T>], number: u64) -> Option<Idle>
-    requires { IsRising (map number_of rows.now) }
-    ensures { FindsIdleWith number rows.now result }
+fn idle_with<T: Token>(rows: &VecDeque<Held<T>>, number: u64) -> Option<Idle>
+    requires { IsRising (map number_of rows.now.items) }
+    ensures { FindsIdleWith number rows.now.items result }
 {
     let index = find_row(rows, number)?;
-    idle_side(&rows[index], index)
+    idle_side(row_at(rows, index), index)
 }
 
 /// The key under which a request waits.
@@ -77,11 +79,11 @@ pub fn key_of(number: u64) -> Key
 }
 
 /// Lists all requests that wait.
-pub fn list_all<T: Token>(rows: &[Row<T>], waiting: &mut Waiting) -> Result<(), NoMemory>
-    ensures { OnOk result (AllByRecursion (IsListed waiting.new) rows.now) }
+pub fn list_all<T: Token>(rows: &VecDeque<Held<T>>, waiting: &mut Waiting) -> Result<(), NoMemory>
+    ensures { OnOk result (AllByRecursion (IsListed waiting.new) rows.now.items) }
 {
-    for row in rows {
-        list_row(row, waiting)?;
+    for index in 0..rows.len() {
+        list_row(row_at(rows, index), waiting)?;
     }
     Ok(())
 }

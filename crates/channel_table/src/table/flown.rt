@@ -10,12 +10,14 @@ ghost use Rattle.channel_table.specs.Rows.{all_sides};
 ghost use Rattle.resolv_options.specs.declared.options.Options.{Options};
 
 use super::counting::has_left;
+use crate::held::{Held, row_at};
 use crate::row::Row;
 use crate::side::{Hits, Side};
 use chan_types::{Answer, NoMemory, ServerKey, Token};
 use leg_index::Flights;
 use query_machine::Phase;
 use std::alloc::Global;
+use std::collections::VecDeque;
 use timeout_queue::{Key, Queue};
 
 /// What finds the attempts in flight.
@@ -111,28 +113,32 @@ fn concerns_second<T: Token>(row: &Row<T>, concerned: Hits) -> bool
 /// Forgets the attempts that went to this server over this link, and all of a row with an answer. It takes no memory.
 pub fn forget_over<T: Token>(
     flown: &mut Flown,
-    rows: &[Row<T>],
+    rows: &VecDeque<Held<T>>,
     answers: &[Option<Answer>],
     server: u32,
     link: u64,
 )
-    requires { length answers.now ≡ length rows.now }
-    ensures { (options : Options) (most : ℕ) → answers.now ≡ map (answer_over options server link most) rows.now
-        → AreFlown flown.old (all_sides rows.now)
-        → AreFlown flown.new (all_sides (filter_map kept_of (map (fails_at options server link most) rows.now))) }
+    requires { length answers.now ≡ length rows.now.items }
+    ensures { (options : Options) (most : ℕ) → answers.now ≡ map (answer_over options server link most) rows.now.items
+        → AreFlown flown.old (all_sides rows.now.items)
+        → AreFlown flown.new (all_sides (filter_map kept_of (map (fails_at options server link most) rows.now.items))) }
 {
     for index in 0..rows.len() {
-        flown.forget_ended(&rows[index], Hits::Over(server, link), &answers[index]);
+        flown.forget_ended(
+            row_at(rows, index),
+            Hits::Over(server, link),
+            &answers[index],
+        );
     }
 }
 
 /// Forgets the attempts on servers that aren't in the list. It takes no memory.
-pub fn forget_left<T: Token>(flown: &mut Flown, rows: &[Row<T>], list: &[ServerKey])
-    ensures { AreFlown flown.old (all_sides rows.now)
-        → AreFlown flown.new (all_sides (map (row_set list.now) rows.now)) }
+pub fn forget_left<T: Token>(flown: &mut Flown, rows: &VecDeque<Held<T>>, list: &[ServerKey])
+    ensures { AreFlown flown.old (all_sides rows.now.items)
+        → AreFlown flown.new (all_sides (map (row_set list.now) rows.now.items)) }
 {
     for index in 0..rows.len() {
-        flown.forget_left(&rows[index], list);
+        flown.forget_left(row_at(rows, index), list);
     }
 }
 
@@ -147,11 +153,11 @@ fn second_left<T: Token>(row: &Row<T>, list: &[ServerKey]) -> bool
 }
 
 /// Forgets all attempts of the rows. It takes no memory.
-pub fn forget_all<T: Token>(flown: &mut Flown, rows: &[Row<T>])
-    ensures { AreFlown flown.old (all_sides rows.now) → AreFlown flown.new [] }
+pub fn forget_all<T: Token>(flown: &mut Flown, rows: &VecDeque<Held<T>>)
+    ensures { AreFlown flown.old (all_sides rows.now.items) → AreFlown flown.new [] }
 {
     for index in 0..rows.len() {
-        flown.forget_sides(&rows[index], true, true);
+        flown.forget_sides(row_at(rows, index), true, true);
     }
 }
 

@@ -6,6 +6,7 @@ ghost use Rattle.query_machine.specs.Replies.{reply_seen};
 ghost use Rattle.channel_table.specs.Arriving.{Finds, RowFinds, judged_of, landing_of};
 
 use crate::aim::Aim;
+use crate::held::{Held, row_at};
 use crate::row::Row;
 use crate::side::Side;
 use chan_types::{NoMemory, Token};
@@ -14,6 +15,7 @@ use dns_message::Question;
 use query_machine::{Flying, Phase, Reply, matching, verdict};
 use resolv_options::Flags;
 use std::alloc::Global;
+use std::collections::VecDeque;
 
 /// The side that a message answers, and what that means for its leg.
 #[derive(Clone, Copy, Debug, PartialEq, Eq)]
@@ -28,18 +30,18 @@ pub struct Landing {
 /// The side whose attempt the message from this server over this link answers.
 pub fn find_landing<T: Token>(
     alloc: Global,
-    rows: &[Row<T>],
+    rows: &VecDeque<Held<T>>,
     flags: Flags,
     server: u32,
     link: u64,
     bytes: &[u8],
 ) -> Result<Option<Landing>, NoMemory>
-    ensures { IfOk result (Finds flags server link bytes.now rows.now) }
+    ensures { IfOk result (Finds flags server link bytes.now rows.now.items) }
 {
     for index in 0..rows.len() {
         if let Some(landing) = row_landing(
             alloc,
-            &rows[index],
+            row_at(rows, index),
             index,
             flags,
             server,

@@ -1,6 +1,7 @@
 //! A new list of servers.
 
-ghost use Rattle.std.specs.Prelude.{◌≡◌, ◌+◌, ◌<◌, ◌≤◌, ◌^◌, ◌++◌, IfOk, OnOk, find, length, map, vec_len};
+ghost use Rattle.std.specs.Prelude.{◌≡◌, ◌+◌, ◌<◌, ◌≤◌, ◌^◌, ◌++◌, IfOk, OnOk, find, length, map};
+ghost use Rattle.std.specs.VecDeque.{deque_len};
 ghost use Rattle.channel_model.specs.Meanings.{SetsServers};
 ghost use Rattle.channel_model.specs.Seen.{Happens};
 ghost use Rattle.channel_model.specs.Servers.{greatest_of, has_key, rekeyed, same_address, same_server, without_key};
@@ -8,12 +9,14 @@ ghost use Rattle.channel_table.specs.Listing.{kept_in, leg_set, row_set};
 
 use super::Table;
 use super::moving::make_room;
+use crate::held::Held;
 use crate::row::Row;
 use chan_types::{Entry, KeyList, NoMemory, ServerKey, Token, What};
 use channel_model::SetFault;
 use net_addr::{Addr, ServerAddr};
 use query_machine::{Leg, Phase};
 use std::alloc::Global;
+use std::collections::VecDeque;
 
 /// The greatest key behind which a list of 8 servers has its keys: keys have 32 bits.
 const KEY_MOST: u32 = 0xffff_fff7;
@@ -164,20 +167,20 @@ fn greatest_of(greatest: u32, servers: &[ServerKey]) -> u32
 
 /// Makes the list that of the rows: attempts on servers that aren't in it end, and no such server is forced. It takes
 /// no memory.
-pub fn set_rows<T: Token>(rows: &mut Vec<Row<T>>, list: &[ServerKey])
+pub fn set_rows<T: Token>(rows: &mut VecDeque<Held<T>>, list: &[ServerKey])
     ensures items { rows.new.items ≡ map (row_set list.now) rows.old.items }
-    ensures len { vec_len rows.new ≡ vec_len rows.old }
-{
-    set_each(rows.as_mut_slice(), list);
-}
-
-/// The same for each of these rows.
-fn set_each<T: Token>(rows: &mut [Row<T>], list: &[ServerKey])
-    ensures { rows.new ≡ map (row_set list.now) rows.old }
+    ensures len { deque_len rows.new ≡ deque_len rows.old }
 {
     for index in 0..rows.len() {
-        set_row(&mut rows[index], list);
+        set_held(&mut rows[index], list);
     }
+}
+
+/// The same for one of them.
+fn set_held<T: Token>(held: &mut Held<T>, list: &[ServerKey])
+    ensures { held.new ≡ row_set list.now held.old }
+{
+    set_row(&mut held.body, list);
 }
 
 /// The same for one row.

@@ -3,6 +3,7 @@
 ghost use Rattle.std.specs.FinSet as set;
 ghost use Rattle.std.specs.List.{AllByRecursion, list_any, sum_by};
 ghost use Rattle.std.specs.Prelude.{◌≡◌, ◌≤◌, ◌<◌, ◌+◌, ◌++◌, [], ◌∷◌, false, IfErr, IfOk, IfSome, OnErr, OnOk, Some, filter_map, flat_map, get_or, length, map, vec_len, vec_capacity};
+ghost use Rattle.std.specs.VecDeque.{deque_capacity, deque_len};
 ghost use Rattle.channel_model.specs.Lawful.{first};
 ghost use Rattle.query_machine.specs.Legs.{attempt_from};
 ghost use Rattle.channel_table.specs.Apart.{IsApart};
@@ -25,6 +26,7 @@ use super::landing::{Landing, find_landing, id_of, row_landing};
 use super::listing::set_rows;
 use super::seeking::{Soonest, any_over, find_soonest, side_due};
 use super::starting::{Idle, begin, find_idle, tcp_link};
+use crate::held::{Held, row_at};
 use crate::row::Row;
 use crate::side::Hits;
 use chan_types::{Answer, Bytes, NoMemory, ServerKey, Status, Ticket, Token};
@@ -32,12 +34,13 @@ use channel_model::Judged;
 use leg_index::Waiting;
 use resolv_options::{Flags, Options};
 use std::alloc::Global;
+use std::collections::VecDeque;
 use std::marker::Model;
 
 /// The pending requests, by number, with what finds their legs. Contracts see their list.
 #[derive(Drop)]
 pub struct Rows<T: Token> {
-    list: Vec<Row<T>>,
+    list: VecDeque<Held<T>>,
     /// The requests of which a leg waits, by their numbers. One of which none waits any longer stays among them until it
     /// comes first.
     waiting: Waiting,
@@ -66,7 +69,7 @@ impl<T: Token> Rows<T> {
         ensures { IfOk result (λ rows. rows ≡ []) }
     {
         Ok(Rows {
-            list: Vec::new(alloc),
+            list: VecDeque::new(alloc),
             waiting: Waiting::make(alloc),
             flown: Flown::make(alloc)?,
             unlisted: false,
@@ -85,7 +88,7 @@ impl<T: Token> Rows<T> {
         requires { index < length self.now }
         ensures { result.now ≡ get_or self.now index result.now }
     {
-        &self.list[index]
+        row_at(&self.list, index)
     }
 
     /// Puts a request behind the others, or hands it back where there is no memory.
@@ -96,12 +99,14 @@ impl<T: Token> Rows<T> {
         ensures err { OnErr result (self.new ≡ self.old) }
         ensures back { IfErr result (λ given. given ≡ row) }
     {
-        match make_room(&mut self.list, &mut self.waiting, row.number) {
+        let number = row.number;
+        let held = Held::of(*self.list.allocator(), row)?;
+        match make_room(&mut self.list, &mut self.waiting, number) {
             Ok(()) => {
-                self.list.push_reserved(row);
+                self.list.push_back_reserved(held);
                 Ok(())
             }
-            Err(NoMemory) => Err(row),
+            Err(NoMemory) => Err(held.into_row()),
         }
     }
 
@@ -110,13 +115,13 @@ impl<T: Token> Rows<T> {
         ensures found { FindsIdle self.old result }
         ensures same { self.new ≡ self.old }
     {
-        if self.unlisted && list_all(self.list.as_slice(), &mut self.waiting).is_ok() {
+        if self.unlisted && list_all(&self.list, &mut self.waiting).is_ok() {
             self.unlisted = false;
         }
         if self.unlisted {
-            return find_idle(self.list.as_slice());
+            return find_idle(&self.list);
         }
-        first_idle(self.list.as_slice(), &mut self.waiting)
+        first_idle(&self.list, &mut self.waiting)
     }
 
     /// The first identifier from the word upwards that no attempt has.
@@ -130,7 +135,7 @@ impl<T: Token> Rows<T> {
     pub fn tcp_link(&self, server: u32) -> Option<u64>
         ensures { result ≡ first (flat_map (row_links server) self.now) }
     {
-        tcp_link(self.list.as_slice(), server)
+        tcp_link(&self.list, server)
     }
 
     /// Begins an attempt of this side of the row at this index, which is given so long.
@@ -154,7 +159,7 @@ impl<T: Token> Rows<T> {
         ensures err { OnErr result (self.new ≡ self.old) }
         ensures len { length self.new ≡ length self.old }
     {
-        let leg = key_of_side(self.list[index].side(is_second));
+        let leg = key_of_side(row_at(&self.list, index).side(is_second));
         let due = at.saturating_add(wait);
         self.flown.add(leg, id, due)?;
         begin(
@@ -186,7 +191,7 @@ impl<T: Token> Rows<T> {
         if let Some(landing) = self.landing_by_id(alloc, flags, server, link, bytes)? {
             return Ok(Some(landing));
         }
-        find_landing(alloc, self.list.as_slice(), flags, server, link, bytes)
+        find_landing(alloc, &self.list, flags, server, link, bytes)
     }
 
     /// The same, if it is one of the request whose attempt has the message's identifier.
@@ -201,7 +206,15 @@ impl<T: Token> Rows<T> {
         ensures { IfOk result (λ found. IfSome found (FindsAt flags server link bytes.now self.now)) }
     {
         match self.index_by_id(bytes) {
-            Some(index) => row_landing(alloc, &self.list[index], index, flags, server, link, bytes),
+            Some(index) => row_landing(
+                alloc,
+                row_at(&self.list, index),
+                index,
+                flags,
+                server,
+                link,
+                bytes,
+            ),
             None => Ok(None),
         }
     }
@@ -211,7 +224,7 @@ impl<T: Token> Rows<T> {
         ensures { IfSome result (λ index. index < length self.now) }
     {
         let leg = self.flown.flights.leg(id_of(bytes)?)?;
-        find_row(self.list.as_slice(), leg.number)
+        find_row(&self.list, leg.number)
     }
 
     /// The attempt that is due first: by its deadline, then its request, then its leg.
@@ -221,7 +234,7 @@ impl<T: Token> Rows<T> {
         if let Some(found) = self.first_side() {
             return Some(found);
         }
-        find_soonest(self.list.as_slice())
+        find_soonest(&self.list)
     }
 
     /// The same, by the first deadline that is kept.
@@ -229,43 +242,43 @@ impl<T: Token> Rows<T> {
         ensures { IfSome result (λ found. IsSoonest self.now (Some found)) }
     {
         let (leg, due) = self.flown.deadlines.first_due()?;
-        let index = find_row(self.list.as_slice(), leg.number)?;
-        side_due(&self.list[index], index, leg, due)
+        let index = find_row(&self.list, leg.number)?;
+        side_due(row_at(&self.list, index), index, leg, due)
     }
 
     /// Whether an attempt is in flight on this server over this link.
     pub fn any_over(&self, server: u32, link: u64) -> bool
         ensures { result ≡ list_any (row_over server link) self.now }
     {
-        any_over(self.list.as_slice(), server, link)
+        any_over(&self.list, server, link)
     }
 
     /// How many legs wait.
     pub fn waiting_count(&self) -> u64
         ensures { result ≡ sum_by waiting_in self.now }
     {
-        count_sides(self.list.as_slice(), Sought::Waiting)
+        count_sides(&self.list, Sought::Waiting)
     }
 
     /// How many attempts are in flight.
     pub fn flying_count(&self) -> u64
         ensures { result ≡ sum_by flying_in self.now }
     {
-        count_sides(self.list.as_slice(), Sought::Flying)
+        count_sides(&self.list, Sought::Flying)
     }
 
     /// How many attempts are in flight on this server over this link.
     pub fn count_over(&self, server: u32, link: u64) -> u64
         ensures { result ≡ sum_by (over_in server link) self.now }
     {
-        count_sides(self.list.as_slice(), Sought::Over(server, link))
+        count_sides(&self.list, Sought::Over(server, link))
     }
 
     /// How many attempts are in flight on servers that aren't in this list.
     pub fn count_left(&self, list: &[ServerKey]) -> u64
         ensures { result ≡ sum_by (left_in list.now) self.now }
     {
-        count_sides(self.list.as_slice(), Sought::Left(list))
+        count_sides(&self.list, Sought::Left(list))
     }
 
     /// The answers that the current candidates have where the attempts fail that went to this server over this link,
@@ -280,7 +293,7 @@ impl<T: Token> Rows<T> {
     ) -> Result<Vec<Option<Answer>>, NoMemory>
         ensures { IfOk result (λ answers. answers.items ≡ map (answer_over options.now server link most) self.now) }
     {
-        answers_over(alloc, options, self.list.as_slice(), server, link, most)
+        answers_over(alloc, options, &self.list, server, link, most)
     }
 
     /// Ends the attempts of the row at this index that an entry concerns, which meant this and came with this reply or
@@ -307,9 +320,9 @@ impl<T: Token> Rows<T> {
         ensures len { length self.new + vec_len ready.new ≡ length self.old + vec_len ready.old }
         ensures capacity { vec_capacity ready.new ≡ vec_capacity ready.old }
     {
-        list_staying(&self.list[index], &answer, &mut self.waiting)?;
+        list_staying(row_at(&self.list, index), &answer, &mut self.waiting)?;
         self.flown
-            .forget_ended(&self.list[index], concerned, &answer);
+            .forget_ended(row_at(&self.list, index), concerned, &answer);
         end_row(
             alloc,
             options,
@@ -348,11 +361,11 @@ impl<T: Token> Rows<T> {
         ensures len { length self.new + vec_len ready.new ≡ length self.old + vec_len ready.old }
         ensures capacity { vec_capacity ready.new ≡ vec_capacity ready.old }
     {
-        let kept = Vec::with_capacity(alloc, self.list.len())?;
+        let kept = VecDeque::with_capacity(alloc, self.list.len())?;
         self.unlisted = true;
         forget_over(
             &mut self.flown,
-            self.list.as_slice(),
+            &self.list,
             answers.as_slice(),
             server,
             link,
@@ -378,7 +391,7 @@ impl<T: Token> Rows<T> {
         ensures len { length self.new ≡ length self.old }
     {
         self.unlisted = true;
-        forget_left(&mut self.flown, self.list.as_slice(), list);
+        forget_left(&mut self.flown, &self.list, list);
         set_rows(&mut self.list, list);
     }
 
@@ -390,7 +403,7 @@ impl<T: Token> Rows<T> {
         ensures ready_len { vec_len ready.new ≡ vec_len ready.old + length self.old }
         ensures capacity { vec_capacity ready.new ≡ vec_capacity ready.old }
     {
-        forget_all(&mut self.flown, self.list.as_slice());
+        forget_all(&mut self.flown, &self.list);
         complete_all(alloc, &mut self.list, ready, status);
         self.waiting.clear();
         self.unlisted = false;
@@ -399,11 +412,11 @@ impl<T: Token> Rows<T> {
 
 /// Room for a request of this number, which is among those that wait then.
 fn make_room<T: Token>(
-    rows: &mut Vec<Row<T>>,
+    rows: &mut VecDeque<Held<T>>,
     waiting: &mut Waiting,
     number: u64,
 ) -> Result<(), NoMemory>
-    ensures room { OnOk result (vec_len rows.new + 1 ≤ vec_capacity rows.new) }
+    ensures room { OnOk result (deque_len rows.new + 1 ≤ deque_capacity rows.new) }
     ensures items { rows.new.items ≡ rows.old.items }
     ensures listed { OnOk result (waiting.new ≡ set.insert waiting.old (key_of number)) }
     ensures err { OnErr result (waiting.new ≡ waiting.old) }

@@ -9,10 +9,12 @@ ghost use Rattle.channel_model.specs.Seen.{Happens};
 ghost use Rattle.channel_table.specs.Soonest.{IsSoonest, is_sooner, sooner, sooner_row};
 
 use super::Table;
+use crate::held::{Held, row_at};
 use crate::row::Row;
 use crate::side::Side;
 use chan_types::Token;
 use query_machine::Phase;
+use std::collections::VecDeque;
 use timeout_queue::Key;
 
 impl<T: Token> Table<T> {
@@ -35,11 +37,11 @@ impl<T: Token> Table<T> {
 }
 
 /// Whether a row has an attempt in flight on this server over this link.
-pub fn any_over<T: Token>(rows: &[Row<T>], server: u32, link: u64) -> bool
-    ensures { result ≡ list_any (row_over server link) rows.now }
+pub fn any_over<T: Token>(rows: &VecDeque<Held<T>>, server: u32, link: u64) -> bool
+    ensures { result ≡ list_any (row_over server link) rows.now.items }
 {
-    for row in rows {
-        if row_over(row, server, link) {
+    for index in 0..rows.len() {
+        if row_over(row_at(rows, index), server, link) {
             return true;
         }
     }
@@ -68,12 +70,12 @@ pub struct Soonest {
 }
 
 /// The attempt that is due first: by its deadline, then its request, then its leg.
-pub fn find_soonest<T: Token>(rows: &[Row<T>]) -> Option<Soonest>
-    ensures { IsSoonest rows.now result }
+pub fn find_soonest<T: Token>(rows: &VecDeque<Held<T>>) -> Option<Soonest>
+    ensures { IsSoonest rows.now.items result }
 {
     let mut best: Option<Soonest> = None;
     for index in 0..rows.len() {
-        best = sooner_row(best, index, &rows[index]);
+        best = sooner_row(best, index, row_at(rows, index));
     }
     best
 }

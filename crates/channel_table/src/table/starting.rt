@@ -1,7 +1,8 @@
 //! Starting the attempt of the first leg that waits: its server, its link and its identifier.
 
 ghost use Rattle.std.specs.Bool.{then_some};
-ghost use Rattle.std.specs.Prelude.{◌≡◌, ◌≢◌, ◌+◌, ◌<◌, ◌≤◌, ◌==◌, ◌&&◌, ◌^◌, if◌then◌else◌, IfOk, IsTrue, Some, None, cond, flat_map, length, vec_len};
+ghost use Rattle.std.specs.Prelude.{◌≡◌, ◌≢◌, ◌+◌, ◌<◌, ◌≤◌, ◌==◌, ◌&&◌, ◌^◌, if◌then◌else◌, IfOk, IsTrue, Some, None, cond, flat_map, length};
+ghost use Rattle.std.specs.VecDeque.{deque_len};
 ghost use Rattle.channel_model.specs.Flight.{asked_with};
 ghost use Rattle.channel_model.specs.Lawful.{first};
 ghost use Rattle.channel_model.specs.Meanings.{Starts};
@@ -15,6 +16,7 @@ ghost use Rattle.channel_table.specs.Starting.{BeginsRow, FindsIdle, FindsIdleSi
 use super::Table;
 use super::moving::make_room;
 use super::rows::Rows;
+use crate::held::{Held, row_at};
 use crate::row::Row;
 use crate::side::Side;
 use chan_types::{Bytes, Entry, KeyList, NoMemory, ServerKey, Token, What};
@@ -24,6 +26,7 @@ use net_addr::ServerAddr;
 use query_machine::{Leg, Phase, Servers, query_bytes, wait_of};
 use resolv_options::Options;
 use std::alloc::Global;
+use std::collections::VecDeque;
 
 /// A side that waits: its row, which side of it, and what it has.
 #[derive(Clone, Copy, Debug, PartialEq, Eq)]
@@ -101,11 +104,11 @@ fn starts_with(starts: u64, begun: bool) -> u64
 }
 
 /// The first side that waits.
-pub fn find_idle<T: Token>(rows: &[Row<T>]) -> Option<Idle>
-    ensures { FindsIdle rows.now result }
+pub fn find_idle<T: Token>(rows: &VecDeque<Held<T>>) -> Option<Idle>
+    ensures { FindsIdle rows.now.items result }
 {
     for index in 0..rows.len() {
-        if let Some(idle) = idle_side(&rows[index], index) {
+        if let Some(idle) = idle_side(row_at(rows, index), index) {
             return Some(idle);
         }
     }
@@ -195,11 +198,11 @@ fn choose_link<T: Token>(rows: &Rows<T>, over_tcp: bool, server: u32, greatest: 
 }
 
 /// A link over TCP to the server on which an attempt is in flight.
-pub fn tcp_link<T: Token>(rows: &[Row<T>], server: u32) -> Option<u64>
-    ensures { result ≡ first (flat_map (row_links server) rows.now) }
+pub fn tcp_link<T: Token>(rows: &VecDeque<Held<T>>, server: u32) -> Option<u64>
+    ensures { result ≡ first (flat_map (row_links server) rows.now.items) }
 {
     for index in 0..rows.len() {
-        if let Some(link) = row_link(&rows[index], server) {
+        if let Some(link) = row_link(row_at(rows, index), server) {
             return Some(link);
         }
     }
@@ -291,7 +294,7 @@ fn message_for(
 
 /// Begins an attempt of this side of the row at this index, which is given so long.
 pub fn begin<T: Token>(
-    rows: &mut Vec<Row<T>>,
+    rows: &mut VecDeque<Held<T>>,
     index: usize,
     is_second: bool,
     server: u32,
@@ -301,11 +304,11 @@ pub fn begin<T: Token>(
     at: u64,
     wait: u64,
 )
-    requires inside { index < vec_len rows.old }
+    requires inside { index < deque_len rows.old }
     requires waits { WaitsAt index is_second rows.old.items }
     ensures begins { BeginsRow (attempt_from server link id mix at wait) index is_second
         rows.old.items rows.new.items }
-    ensures len { vec_len rows.new ≡ vec_len rows.old }
+    ensures len { deque_len rows.new ≡ deque_len rows.old }
 {
     rows[index].begin(is_second, server, link, id, mix, at, wait);
 }

@@ -17,7 +17,7 @@ returns-then-has_next-clause-ends g c =
     let row : Row g.row.T.Denot = c.index_mut-then-has_next.result.now in
     let inside : c.args.index < length c.args.rows.now.items = omega (arith, c.requires.inside) in
     let here = c.index_mut-then-has_next.ensures.value in
-    let tested = get_or_read rows c.args.index c.index.result.now inside c.index.ensures row ∙ sym here in
+    let tested = get_or_read rows c.args.index c.row_at.result.now inside c.row_at.ensures row ∙ sym here in
     let next = ap (λ (r : Row g.row.T.Denot). has_next c.in-Some.answer.status r) (sym tested) ∙ sym c.has_next.ensures ∙ c.if-has_next.true in
     rw c.in-Some.is (asks_so c.args.options.now.flags c.args.concerned c.args.judged c.args.reply c.args.most c.args.index rows c.args.ready.now.items row inside here c.in-Some.answer c.ask_next.new.self next
     (c.ask_next.ensures ∙ ap (λ (l : machine.Leg). next_row l c.in-Some.answer.status row) c.new.ensures))
@@ -25,10 +25,10 @@ returns-then-has_next-clause-ends g c =
 pub returns-clause-ends : goal.returns-clause-ends
 returns-clause-ends g c =
     let rows = c.args.rows.now.items in
-    let row : Row g.row.T.Denot = c.remove.result in
+    let row : Row g.row.T.Denot = c.take_at.result in
     let inside : c.args.index < length c.args.rows.now.items = omega (arith, c.requires.inside) in
-    let here = c.remove.ensures.value in
-    let tested = get_or_read rows c.args.index c.index.result.now inside c.index.ensures row ∙ sym here in
+    let here = c.take_at.ensures.value in
+    let tested = get_or_read rows c.args.index c.row_at.result.now inside c.row_at.ensures row ∙ sym here in
     let last = ap (λ (r : Row g.row.T.Denot). has_next c.in-Some.answer.status r) (sym tested) ∙ sym c.has_next.ensures ∙ c.if-has_next.false in
     rw (c.in-Some.is, c.push_reserved.ensures.items)
-    (ends_so c.args.options.now.flags c.args.concerned c.args.judged c.args.reply c.args.most c.args.index rows c.args.ready.now.items row inside here c.in-Some.answer c.into_ticket.result c.remove.new.self.items last c.into_ticket.ensures c.remove.ensures.items)
+    (ends_so c.args.options.now.flags c.args.concerned c.args.judged c.args.reply c.args.most c.args.index rows c.args.ready.now.items row inside here c.in-Some.answer c.into_ticket.result c.take_at.new.rows.items last c.into_ticket.ensures c.take_at.ensures.items)

@@ -6,9 +6,9 @@ use Rattle.channel_table.proofs.table.finding.find_row.Given as goal
 abbrev pub invariant-loop-low : goal.invariant-loop-low
 invariant-loop-low g l = record {
   order : l.low ≤ l.high;
-  inside : l.high ≤ length l.rows;
-  below : (i : ℕ) (d : Row g.row.T.Denot) → i < l.low → (get_or l.rows i d).number < l.number;
-  above : (i : ℕ) (d : Row g.row.T.Denot) → l.high ≤ i → i < length l.rows → l.number < (get_or l.rows i d).number;
+  inside : l.high ≤ length l.rows.items;
+  below : (i : ℕ) (d : Row g.row.T.Denot) → i < l.low → (get_or l.rows.items i d).number < l.number;
+  above : (i : ℕ) (d : Row g.row.T.Denot) → l.high ≤ i → i < length l.rows.items → l.number < (get_or l.rows.items i d).number;
 }
 
 abbrev pub decreases-loop-low : goal.decreases-loop-low

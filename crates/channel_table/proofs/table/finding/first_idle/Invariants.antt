@@ -4,7 +4,7 @@ use Rattle.channel_table.specs.Listed.{IsListed}
 use Rattle.channel_table.proofs.table.finding.first_idle.Given as goal
 
 abbrev pub invariant-loop-first : goal.invariant-loop-first
-invariant-loop-first g l = AllByRecursion (IsListed l.waiting) l.rows
+invariant-loop-first g l = AllByRecursion (IsListed l.waiting) l.rows.items
 
 abbrev pub decreases-loop-first : goal.decreases-loop-first
 decreases-loop-first g l = set.len l.waiting

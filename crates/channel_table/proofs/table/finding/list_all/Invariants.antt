@@ -4,5 +4,5 @@ use Rattle.channel_table.specs.Listed.{IsListed}
 use Rattle.channel_table.proofs.table.finding.list_all.Given as goal
 
 -- the rows before this index that wait are listed
-abbrev pub invariant-loop-row : goal.invariant-loop-row
-invariant-loop-row g l = AllByRecursion (IsListed l.waiting) (take l.row-index l.rows)
+abbrev pub invariant-loop-index : goal.invariant-loop-index
+invariant-loop-index g l = AllByRecursion (IsListed l.waiting) (take l.index l.rows.items)

@@ -9,11 +9,11 @@ use Rattle.channel_table.proofs.table.flown.forget_left.Goals as goal
 
 pub loop-index-preserved : goal.loop-index-preserved
 loop-index-preserved g c = λ are.
-    rw c.forget_left.ensures (set_step c.loop-index.flown c.args.rows.now c.loop-index.index c.index-rows-index.result c.loop-index-test.true c.index-rows-index.is c.args.list.now (c.loop-index.invariant are))
+    rw c.forget_left.ensures (set_step c.loop-index.flown c.args.rows.now.items c.loop-index.index c.row_at.result.now (omega (arith, c.loop-index-test.true, c.len-index-end.ensures)) c.row_at.ensures c.args.list.now (c.loop-index.invariant are))
 
 pub returns : goal.returns
 returns g c = λ are.
-    let rows : List (Row g.row.T.Denot) = c.args.rows.now in
+    let rows : List (Row g.row.T.Denot) = c.args.rows.now.items in
     subst (AreFlown c.loop-index.flown)
-    (ap₂ (λ (xs ys : List (Row g.row.T.Denot)). all_sides (map (row_set c.args.list.now) xs) ++ all_sides ys) (take_all c.loop-index.index rows c.loop-index-test.false) (drop_none rows c.loop-index.index (omega (arith, c.loop-index-test.false)))
+    (ap₂ (λ (xs ys : List (Row g.row.T.Denot)). all_sides (map (row_set c.args.list.now) xs) ++ all_sides ys) (take_all c.loop-index.index rows (omega (arith, c.loop-index-test.false, c.len-index-end.ensures))) (drop_none rows c.loop-index.index (omega (arith, c.loop-index-test.false, c.len-index-end.ensures)))
     ∙ append-nil (all_sides (map (row_set c.args.list.now) rows))) (c.loop-index.invariant are)

@@ -5,4 +5,4 @@ use Rattle.channel_table.specs.Rows.{all_sides}
 use Rattle.channel_table.proofs.table.flown.forget_left.Given as goal
 
 abbrev pub invariant-loop-index : goal.invariant-loop-index
-invariant-loop-index g l = AreFlown l.initial.flown (all_sides l.rows) → AreFlown l.flown (all_sides (map (row_set l.list) (take l.index l.rows)) ++ all_sides (drop l.index l.rows))
+invariant-loop-index g l = AreFlown l.initial.flown (all_sides l.rows.items) → AreFlown l.flown (all_sides (map (row_set l.list) (take l.index l.rows.items)) ++ all_sides (drop l.index l.rows.items))

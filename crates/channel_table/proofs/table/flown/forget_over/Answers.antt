@@ -16,18 +16,18 @@ use Rattle.channel_table.proofs.table.flown.forget_over.Goals as goal
 
 pub loop-index-preserved : goal.loop-index-preserved
 loop-index-preserved g c = λ options most same are.
-    let rows : List (Row g.row.T.Denot) = c.args.rows.now in
-    let row : Row g.row.T.Denot = c.index-rows-index.result in
+    let rows : List (Row g.row.T.Denot) = c.args.rows.now.items in
+    let row : Row g.row.T.Denot = c.row_at.result.now in
     let given : Option Answer = c.index-answers-index.result in
     let flown : Flown = c.loop-index.flown in
-    let answer = c.index-answers-index.is ∙ ap (λ (us : List (Option Answer)). get_or us c.loop-index.index given) same ∙ map_at (answer_over options c.args.server c.args.link most) rows c.loop-index.index row given c.loop-index-test.true c.index-rows-index.is in
+    let answer = c.index-answers-index.is ∙ ap (λ (us : List (Option Answer)). get_or us c.loop-index.index given) same ∙ map_at (answer_over options c.args.server c.args.link most) rows c.loop-index.index row given (omega (arith, c.loop-index-test.true, c.len-index-end.ensures)) c.row_at.ensures in
     subst (λ (f : Flown). AreFlown f (all_sides (filter_map kept_of (map (fails_at options c.args.server c.args.link most) (take (c.loop-index.index + 1) rows))) ++ all_sides (drop (c.loop-index.index + 1) rows)))
     (sym (c.forget_ended.ensures ∙ ap (λ (a : Option Answer). ended_of (Over c.args.server c.args.link) (is_some a) row flown) answer))
-    (over_step flown rows c.loop-index.index row c.loop-index-test.true c.index-rows-index.is options.flags (Over c.args.server c.args.link) (Failed ConnRefused) [] most (answer_over options c.args.server c.args.link most) (c.loop-index.invariant options most same are))
+    (over_step flown rows c.loop-index.index row (omega (arith, c.loop-index-test.true, c.len-index-end.ensures)) c.row_at.ensures options.flags (Over c.args.server c.args.link) (Failed ConnRefused) [] most (answer_over options c.args.server c.args.link most) (c.loop-index.invariant options most same are))
 
 pub returns : goal.returns
 returns g c = λ options most same are.
-    let rows : List (Row g.row.T.Denot) = c.args.rows.now in
+    let rows : List (Row g.row.T.Denot) = c.args.rows.now.items in
     subst (AreFlown c.loop-index.flown)
-    (ap₂ (λ (xs ys : List (Row g.row.T.Denot)). all_sides (filter_map kept_of (map (fails_at options c.args.server c.args.link most) xs)) ++ all_sides ys) (take_all c.loop-index.index rows c.loop-index-test.false) (drop_none rows c.loop-index.index (omega (arith, c.loop-index-test.false)))
+    (ap₂ (λ (xs ys : List (Row g.row.T.Denot)). all_sides (filter_map kept_of (map (fails_at options c.args.server c.args.link most) xs)) ++ all_sides ys) (take_all c.loop-index.index rows (omega (arith, c.loop-index-test.false, c.len-index-end.ensures))) (drop_none rows c.loop-index.index (omega (arith, c.loop-index-test.false, c.len-index-end.ensures)))
     ∙ append-nil (all_sides (filter_map kept_of (map (fails_at options c.args.server c.args.link most) rows)))) (c.loop-index.invariant options most same are)

@@ -9,11 +9,11 @@ use Rattle.channel_table.proofs.table.starting.find_idle.Goals as goal
 
 pub returns-in-Some : goal.returns-in-Some
 returns-in-Some g c =
-    let row : Row g.row.T.Denot = c.index-rows-index.result in
+    let row : Row g.row.T.Denot = c.row_at.result.now in
     let found = c.in-Some.ensures in
     record {
-      inside = omega (arith, c.loop-index-test.true, found.0);
-      is = λ d. subst (λ n. IsIdle (get_or c.args.rows.now n d) c.in-Some.idle) (sym found.0)
-          (subst (λ (r : Row g.row.T.Denot). IsIdle r c.in-Some.idle) (get_or_read c.args.rows.now c.loop-index.index row c.loop-index-test.true c.index-rows-index.is d) found.1);
-      firsts = found_first row_waits c.args.rows.now c.loop-index.index row c.loop-index-test.true c.index-rows-index.is c.loop-index.invariant (leg_of c.in-Some.idle.number c.in-Some.idle.leg_number) found.1.firsts;
+      inside = omega (arith, c.loop-index-test.true, c.len-index-end.ensures, found.0);
+      is = λ d. subst (λ n. IsIdle (get_or c.args.rows.now.items n d) c.in-Some.idle) (sym found.0)
+          (subst (λ (r : Row g.row.T.Denot). IsIdle r c.in-Some.idle) (get_or_read c.args.rows.now.items c.loop-index.index row (omega (arith, c.loop-index-test.true, c.len-index-end.ensures)) c.row_at.ensures d) found.1);
+      firsts = found_first row_waits c.args.rows.now.items c.loop-index.index row (omega (arith, c.loop-index-test.true, c.len-index-end.ensures)) c.row_at.ensures c.loop-index.invariant (leg_of c.in-Some.idle.number c.in-Some.idle.leg_number) found.1.firsts;
     }

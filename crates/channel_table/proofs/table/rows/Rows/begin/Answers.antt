@@ -23,7 +23,7 @@ add-requires g c =
     let apart = subst (IsApart c.args.index c.args.is_second) (sym c.self.view_is) c.requires.apart in
     record {
       idle = subst (λ (k : Key). map.contains_key c.self.inside.flown.deadlines k ≡ false) (sym c.key_of_side-leg.ensures)
-          (leg_idle c.self.inside.flown c.args.index c.args.is_second rows apart c.self.invariant.flown c.side.result.now c.index.result.now c.index.ensures c.side.ensures);
+          (leg_idle c.self.inside.flown c.args.index c.args.is_second rows apart c.self.invariant.flown c.side.result.now c.row_at.result.now c.row_at.ensures c.side.ensures);
     }
 
 pub invariant_of-self-2 : goal.invariant_of-self-2
@@ -35,7 +35,7 @@ invariant_of-self-2 g c =
     let waits = subst (WaitsAt c.args.index c.args.is_second) (sym c.self.view_is) c.requires.waits in
     let free = subst (λ (rs : List (Row g.row.T.Denot)). list_any (row_has_id c.args.id) rs ≡ false) (sym c.self.view_is) c.requires.free in
     let begins = c.begin.ensures.begins in
-    let told = subst (λ (r : Row g.row.T.Denot). IfSome (side_at c.args.is_second r) (λ (s : Side). c.side.result.now ≡ s)) (c.index.ensures ∙ begins.is c.index.result.now) c.side.ensures in
+    let told = subst (λ (r : Row g.row.T.Denot). IfSome (side_at c.args.is_second r) (λ (s : Side). c.side.result.now ≡ s)) (c.row_at.ensures ∙ begins.is c.row_at.result.now) c.side.ensures in
     record {
       rising = begins_rising flying c.args.index c.args.is_second rows new begins c.self.invariant.rising;
       flown = subst (λ (f : Flown). AreFlown f (all_sides new)) (sym (c.in_ok-add.ensures.ok ∙ ap₂ (λ (k : Key) (due : ℕ). begun_flown k c.args.id due c.self.inside.flown) c.key_of_side-leg.ensures c.saturating_add-due.ensures))

@@ -3,6 +3,6 @@ use Rattle.channel_table.proofs.table.rows.Rows.complete_all.Goals as goal
 pub invariant_of-self : goal.invariant_of-self
 invariant_of-self g c = record {
   rising = rw c.complete_all.ensures.none tt;
-  flown = rw c.complete_all.ensures.none ((rw c.as_slice.ensures.value at c.forget_all.ensures) c.self.invariant.flown);
+  flown = rw c.complete_all.ensures.none (c.forget_all.ensures c.self.invariant.flown);
   listed = λ on. rw c.complete_all.ensures.none tt;
 }

@@ -19,9 +19,9 @@ invariant_of-self-2 g c =
     let tickets : List (Ticket g.row.T.Denot) = c.args.ready.now.items in
     let legs = c.list_staying.new.waiting in
     let ends = c.end_row.ensures.ends in
-    let same : c.index.result.now ≡ ends.row = c.index.ensures ∙ ends.is c.index.result.now in
+    let same : c.row_at.result.now ≡ ends.row = c.row_at.ensures ∙ ends.is c.row_at.result.now in
     let put = subst (λ (r : Row g.row.T.Denot). stays c.args.answer r ≡ true → set.contains legs (key_of r.number) ≡ true) same c.in_ok-list_staying.ensures.listed in
-    let again : c.index-2.result.now ≡ ends.row = c.index-2.ensures ∙ ends.is c.index-2.result.now in
+    let again : c.row_at-2.result.now ≡ ends.row = c.row_at-2.ensures ∙ ends.is c.row_at-2.result.now in
     record {
       flown = subst (λ (f : Flown). AreFlown f (all_sides c.end_row.new.rows.items)) (sym (c.forget_ended.ensures ∙ ap (λ (r : Row g.row.T.Denot). ended_of c.args.concerned (is_some c.args.answer) r c.self.inside.flown) again))
           (ends_flown c.self.inside.flown c.args.options.now.flags c.args.concerned c.args.judged c.args.reply c.args.most c.args.answer c.args.index rows tickets c.end_row.new.rows.items c.end_row.new.ready.items ends c.self.invariant.flown);

@@ -6,5 +6,5 @@ use Rattle.channel_table.proofs.table.rows.Rows.first_side.Goals as goal
 pub returns : goal.returns
 returns g c =
     let rows : List (Row g.row.T.Denot) = c.self.inside.list.items in
-    let found = rw c.as_slice.ensures.value at c.in_ok-index.ensures in
-    rw (← c.self.view_is) (first_found c.self.inside.flown rows c.in_ok-index.index c.index.result.now c.in_ok-leg.leg c.in_ok-leg.due c.side_due.result c.self.invariant.flown c.in_ok-leg.ensures found.0 c.index.ensures c.side_due.ensures)
+    let found = c.in_ok-index.ensures in
+    rw (← c.self.view_is) (first_found c.self.inside.flown rows c.in_ok-index.index c.row_at.result.now c.in_ok-leg.leg c.in_ok-leg.due c.side_due.result c.self.invariant.flown c.in_ok-leg.ensures found.0 c.row_at.ensures c.side_due.ensures)

@@ -17,8 +17,8 @@ invariant_of-self g c =
     let key = key_of c.args.row.number in
     let newer = subst (λ (rs : List (Row g.row.T.Denot)). AllByRecursion (λ (n : ℕ). n < c.args.row.number) (map number_of rs)) (sym c.self.view_is) c.requires.newer in
     record {
-      rising = rw (c.push_reserved.ensures.items, c.make_room.ensures.items) (rising_push rows c.args.row c.self.invariant.rising newer);
-      flown = rw (c.push_reserved.ensures.items, c.make_room.ensures.items) (push_flown c.self.inside.flown rows c.args.row c.requires.idle c.self.invariant.flown);
-      listed = λ on. rw (c.push_reserved.ensures.items, c.make_room.ensures.items, c.in-Ok.ensures.listed)
+      rising = rw (c.push_back_reserved.ensures.items, c.make_room.ensures.items, c.in_ok-held.ensures.ok) (rising_push rows c.args.row c.self.invariant.rising newer);
+      flown = rw (c.push_back_reserved.ensures.items, c.make_room.ensures.items, c.in_ok-held.ensures.ok) (push_flown c.self.inside.flown rows c.args.row c.requires.idle c.self.invariant.flown);
+      listed = λ on. rw (c.push_back_reserved.ensures.items, c.make_room.ensures.items, c.in-Ok.ensures.listed, c.in_ok-held.ensures.ok)
           (each-append (IsListed (set.insert legs key)) rows (c.args.row ∷ []) (listed_more legs key rows (c.self.invariant.listed on)) ((λ waiting. listed_itself legs c.args.row.number), tt));
     }

@@ -6,6 +6,6 @@ use Rattle.channel_table.proofs.table.rows.Rows.set_list.Goals as goal
 pub invariant_of-self : goal.invariant_of-self
 invariant_of-self g c = record {
   rising = rw c.set_rows.ensures.items (subst IsRising (sym (set_numbers c.args.list.now c.self.inside.list.items)) c.self.invariant.rising);
-  flown = rw c.set_rows.ensures.items ((rw c.as_slice.ensures.value at c.forget_left.ensures) c.self.invariant.flown);
+  flown = rw c.set_rows.ensures.items (c.forget_left.ensures c.self.invariant.flown);
   listed = λ on. absurd (let t : true ≡ false = on in cc);
 }
