@@ -1,0 +1,4 @@
+mod BackLemmas
+mod CallLemmas
+mod ClosureLemmas
+mod SendLemmas

@@ -1,0 +1,62 @@
+//! What is left of a channel, as lines and numbers.
+
+use chan_types::{Entry, NoMemory, What};
+use shared_channel::Finished;
+use std::alloc::Global;
+use std::test::Fail;
+
+/// What an entry notes.
+fn word_of(alloc: Global, what: &What) -> Result<String, Fail> {
+    Ok(match what {
+        What::Accept { number, .. } => format!(in alloc; "accept {number}")?,
+        What::Cancel => format!(in alloc; "cancel")?,
+        What::Destroy => format!(in alloc; "destroy")?,
+        What::Take { number } => format!(in alloc; "take {number}")?,
+        What::Start { number, .. } => format!(in alloc; "start {number}")?,
+        What::Arrive { .. } => format!(in alloc; "arrive")?,
+        What::Expire { number, .. } => format!(in alloc; "expire {number}")?,
+        What::Fault { .. } => format!(in alloc; "fault")?,
+        What::Servers { .. } => format!(in alloc; "servers")?,
+    })
+}
+
+/// The line of an entry, with the request on whose command it was made.
+fn line_of(alloc: Global, entry: &Entry) -> Result<String, Fail> {
+    let word = word_of(alloc, &entry.what)?;
+    match entry.by {
+        0 => Ok(format!(in alloc; "{word}\n")?),
+        by => Ok(format!(in alloc; "{word} by {by}\n")?),
+    }
+}
+
+/// The lines of the journal.
+pub fn journal_told(alloc: Global, finished: &Finished) -> Result<String, Fail> {
+    let mut text = String::new(alloc);
+    for entry in finished.journal.entries() {
+        text.push_str(line_of(alloc, entry)?.as_str())?;
+    }
+    Ok(text)
+}
+
+/// The numbers of the requests whose callbacks were called, and the codes of their statuses, in order.
+pub fn calls_told(alloc: Global, finished: &Finished) -> Result<Vec<(u64, u8)>, NoMemory> {
+    let mut all = Vec::new(alloc);
+    for answer in finished.calls.iter() {
+        all.push((answer.number, answer.status.code()))?;
+    }
+    Ok(all)
+}
+
+/// How many of the accepted requests were called once, and how many calls there were.
+pub fn called_once(alloc: Global, finished: &Finished) -> Result<(u64, u64), NoMemory> {
+    let mut counts = Vec::from_elem(alloc, 0u8, finished.accepted.wrapping_add(1) as usize)?;
+    let mut all: u64 = 0;
+    for answer in finished.calls.iter() {
+        all = all.wrapping_add(1);
+        if let Some(count) = counts.get_mut(answer.number as usize) {
+            *count = count.wrapping_add(1);
+        }
+    }
+    let once = counts.iter().filter(|count| **count == 1).count();
+    Ok((once as u64, all))
+}
