@@ -1,0 +1,3 @@
+mod BackLemmas
+mod ClosureLemmas
+mod SendLemmas

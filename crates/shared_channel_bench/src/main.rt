@@ -1,0 +1,76 @@
+//! What a request costs at a channel that threads share, beside a channel with one owner.
+//! `alone N` asks, answers and delivers N requests at a channel with one owner, and `one N` at a shared one, in one
+//! thread. `times T N` does the first, and then asks and delivers N requests in T threads beside one that replies, and
+//! tells how long both took. With no words it does a few in two threads, and tells how many were accepted and called.
+#![tactic(auto)]
+
+mod alone;
+mod asking;
+mod place;
+mod threads;
+
+use crate::alone::run_alone;
+use crate::threads::{Ended, run_one, run_shared};
+use chan_types::NoMemory;
+use std::alloc::Global;
+use std::sync::Wait;
+use std::thread::Threads;
+use std::time::{Clock, Instant};
+use std::{env, io};
+
+/// The number that a word spells, or what stands in for it.
+fn number(word: Option<String>, other: u64) -> u64 {
+    match word {
+        Some(word) => word.as_str().parse().unwrap_or(other),
+        None => other,
+    }
+}
+
+/// The nanoseconds that so many requests take at a channel with one owner, and in so many threads, and how many were
+/// called there.
+fn times<R: Threads + Wait + Sync + Clock>(
+    rt: &R,
+    alloc: Global,
+    threads: u64,
+    count: u64,
+) -> io::Result<(u128, u128, u64)> {
+    let start = Instant::now(rt)?;
+    let _called = run_alone(alloc, count).is_ok();
+    let alone = start.elapsed(rt)?.as_nanos();
+    let start = Instant::now(rt)?;
+    let (_, called) = counts_of(run_shared(rt, alloc, threads, count));
+    Ok((alone, start.elapsed(rt)?.as_nanos(), called))
+}
+
+/// How many were accepted and called; none of them for want of memory.
+fn counts_of(ended: Result<Ended, NoMemory>) -> (u64, u64) {
+    match ended {
+        Ok(Ended { accepted, called }) => (accepted, called),
+        Err(_) => (0, 0),
+    }
+}
+
+fn main(rt: HostRuntime) -> io::Result<()> {
+    let alloc = rt.alloc();
+    let mut words = env::args(&rt)?.skip(1);
+    let Some(kind) = words.next() else {
+        let (accepted, called) = counts_of(run_shared(&rt, alloc, 2, 1000));
+        return println!(rt; "{accepted} {called}");
+    };
+    match kind.as_str() {
+        "alone" => println!(rt;
+            "{}",
+            run_alone(alloc, number(words.next(), 1000)).unwrap_or(0)
+        ),
+        "one" => {
+            let (_, called) = counts_of(run_one(&rt, alloc, number(words.next(), 1000)));
+            println!(rt; "{called}")
+        }
+        _ => {
+            let threads = number(words.next(), 2);
+            let count = number(words.next(), 1000);
+            let (alone, shared, called) = times(&rt, alloc, threads, count)?;
+            println!(rt; "{threads} {called} {alone} {shared}")
+        }
+    }
+}
