@@ -4,6 +4,7 @@ use denote.Param.Send.{IsSend, IsSync, sendable}
 use Rattle.std.proofs.Crossing.{crosses}
 use Rattle.std.proofs.alloc.Global.TheSendSync as global
 use Rattle.std.proofs.collections.LinkedList.TheSendSync as linked
+use Rattle.std.proofs.collections.VecDeque.TheSendSync as deque
 use Rattle.std.proofs.marker.PhantomData.TheSendSync as phantom
 use Rattle.std.proofs.option.Option.TheSendSync as option
 use Rattle.std.proofs.rt.Memory.TheSendSync as memory
@@ -28,6 +29,8 @@ use Rattle.net_addr.proofs.addr.Family.TheSendSync as family
 use Rattle.net_addr.proofs.addr.ServerAddr.TheSendSync as server_addr
 use Rattle.channel_table.proofs.aim.Aim.TheSendSync as aim
 use Rattle.channel_table.proofs.side.Side.TheSendSync as side
+use Rattle.channel_table.proofs.table.flown.Flown.TheSendSync as flown
+use Rattle.leg_index.proofs.waiting.Waiting.TheSendSync as waiting
 use Rattle.hosts_file.proofs.hosts.HostLine.TheSendSync as host_line
 use Rattle.hosts_file.proofs.hosts.Hosts.TheSendSync as hosts
 use Rattle.query_machine.proofs.leg.Flying.TheSendSync as flying
@@ -47,8 +50,14 @@ use Rattle.completion_ticket.specs.contracts.hand.Hand as Hand
 use Rattle.completion_ticket.specs.contracts.callback.Callback as Callback
 use Rattle.completion_ticket.specs.contracts.scripted.Scripted as Scripted
 use Rattle.completion_ticket.specs.contracts.scripted.ScriptedDone.TheImpl as Impl
+use Rattle.channel_table.specs.contracts.held.Held as Held
 use Rattle.channel_table.specs.contracts.table.Table as Table
+use Rattle.channel_table.specs.contracts.table.rows.Rows as Rows
 use Rattle.shared_channel.specs.contracts.channel.Channel as Channel
+use Rattle.std.specs.contracts.collections.VecDeque as VecDeque
+use Rattle.std.specs.contracts.alloc.Global as Global
+use Rattle.std.specs.contracts.impls.GlobalAllocator.TheImpl as OfGlobal
+use Rattle.std.below.std_heap.proofs.GlobalAllocator.TheSendSync as allocator
 use Rattle.shared_channel.specs.contracts.pass.Pass as Pass
 use Rattle.shared_channel.specs.contracts.account.Account as Account
 use Rattle.shared_channel.specs.contracts.state.SharedTable as SharedTable
@@ -92,8 +101,18 @@ ticket_send = search (callback_send, call_send, plain, owners, crosses, script.c
 pub row_send : IsSend (Row.the_row Told)
 row_send = search (callback_send, call_send, side_send, plain, owners, crosses, script.crosses, sendable) depth 60 fits 20000
 
+pub held_send : (g : Ghosts Told.Denot) → IsSend (Held.the_row Told g)
+held_send g = search (row_send, owners, crosses, sendable) depth 60 fits 20000
+
+-- a request on the heap, the list of them, and the rows with their indexes
+pub list_send : (g : Ghosts Told.Denot) → IsSend (VecDeque.the_row (Held.the_row Told g) Global.the_row OfGlobal.ghosts)
+list_send g = deque.the_send _ _ _ (held_send g) global.the_send allocator.the_frees
+
+pub rows_send : (g : Ghosts Told.Denot) → IsSend (Rows.the_row Told g)
+rows_send g = search (list_send, waiting.the_send, flown.the_field_send, owners, crosses, script.crosses, sendable) depth 60 fits 20000
+
 pub table_send : (g : Ghosts Told.Denot) → IsSend (Table.the_row Told g)
-table_send g = search (row_send, ticket_send, entry_send, plain, owners, crosses, script.crosses, sendable) depth 60 fits 20000
+table_send g = search (rows_send, ticket_send, entry_send, plain, owners, crosses, script.crosses, sendable) depth 60 fits 20000
 
 pub state_send : IsSend (SharedTable.the_row Scripted.the_row Impl.ghosts)
 state_send = search (table_send, crosses, sendable) depth 60 fits 20000
