@@ -27,12 +27,33 @@ ratios() {
   done
 }
 
+# processor WHERE: the processor time of a request, at a channel with one owner, through one pass in one thread, and in 1, 2
+# and 4 threads beside one that replies; the middle of five runs, of which those with threads are less the part with one owner
+processor() {
+  python3 - "$program" "$1" <<'E'
+import resource, statistics, subprocess, sys
+N = 40000
+def spent(*words):
+    before = resource.getrusage(resource.RUSAGE_CHILDREN)
+    subprocess.run([sys.argv[1], *words, str(N)], stdout=subprocess.DEVNULL, check=True)
+    behind = resource.getrusage(resource.RUSAGE_CHILDREN)
+    return behind.ru_utime + behind.ru_stime - before.ru_utime - before.ru_stime
+def middle(*words):
+    return statistics.median(spent(*words) for _ in range(5))
+alone, one = middle("alone"), middle("one")
+shared = [(threads, middle("times", str(threads)) - alone) for threads in (1, 2, 4)]
+print(f"{sys.argv[2]}, processor microseconds a request: one owner {alone / N * 1e6:.2f}, one pass {one / N * 1e6:.2f}, "
+      + ", ".join(f"{threads} threads {time / N * 1e6:.2f}" for threads, time in shared))
+E
+}
+
 for word in alone one; do
   a=$(instructions "$word" "$few")
   b=$(instructions "$word" "$many")
   echo "$word: $(((b - a) / (many - few))) instructions a request"
 done
 ratios "as the machine is"
+processor "as the machine is"
 busy=()
 trap 'kill "${busy[@]}" 2>/dev/null || true' EXIT
 for _ in $(seq "$(nproc)"); do
@@ -40,3 +61,4 @@ for _ in $(seq "$(nproc)"); do
   busy+=($!)
 done
 ratios "beside other work"
+processor "beside other work"
