@@ -10,7 +10,6 @@ mod calls;
 mod datagrams;
 mod ending;
 mod failing;
-mod identifiers;
 mod links;
 mod making;
 mod refusing;
