@@ -1,5 +1,5 @@
 -- The three ways in which the end of its attempt changes a row among others.
-use Rattle.std.proofs.Common.{◌≡◌, ◌∙◌, ℕ, ◌+◌, ◌<◌, suc, true, false, List, [], ◌∷◌, ◌++◌, Some, None, refl, ap, sym, subst, take, drop, set, get_or, length, arith}
+use Rattle.std.proofs.Common.{◌≡◌, ◌∙◌, ℕ, ◌+◌, ◌<◌, suc, true, false, List, [], ◌∷◌, ◌++◌, Option, Some, None, refl, ap, sym, subst, take, drop, set, get_or, length, arith}
 use Rattle.std.proofs.lemmas.List.{drop_more, get_or_read, set_split, take-append-drop}
 use Rattle.std.specs.Prelude.{if◌then◌else◌}
 use Rattle.chan_types.specs.declared.answer.Answer.{Answer}
@@ -53,3 +53,9 @@ module _ {T : Type 0} (flags : Flags) (concerned : Hits) (judged : Judged) (repl
     becomes = subst (λ b. Becomes (take index rows) (drop (index + 1) rows) tickets new_rows (tickets ++ ticket ∷ []) (if b then Stays (next_row (fresh_leg flags) answer.status row) else Ends (record { token = row.token; call = record answer { status = last_status row.empty answer.status } }))) (sym last)
         (left ∙ ap (λ k. take index rows ++ drop k rows) (one_more index), ap (λ t. tickets ++ t ∷ []) same);
   }
+
+-- where the current candidate has an answer, the reply that the attempt came with isn't looked at
+pub ends_keeping : {T : Type 0} (flags : Flags) (concerned : Hits) (judged : Judged) (reply other : List ℕ) (most : ℕ) (answer : Option Answer) (index : ℕ) (rows : List (Row T)) (tickets : List (Ticket T)) (new_rows : List (Row T)) (new_tickets : List (Ticket T))
+    → (answer ≡ None → reply ≡ other) → EndsRow flags concerned judged reply most answer index rows tickets new_rows new_tickets → EndsRow flags concerned judged other most answer index rows tickets new_rows new_tickets
+ends_keeping flags concerned judged reply other most None index rows tickets new_rows new_tickets same ends = subst (λ (r : List ℕ). EndsRow flags concerned judged r most None index rows tickets new_rows new_tickets) (same refl) ends
+ends_keeping flags concerned judged reply other most (Some answer) index rows tickets new_rows new_tickets same ends = record { row = ends.row; is = ends.is; parts = ends.parts; becomes = ends.becomes }

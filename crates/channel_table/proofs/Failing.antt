@@ -188,10 +188,10 @@ fails_failed server link at (Ok count) setting past failed = absurd (cc failed)
 fails_failed server link at (Err fault) setting past failed = refl
 
 -- what was made of each row begins with what was made of the first
-pub answers_left : {X Y : Type 0} (f : X → Y) {answers : List Y} {rows rest : List X} {x : X} (d : Y) → answers ≡ map f rows → rows ≡ x ∷ rest → (get_or answers 0 d ≡ f x) × (drop 1 answers ≡ map f rest)
-answers_left f d are steps =
-    let all = are ∙ ap (map f) steps in
-    (ap (λ them. get_or them 0 d) all, ap (drop 1) all)
+pub answers_left : {X Y : Type 0} (f : X → Y) {answers left : List Y} {rows rest : List X} {x : X} (answer : Y) → answers ≡ answer ∷ left → answers ≡ map f rows → rows ≡ x ∷ rest → (answer ≡ f x) × (left ≡ map f rest)
+answers_left f answer taken are steps =
+    let all = sym taken ∙ are ∙ ap (map f) steps in
+    (ap (λ them. get_or them 0 answer) all, ap (drop 1) all)
 
 -- one more row of those that failed or stayed
 module _ {T : Type 0} (f : Row T → After T) (ys : List (Row T)) (x : Row T) where

@@ -2,6 +2,7 @@
 use Rattle.std.proofs.Common.{◌≡◌, ◌∙◌, ℕ, Bool, true, false, ◌&&◌, ◌||◌, List, [], ◌∷◌, ◌++◌, Option, Some, None, refl, ap, sym, subst, append_assoc, arith, ◌⊎◌, inl, inr, ◌==◌}
 use Rattle.std.proofs.lemmas.Bool.{and_parts, eqb-true, false≢true}
 use Rattle.std.proofs.lemmas.Bool.Decides.{nat_tests}
+use Rattle.std.specs.FinMap as map
 use Rattle.std.specs.List.{AllByRecursion, cons_option}
 use Rattle.std.specs.Ordering.{eq_by_cmp, is_eq, is_le, is_lt, nat_cmp, ordering_then}
 use Rattle.std.specs.Prelude.{filter_map, flat_map, if◌then◌else◌, nat_lt, option_map, option_to_list}
@@ -12,7 +13,7 @@ use Rattle.channel_model.specs.Legs.{leg_of}
 use Rattle.query_machine.specs.declared.leg.Flying.{Flying}
 use Rattle.timeout_queue.proofs.Theorems.{key_cmp_total, tied_keys}
 use Rattle.timeout_queue.specs.Key.{key_cmp}
-use Rattle.timeout_queue.specs.Queue.{IsFirst}
+use Rattle.timeout_queue.specs.Queue.{Deadlines, IsFirst}
 use Rattle.timeout_queue.specs.declared.key.Key.{Key}
 use Rattle.channel_table.proofs.EntryLemmas.{entry_there}
 use Rattle.channel_table.specs.Flown.{AreFlown, entry_by_leg, key_of_side, value_at}
@@ -124,3 +125,19 @@ find_there key due (side ∷ ss) e = by_flying (flying_of side) e (find_there ke
 pub first_least : {T : Type 0} (flown : Flown) (rows : List (Row T)) (key : Key) (due : ℕ) → AreFlown flown (all_sides rows) → IsFirst flown.deadlines key due → least (dues rows) ≡ Some (record { at = due; leg = leg_of key.number key.leg })
 first_least flown rows key due are first =
     least_is (due_at_key key due) (dues rows) (each_behind flown key due first [] (all_sides rows) are) (find_there key due (all_sides rows) (are.by_leg key ∙ ap option_to_list first.there))
+
+-- no side has one where none is kept
+no_side_due : (flown : Flown) (xs ss : List Side) → flown.deadlines ≡ map.empty → AreFlown flown (xs ++ ss) → filter_map due_of_side ss ≡ []
+no_side_due flown xs [] empty are = refl
+no_side_due flown xs (side ∷ ss) empty are = by_flying (flying_of side) refl (no_side_due flown (xs ++ side ∷ []) ss empty (subst (AreFlown flown) (sym (append_assoc xs (side ∷ []) ss)) are))
+  where
+    by_flying : (o : Option Flying) → flying_of side ≡ o → filter_map due_of_side ss ≡ [] → cons_option (option_map (λ (flying : Flying). record { at = flying.due; leg = leg_of_side side }) o) (filter_map due_of_side ss) ≡ []
+    by_flying None is rest = rest
+    by_flying (Some flying) is rest =
+        let there = entry_there key_cmp_total entry_by_leg flown.deadlines xs ss side (key_of_side side) flying.due (ap (λ (o : Option Flying). option_map (λ (f : Flying). (key_of_side side, f.due)) o) is) are.by_leg in
+        let gone : ◌≡◌ {A = Option ℕ} (Some flying.due) None = sym there ∙ ap (λ (m : Deadlines). map.get m (key_of_side side)) empty ∙ map.get-empty key_cmp (key_of_side side) in
+        absurd cc
+
+-- no row has one
+pub none_due : {T : Type 0} (flown : Flown) (rows : List (Row T)) → flown.deadlines ≡ map.empty → AreFlown flown (all_sides rows) → dues rows ≡ []
+none_due flown rows empty are = no_side_due flown [] (all_sides rows) empty are

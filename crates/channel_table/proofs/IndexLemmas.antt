@@ -28,11 +28,11 @@ use Rattle.channel_table.specs.declared.side.Hits.{Hits}
 use Rattle.channel_table.specs.declared.side.Side.{Side}
 
 -- what holds of each item of two lists in a row holds of those of each
-each_before : {X : Type 0} (P : X → Type 0) (xs ys : List X) → AllByRecursion P (xs ++ ys) → AllByRecursion P xs
+pub each_before : {X : Type 0} (P : X → Type 0) (xs ys : List X) → AllByRecursion P (xs ++ ys) → AllByRecursion P xs
 each_before P [] ys each = tt
 each_before P (x ∷ xs) ys each = (each.0, each_before P xs ys each.1)
 
-each_behind : {X : Type 0} (P : X → Type 0) (xs ys : List X) → AllByRecursion P (xs ++ ys) → AllByRecursion P ys
+pub each_behind : {X : Type 0} (P : X → Type 0) (xs ys : List X) → AllByRecursion P (xs ++ ys) → AllByRecursion P ys
 each_behind P [] ys each = each
 each_behind P (x ∷ xs) ys each = each_behind P xs ys each.1
 

@@ -1,5 +1,5 @@
 -- What a table keeps true of its fields, behind one entry more.
-use Rattle.std.proofs.Common.{◌≡◌, ◌∙◌, ℕ, ◌+◌, ◌≤◌, ◌*◌, Bool, true, false, List, [], ◌∷◌, ◌++◌, Some, None, refl, ap, ap₂, drop, get_or, sym, subst, map, cond, arith, length, vec_len, vec_capacity}
+use Rattle.std.proofs.Common.{◌≡◌, ◌∙◌, ℕ, ◌+◌, ◌≤◌, ◌*◌, Bool, true, false, List, [], ◌∷◌, ◌++◌, Some, None, refl, ap, sym, subst, map, cond, arith, length, vec_len, vec_capacity, deque_len, deque_capacity}
 use Rattle.std.proofs.lemmas.List.{append-nil, length-map, length_push}
 use Rattle.std.specs.Prelude.{◌≢◌}
 use Rattle.chan_types.specs.declared.journal.Entry.{Entry}
@@ -27,8 +27,8 @@ module _ {T : Type 0} (plan : T → Script) where
       → AreCounted (setting_of old) (entry.what ∷ past_of old.entries.items) new.list new.servers new.greatest_key new.greatest_link new.started
       → length (accepted (entry.what ∷ past_of old.entries.items)) ≡ new.accepted → is_destroyed (entry.what ∷ past_of old.entries.items) ≡ new.closed
       → new.accepted ≤ vec_len new.entries → new.greatest_link ≤ vec_len new.entries → new.started ≤ vec_len new.entries
-      → vec_len new.entries + 2 * length new.rows + vec_len new.ready + cond new.closed 0 1 ≤ vec_capacity new.entries
-      → length new.rows + vec_len new.ready ≤ vec_capacity new.ready → IsKept plan new
+      → vec_len new.entries + 2 * length new.rows + deque_len new.ready + cond new.closed 0 1 ≤ vec_capacity new.entries
+      → length new.rows + deque_len new.ready ≤ deque_capacity new.ready → IsKept plan new
   kept_more old new entry same added kept allowed stands counted accepts destroyed few few_links few_starts room room_ready =
       let past : past_of new.entries.items ≡ entry.what ∷ past_of old.entries.items = ap past_of added ∙ past_of-push old.entries.items entry in
       record {
@@ -92,11 +92,6 @@ module _ {T : Type 0} (plan : T → Script) where
 pub few_closed : (b : Bool) → cond b 0 1 ≤ 1
 few_closed true = omega arith
 few_closed false = omega arith
-
--- the first item of a list, and the rest
-pub head_and_rest : {X : Type 0} (xs ys : List X) (x : X) → length xs ≢ 0 → x ≡ get_or xs 0 x → ys ≡ drop 1 xs → xs ≡ x ∷ ys
-head_and_rest [] ys x some is rest = absurd (some refl)
-head_and_rest (z ∷ zs) ys x some is rest = ap₂ (λ a b. a ∷ b) (sym is) (sym rest)
 
 -- an entry that accepts nothing leaves the count of the accepted requests
 pub no_more : (what : What) (past : Past) → accepted_by what ≡ None → length (accepted (what ∷ past)) ≡ length (accepted past)

@@ -41,3 +41,5 @@ mod FlownRows
 mod LandingRow
 mod FirstDue
 mod DueSideLemmas
+mod TallyLemmas
+mod StrayLemmas

@@ -67,7 +67,8 @@ later key other less upto =
 -- ---- the order of the numbers
 
 module _ {T : Type 0} where
-  above : (n : ℕ) (rows : List (Row T)) (j : ℕ) (d : Row T) → AllByRecursion (λ (m : ℕ). n < m) (map number_of rows) → j < length rows → n < (get_or rows j d).number
+  -- rows of which each has a greater number have one at an index
+  pub above : (n : ℕ) (rows : List (Row T)) (j : ℕ) (d : Row T) → AllByRecursion (λ (m : ℕ). n < m) (map number_of rows) → j < length rows → n < (get_or rows j d).number
   above n [] j d all inside = absurd (omega (arith, inside))
   above n (row ∷ rows) zero d all inside = all.0
   above n (row ∷ rows) (suc j) d all inside = above n rows j d all.1 (omega (arith, inside))

@@ -1,5 +1,6 @@
 -- What a table keeps true of its fields.
 use Rattle.std.specs.Prelude.{cond, length, vec_capacity, vec_len, ◌*◌, ◌+◌, ◌≡◌, ◌≤◌}
+use Rattle.std.specs.VecDeque.{deque_capacity, deque_len}
 use Rattle.chan_types.specs.declared.script.Script.{Script}
 use Rattle.channel_model.specs.Journal.{accepted, is_destroyed, past_of}
 use Rattle.channel_model.specs.Lawful.{IsLawful}
@@ -29,5 +30,5 @@ pub record IsKept {T : Type 0} (plan : T → Script) (t : Inside T) : Type 0 whe
   pub few : t.accepted ≤ vec_len t.entries
   pub few_links : t.greatest_link ≤ vec_len t.entries
   pub few_starts : t.started ≤ vec_len t.entries
-  pub room : vec_len t.entries + 2 * length t.rows + vec_len t.ready + cond t.closed 0 1 ≤ vec_capacity t.entries
-  pub room_ready : length t.rows + vec_len t.ready ≤ vec_capacity t.ready
+  pub room : vec_len t.entries + 2 * length t.rows + deque_len t.ready + cond t.closed 0 1 ≤ vec_capacity t.entries
+  pub room_ready : length t.rows + deque_len t.ready ≤ deque_capacity t.ready

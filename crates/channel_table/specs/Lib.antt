@@ -18,6 +18,8 @@ pub mod Listed
 pub mod DueSides
 pub mod Flown
 pub mod Forgotten
+pub mod Strays
+pub mod Tally
 pub mod Indexed
 pub mod Listing
 pub mod Sought

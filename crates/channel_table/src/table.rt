@@ -24,6 +24,7 @@ use net_addr::ServerAddr;
 use query_machine::Servers;
 use resolv_options::Options;
 use std::alloc::Global;
+use std::collections::VecDeque;
 use std::marker::Model;
 
 /// What the requests of a channel have come to, and its journal. Contracts see its setting and its journal: what its
@@ -37,7 +38,7 @@ pub struct Table<T: Token> {
     /// The pending requests, by number.
     rows: Rows<T>,
     /// The completed requests that weren't taken, in the order of their completion.
-    ready: Vec<Ticket<T>>,
+    ready: VecDeque<Ticket<T>>,
     /// The servers with their keys, in the order of the list.
     list: KeyList,
     /// The counts of their failures.
@@ -85,7 +86,7 @@ impl<T: Token> Table<T> {
             hosts,
             entries: Vec::with_capacity(alloc, 1)?,
             rows: Rows::make(alloc)?,
-            ready: Vec::new(alloc),
+            ready: VecDeque::new(alloc),
             list,
             servers,
             greatest_key: count - 1,

@@ -2,6 +2,7 @@
 
 ghost use Rattle.std.specs.List.{AllByRecursion};
 ghost use Rattle.std.specs.Prelude.{◌≡◌, ◌≢◌, ◌+◌, ◌*◌, ◌<◌, ◌≤◌, [], ◌∷◌, IfErr, IfOk, OnErr, OnOk, Ok, length, map, option_map, vec_len, vec_capacity};
+ghost use Rattle.std.specs.VecDeque.{deque_capacity, deque_len};
 ghost use Rattle.channel_model.specs.Meanings.{Accepts};
 ghost use Rattle.channel_table.specs.Opening.{AreAsked, Opens, OpensHost, OpensName, OpensText, itself, searched, with_second};
 ghost use Rattle.channel_table.specs.Sides.{new_side};
@@ -27,6 +28,7 @@ use net_addr::{Family, reverse_name};
 use query_machine::Leg;
 use resolv_options::{Options, candidates};
 use std::alloc::Global;
+use std::collections::VecDeque;
 
 /// The last label of the names that aren't asked (RFC 7686, section 2).
 const ONION: &[u8] = b"onion";
@@ -124,19 +126,19 @@ fn prepare<T: Token>(
     opening: Result<Opening, NoMemory>,
     entries: &mut Vec<Entry>,
     rows: usize,
-    ready: &mut Vec<Ticket<T>>,
+    ready: &mut VecDeque<Ticket<T>>,
     token: &T,
 ) -> Result<Prepared, NoMemory>
-    requires room { 2 * rows + vec_len ready.old ≤ vec_capacity entries.old }
+    requires room { 2 * rows + deque_len ready.old ≤ vec_capacity entries.old }
     ensures opening { IfOk result (λ prepared. opening ≡ Ok prepared.opening) }
     ensures script { IfOk result (λ prepared. prepared.script ≡ T.plan token.now) }
     ensures room { OnOk result
-        (vec_len entries.new + 2 * rows + vec_len ready.new + 4 ≤ vec_capacity entries.new) }
-    ensures room_ready { OnOk result (rows + vec_len ready.new + 1 ≤ vec_capacity ready.new) }
+        (vec_len entries.new + 2 * rows + deque_len ready.new + 4 ≤ vec_capacity entries.new) }
+    ensures room_ready { OnOk result (rows + deque_len ready.new + 1 ≤ deque_capacity ready.new) }
     ensures same { (entries.new.items ≡ entries.old.items) × (ready.new.items ≡ ready.old.items) }
-    ensures lens { (vec_len entries.new ≡ vec_len entries.old) × (vec_len ready.new ≡ vec_len ready.old) }
+    ensures lens { (vec_len entries.new ≡ vec_len entries.old) × (deque_len ready.new ≡ deque_len ready.old) }
     ensures capacities { (vec_capacity entries.old ≤ vec_capacity entries.new)
-        × (vec_capacity ready.old ≤ vec_capacity ready.new) }
+        × (deque_capacity ready.old ≤ deque_capacity ready.new) }
 {
     let opening = opening?;
     let script = token.script().copy(alloc)?;
@@ -156,7 +158,7 @@ fn place<T: Token>(
     alloc: Global,
     options: &Options,
     rows: &mut Rows<T>,
-    ready: &mut Vec<Ticket<T>>,
+    ready: &mut VecDeque<Ticket<T>>,
     opening: Opening,
     number: u64,
     aim: Aim,
@@ -164,14 +166,15 @@ fn place<T: Token>(
     call: Call,
 ) -> Result<(), T>
     requires newer { AllByRecursion (λ n. n < number) (map number_of rows.old) }
-    requires room_ready { length rows.old + vec_len ready.old + 1 ≤ vec_capacity ready.old }
+    requires room_ready { length rows.old + deque_len ready.old + 1 ≤ deque_capacity ready.old }
     ensures places { OnOk result (Places options.now.flags number aim token
         rows.old rows.new ready.old.items ready.new.items opening) }
     ensures most { OnOk result (length rows.new ≤ length rows.old + 1) }
-    ensures len { OnOk result (length rows.new + vec_len ready.new ≡ length rows.old + vec_len ready.old + 1) }
+    ensures len { OnOk result
+        (length rows.new + deque_len ready.new ≡ length rows.old + deque_len ready.old + 1) }
     ensures err { OnErr result ((rows.new ≡ rows.old) × (ready.new ≡ ready.old)) }
     ensures back { IfErr result (λ given. given ≡ token) }
-    ensures capacity { vec_capacity ready.new ≡ vec_capacity ready.old }
+    ensures capacity { deque_capacity ready.new ≡ deque_capacity ready.old }
 {
     let leg = Leg::new(options);
     match opening {
@@ -191,11 +194,18 @@ fn place<T: Token>(
             }
         }
         Opening::Ends(status) => {
-            ready.push_reserved(ticket_of(alloc, number, status, Bytes::new(alloc), token, call));
+            ready.push_back_reserved(ticket_of(
+                alloc,
+                number,
+                status,
+                Bytes::new(alloc),
+                token,
+                call,
+            ));
             Ok(())
         }
         Opening::Answered(answer) => {
-            ready.push_reserved(ticket_with(answer, token, call));
+            ready.push_back_reserved(ticket_with(answer, token, call));
             Ok(())
         }
     }

@@ -1,11 +1,12 @@
 //! How many requests and attempts there are.
 
-ghost use Rattle.std.specs.Prelude.{◌≡◌, ◌≤◌, cond};
+ghost use Rattle.std.specs.Prelude.{◌≡◌, ◌<◌, ◌≤◌, cond};
 ghost use Rattle.std.specs.List.{sum_by};
 ghost use Rattle.channel_model.specs.Meanings.{TellsCounts};
 ghost use Rattle.channel_model.specs.Seen.{Happens};
 ghost use Rattle.channel_table.specs.Listing.{has_left};
 ghost use Rattle.channel_table.specs.Sought.{is_sought, sought_in};
+ghost use Rattle.channel_table.specs.Tally.{IsTally, IsTallyLeft, Moves, no_tally, tally_of};
 
 use super::Table;
 use super::listing::has_key;
@@ -28,6 +29,76 @@ impl<T: Token> Table<T> {
             waiting: self.rows.waiting_count(),
             flying: self.rows.flying_count(),
         }
+    }
+}
+
+/// How many legs of some requests wait, and how many attempts of theirs are in flight.
+#[derive(Clone, Copy, Debug, PartialEq, Eq)]
+pub struct Tally {
+    pub waiting: u64,
+    pub flying: u64,
+}
+
+impl Tally {
+    /// That of no request.
+    pub fn none() -> Tally
+        ensures { result ≡ no_tally }
+    {
+        Tally {
+            waiting: 0,
+            flying: 0,
+        }
+    }
+
+    /// That of one request.
+    pub fn of_row<T: Token>(row: &Row<T>) -> Tally
+        ensures { result ≡ tally_of row.now }
+    {
+        Tally {
+            waiting: count_in(row, Sought::Waiting),
+            flying: count_in(row, Sought::Flying),
+        }
+    }
+
+    /// That of all requests of the list.
+    pub fn of_rows<T: Token>(rows: &VecDeque<Held<T>>) -> Tally
+        ensures { IsTally rows.now.items result }
+    {
+        Tally {
+            waiting: count_sides(rows, Sought::Waiting),
+            flying: count_sides(rows, Sought::Flying),
+        }
+    }
+
+    /// The same where a part of it has changed: from this tally to that one.
+    pub fn moved(self, before: Tally, behind: Tally) -> Tally
+        ensures waiting { Moves self.waiting before.waiting behind.waiting result.waiting }
+        ensures flying { Moves self.flying before.flying behind.flying result.flying }
+    {
+        Tally {
+            waiting: moved(self.waiting, before.waiting, behind.waiting),
+            flying: moved(self.flying, before.flying, behind.flying),
+        }
+    }
+}
+
+/// A count of which a part has changed: from this count to that one.
+fn moved(count: u64, before: u64, behind: u64) -> u64
+    ensures { Moves count before behind result }
+{
+    count.saturating_sub(before).saturating_add(behind)
+}
+
+/// The tally of the request at this index, where the list is as long as it was, and else that of none: the request has
+/// left it.
+pub fn tally_left<T: Token>(rows: &VecDeque<Held<T>>, index: usize, len: usize) -> Tally
+    requires { index < len }
+    ensures { IsTallyLeft index len rows.now.items result }
+{
+    if rows.len() == len {
+        Tally::of_row(row_at(rows, index))
+    } else {
+        Tally::none()
     }
 }
 

@@ -1,7 +1,7 @@
 //! Cancelling and destroying, and how a request ends.
 
-ghost use Rattle.std.specs.Prelude.{◌≡◌, ◌≤◌, ◌<◌, ◌+◌, ◌++◌, [], map, vec_len, vec_capacity};
-ghost use Rattle.std.specs.VecDeque.{deque_len};
+ghost use Rattle.std.specs.Prelude.{◌≡◌, ◌≤◌, ◌<◌, ◌+◌, ◌++◌, [], map};
+ghost use Rattle.std.specs.VecDeque.{deque_capacity, deque_len};
 ghost use Rattle.channel_model.specs.Meanings.{Cancels, Destroys};
 ghost use Rattle.channel_table.specs.Ends.{EndsRow};
 ghost use Rattle.channel_table.specs.Rows.{ended_with};
@@ -62,18 +62,18 @@ impl<T: Token> Table<T> {
 pub fn complete_all<T: Token>(
     alloc: Global,
     rows: &mut VecDeque<Held<T>>,
-    ready: &mut Vec<Ticket<T>>,
+    ready: &mut VecDeque<Ticket<T>>,
     status: Status,
 )
-    requires room { deque_len rows.old + vec_len ready.old ≤ vec_capacity ready.old }
+    requires room { deque_len rows.old + deque_len ready.old ≤ deque_capacity ready.old }
     ensures none { rows.new.items ≡ [] }
     ensures tickets { ready.new.items ≡ ready.old.items ++ map (ended_with status) rows.old.items }
     ensures len { deque_len rows.new ≡ 0 }
-    ensures ready_len { vec_len ready.new ≡ vec_len ready.old + deque_len rows.old }
-    ensures capacity { vec_capacity ready.new ≡ vec_capacity ready.old }
+    ensures ready_len { deque_len ready.new ≡ deque_len ready.old + deque_len rows.old }
+    ensures capacity { deque_capacity ready.new ≡ deque_capacity ready.old }
 {
     for row in mem::replace(rows, VecDeque::new(alloc)) {
-        ready.push_reserved(ended(alloc, row.into_row(), status));
+        ready.push_back_reserved(ended(alloc, row.into_row(), status));
     }
 }
 
@@ -97,7 +97,7 @@ pub fn end_row<T: Token>(
     alloc: Global,
     options: &Options,
     rows: &mut VecDeque<Held<T>>,
-    ready: &mut Vec<Ticket<T>>,
+    ready: &mut VecDeque<Ticket<T>>,
     index: usize,
     concerned: Hits,
     judged: Judged,
@@ -106,12 +106,12 @@ pub fn end_row<T: Token>(
     answer: Option<Answer>,
 )
     requires inside { index < deque_len rows.old }
-    requires room { deque_len rows.old + vec_len ready.old ≤ vec_capacity ready.old }
+    requires room { deque_len rows.old + deque_len ready.old ≤ deque_capacity ready.old }
     ensures ends { EndsRow options.now.flags concerned judged reply most answer index
         rows.old.items ready.old.items rows.new.items ready.new.items }
     ensures fewer { deque_len rows.new ≤ deque_len rows.old }
-    ensures len { deque_len rows.new + vec_len ready.new ≡ deque_len rows.old + vec_len ready.old }
-    ensures capacity { vec_capacity ready.new ≡ vec_capacity ready.old }
+    ensures len { deque_len rows.new + deque_len ready.new ≡ deque_len rows.old + deque_len ready.old }
+    ensures capacity { deque_capacity ready.new ≡ deque_capacity ready.old }
 {
     match answer {
         None => rows[index].close(alloc, concerned, judged, reply, most),
@@ -119,7 +119,7 @@ pub fn end_row<T: Token>(
             if row_at(rows, index).has_next(answer.status) {
                 rows[index].ask_next(alloc, answer.status, Leg::new(options));
             } else {
-                ready.push_reserved(take_at(rows, index).into_ticket(answer));
+                ready.push_back_reserved(take_at(rows, index).into_ticket(answer));
             }
         }
     }

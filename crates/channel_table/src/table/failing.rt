@@ -1,11 +1,12 @@
 //! A fault of a link: every attempt over it fails.
 
 ghost use Rattle.std.specs.List.{list_any};
-ghost use Rattle.std.specs.Prelude.{◌≡◌, ◌≢◌, ◌≤◌, ◌+◌, ◌==◌, ◌++◌, if◌then◌else◌, IfOk, IsTrue, filter_map, map, vec_len, vec_capacity};
+ghost use Rattle.std.specs.Prelude.{◌≡◌, ◌≢◌, ◌≤◌, ◌+◌, ◌==◌, ◌++◌, if◌then◌else◌, IfOk, IsTrue, filter_map, map};
 ghost use Rattle.std.specs.VecDeque.{deque_capacity, deque_len};
 ghost use Rattle.query_machine.specs.Servers.{one_more, recounted};
 ghost use Rattle.channel_table.specs.Failing.{answer_over, fails_at, kept_of, ticket_made};
 
+use super::taking::pop_first;
 use crate::held::{Held, row_at};
 use crate::row::After;
 use crate::side::Hits;
@@ -27,7 +28,8 @@ pub fn answers_over<T: Token>(
     link: u64,
     most: u32,
 ) -> Result<Vec<Option<Answer>>, NoMemory>
-    ensures { IfOk result (λ answers. answers.items ≡ map (answer_over options.now server link most) rows.now.items) }
+    ensures { IfOk result
+        (λ answers. answers.items ≡ map (answer_over options.now server link most) rows.now.items) }
 {
     let mut answers = Vec::with_capacity(alloc, rows.len())?;
     for index in 0..rows.len() {
@@ -53,7 +55,7 @@ pub fn fail_all<T: Token>(
     rows: &mut VecDeque<Held<T>>,
     kept: VecDeque<Held<T>>,
     answers: Vec<Option<Answer>>,
-    ready: &mut Vec<Ticket<T>>,
+    ready: &mut VecDeque<Ticket<T>>,
     server: u32,
     link: u64,
     most: u32,
@@ -61,19 +63,19 @@ pub fn fail_all<T: Token>(
     requires empty { deque_len kept ≡ 0 }
     requires room_kept { deque_len rows.old ≤ deque_capacity kept }
     requires answers { answers.items ≡ map (answer_over options.now server link most) rows.old.items }
-    requires room { deque_len rows.old + vec_len ready.old ≤ vec_capacity ready.old }
+    requires room { deque_len rows.old + deque_len ready.old ≤ deque_capacity ready.old }
     ensures rows { rows.new.items
         ≡ filter_map kept_of (map (fails_at options.now server link most) rows.old.items) }
     ensures tickets { ready.new.items ≡ ready.old.items
         ++ filter_map ticket_made (map (fails_at options.now server link most) rows.old.items) }
     ensures fewer { deque_len rows.new ≤ deque_len rows.old }
-    ensures len { deque_len rows.new + vec_len ready.new ≡ deque_len rows.old + vec_len ready.old }
-    ensures capacity { vec_capacity ready.new ≡ vec_capacity ready.old }
+    ensures len { deque_len rows.new + deque_len ready.new ≡ deque_len rows.old + deque_len ready.old }
+    ensures capacity { deque_capacity ready.new ≡ deque_capacity ready.old }
 {
     let mut kept = kept;
-    let mut answers = answers;
+    let mut answers = VecDeque::from_vec(answers);
     for row in mem::replace(rows, VecDeque::new(alloc)) {
-        let answer = answers.remove(0);
+        let answer = pop_first(&mut answers);
         let failed = row.end_attempts(
             alloc,
             options,
@@ -85,7 +87,7 @@ pub fn fail_all<T: Token>(
         );
         match failed {
             After::Stays(row) => kept.push_back_reserved(row),
-            After::Ends(ticket) => ready.push_reserved(ticket),
+            After::Ends(ticket) => ready.push_back_reserved(ticket),
         }
     }
     *rows = kept;

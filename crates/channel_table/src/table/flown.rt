@@ -92,7 +92,8 @@ impl Flown {
 
     /// Forgets the attempts of the row on servers that aren't in the list. It takes no memory.
     fn forget_left<T: Token>(&mut self, row: &Row<T>, list: &[ServerKey])
-        ensures { self.new ≡ left_of (has_left list.now row.now.first) (left_second list.now row.now.second) row.now self.old }
+        ensures { self.new
+            ≡ left_of (has_left list.now row.now.first) (left_second list.now row.now.second) row.now self.old }
     {
         let first = has_left(&row.first, list);
         let second = second_left(row, list);
@@ -119,9 +120,11 @@ pub fn forget_over<T: Token>(
     link: u64,
 )
     requires { length answers.now ≡ length rows.now.items }
-    ensures { (options : Options) (most : ℕ) → answers.now ≡ map (answer_over options server link most) rows.now.items
+    ensures { (options : Options) (most : ℕ)
+        → answers.now ≡ map (answer_over options server link most) rows.now.items
         → AreFlown flown.old (all_sides rows.now.items)
-        → AreFlown flown.new (all_sides (filter_map kept_of (map (fails_at options server link most) rows.now.items))) }
+        → AreFlown flown.new
+        (all_sides (filter_map kept_of (map (fails_at options server link most) rows.now.items))) }
 {
     for index in 0..rows.len() {
         flown.forget_ended(

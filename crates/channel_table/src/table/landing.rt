@@ -3,10 +3,10 @@
 ghost use Rattle.std.specs.Prelude.{◌≡◌, Some, None, IfOk, is_some, option_map};
 ghost use Rattle.channel_model.specs.Flight.{answer_to, asked_with};
 ghost use Rattle.query_machine.specs.Replies.{reply_seen};
-ghost use Rattle.channel_table.specs.Arriving.{Finds, RowFinds, judged_of, landing_of};
+ghost use Rattle.channel_table.specs.Arriving.{RowFinds, judged_of, landing_of};
+ghost use Rattle.channel_table.specs.Strays.{id_of};
 
 use crate::aim::Aim;
-use crate::held::{Held, row_at};
 use crate::row::Row;
 use crate::side::Side;
 use chan_types::{NoMemory, Token};
@@ -15,7 +15,6 @@ use dns_message::Question;
 use query_machine::{Flying, Phase, Reply, matching, verdict};
 use resolv_options::Flags;
 use std::alloc::Global;
-use std::collections::VecDeque;
 
 /// The side that a message answers, and what that means for its leg.
 #[derive(Clone, Copy, Debug, PartialEq, Eq)]
@@ -25,33 +24,6 @@ pub struct Landing {
     pub number: u64,
     pub leg_number: u8,
     pub judged: Judged,
-}
-
-/// The side whose attempt the message from this server over this link answers.
-pub fn find_landing<T: Token>(
-    alloc: Global,
-    rows: &VecDeque<Held<T>>,
-    flags: Flags,
-    server: u32,
-    link: u64,
-    bytes: &[u8],
-) -> Result<Option<Landing>, NoMemory>
-    ensures { IfOk result (Finds flags server link bytes.now rows.now.items) }
-{
-    for index in 0..rows.len() {
-        if let Some(landing) = row_landing(
-            alloc,
-            row_at(rows, index),
-            index,
-            flags,
-            server,
-            link,
-            bytes,
-        )? {
-            return Ok(Some(landing));
-        }
-    }
-    Ok(None)
 }
 
 /// The side of the row at this index that the message answers.
@@ -79,10 +51,12 @@ pub fn row_landing<T: Token>(
 }
 
 /// The identifier of a message: its first two bytes, if it has them.
-pub fn id_of(bytes: &[u8]) -> Option<u16> {
+pub fn id_of(bytes: &[u8]) -> Option<u16>
+    ensures { result ≡ id_of bytes.now }
+{
     match bytes {
-        [high, low, ..] => Some(u16::from_be_bytes([*high, *low])),
-        _ => None,
+        [] | [_] => None,
+        [high, low, ..] => Some(*high as u16 * 256 + *low as u16),
     }
 }
 

@@ -1,7 +1,7 @@
 //! What arrives, expires or fails: the calls that end attempts.
 
 ghost use Rattle.std.specs.List.{list_any};
-ghost use Rattle.std.specs.Prelude.{◌≡◌, ◌≤◌, ◌+◌, ◌*◌, ◌==◌, IsTrue, OnOk, length, vec_len, vec_capacity};
+ghost use Rattle.std.specs.Prelude.{◌≡◌, ◌≤◌, ◌+◌, ◌*◌, ◌==◌, IfOk, IsTrue, None, OnOk, length, vec_len, vec_capacity};
 ghost use Rattle.chan_types.specs.declared.journal.What.TheVariants.{Arrive};
 ghost use Rattle.channel_model.specs.Meanings.{Arrives, Expires, Fails};
 ghost use Rattle.channel_model.specs.Seen.{Happens};
@@ -12,10 +12,11 @@ ghost use Rattle.channel_table.specs.Ends.{attempts_with, server_of};
 use super::Table;
 use super::failing::count_fault;
 use crate::side::Hits;
-use chan_types::{Bytes, Entry, KeyList, NoMemory, Status, Token, What};
+use chan_types::{Answer, Bytes, Entry, KeyList, NoMemory, Status, Token, What};
 use channel_model::{Judged, Landed, Lapse};
 use query_machine::{Leg, Phase, Servers, attempts};
 use resolv_options::Options;
+use std::alloc::Global;
 
 impl<T: Token> Table<T> {
     /// Takes in a message that came from this server over this link.
@@ -41,7 +42,6 @@ impl<T: Token> Table<T> {
             }
             Some(landing) => {
                 let most = most_attempts(&self.options, &self.list);
-                let reply = Bytes::of(self.alloc, bytes)?;
                 let answer = self.rows.row(landing.index).answer_behind(
                     self.alloc,
                     &self.options,
@@ -50,6 +50,7 @@ impl<T: Token> Table<T> {
                     bytes,
                     most,
                 )?;
+                let reply = kept_reply(self.alloc, &answer, bytes)?;
                 self.rows.end_row(
                     self.alloc,
                     &self.options,
@@ -151,6 +152,17 @@ impl<T: Token> Table<T> {
         count_fault(&mut self.servers, server, count);
         Ok(count)
     }
+}
+
+/// The reply that a row keeps, whose current candidate has this answer with it, if it has one: with an answer none is
+/// kept, since the row ends or asks the next name.
+fn kept_reply(alloc: Global, answer: &Option<Answer>, bytes: &[u8]) -> Result<Bytes, NoMemory>
+    ensures { IfOk result (λ reply. answer.now ≡ None → reply ≡ bytes.now) }
+{
+    Ok(match answer {
+        None => Bytes::of(alloc, bytes)?,
+        Some(_) => Bytes::new(alloc),
+    })
 }
 
 /// The entry of a message that came.

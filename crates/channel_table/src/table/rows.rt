@@ -2,27 +2,28 @@
 
 ghost use Rattle.std.specs.FinSet as set;
 ghost use Rattle.std.specs.List.{AllByRecursion, list_any, sum_by};
-ghost use Rattle.std.specs.Prelude.{◌≡◌, ◌≤◌, ◌<◌, ◌+◌, ◌++◌, [], ◌∷◌, false, IfErr, IfOk, IfSome, OnErr, OnOk, Some, filter_map, flat_map, get_or, length, map, vec_len, vec_capacity};
+ghost use Rattle.std.specs.Prelude.{◌≡◌, ◌≤◌, ◌<◌, ◌+◌, ◌++◌, [], ◌∷◌, false, IfErr, IfOk, IfSome, OnErr, OnOk, Some, filter_map, flat_map, get_or, length, map, true};
 ghost use Rattle.std.specs.VecDeque.{deque_capacity, deque_len};
 ghost use Rattle.channel_model.specs.Lawful.{first};
 ghost use Rattle.query_machine.specs.Legs.{attempt_from};
 ghost use Rattle.channel_table.specs.Apart.{IsApart};
-ghost use Rattle.channel_table.specs.Arriving.{Finds, FindsAt};
+ghost use Rattle.channel_table.specs.Arriving.{Finds};
 ghost use Rattle.channel_table.specs.Ends.{EndsRow};
 ghost use Rattle.channel_table.specs.Failing.{answer_over, fails_at, kept_of, ticket_made};
 ghost use Rattle.channel_table.specs.Listed.{key_of};
 ghost use Rattle.channel_table.specs.Listing.{left_in, row_set};
 ghost use Rattle.channel_table.specs.Rows.{ended_with, flying_in, number_of, sides, over_in, row_over, waiting_in};
 ghost use Rattle.channel_table.specs.Sides.{is_flying};
-ghost use Rattle.channel_table.specs.Soonest.{IsSoonest};
+ghost use Rattle.channel_table.specs.Soonest.{IsSoonest, dues};
 ghost use Rattle.channel_table.specs.Starting.{BeginsRow, FindsIdle, IsFree, WaitsAt, row_has_id, row_links};
+ghost use Rattle.channel_table.specs.Strays.{IsNumbered, IsOnlyWith, id_of};
 
-use super::counting::{Sought, count_sides};
+use super::counting::{Sought, Tally, count_sides, tally_left};
 use super::ending::{complete_all, end_row};
 use super::failing::{answers_over, fail_all};
 use super::finding::{find_row, first_idle, key_of, list_all, list_staying};
 use super::flown::{Flown, forget_all, forget_left, forget_over, key_of_side};
-use super::landing::{Landing, find_landing, id_of, row_landing};
+use super::landing::{Landing, id_of, row_landing};
 use super::listing::set_rows;
 use super::seeking::{Soonest, any_over, find_soonest, side_due};
 use super::starting::{Idle, begin, find_idle, tcp_link};
@@ -48,6 +49,8 @@ pub struct Rows<T: Token> {
     flown: Flown,
     /// Some of which a leg waits may not be among these: many legs may come back at once where no memory may be taken.
     unlisted: bool,
+    /// How many legs wait, and how many attempts are in flight.
+    tally: Tally,
 }
 
 impl<T: Token> Model for Rows<T> {
@@ -73,6 +76,7 @@ impl<T: Token> Rows<T> {
             waiting: Waiting::make(alloc),
             flown: Flown::make(alloc)?,
             unlisted: false,
+            tally: Tally::none(),
         })
     }
 
@@ -100,10 +104,12 @@ impl<T: Token> Rows<T> {
         ensures back { IfErr result (λ given. given ≡ row) }
     {
         let number = row.number;
+        let more = Tally::of_row(&row);
         let held = Held::of(*self.list.allocator(), row)?;
         match make_room(&mut self.list, &mut self.waiting, number) {
             Ok(()) => {
                 self.list.push_back_reserved(held);
+                self.tally = self.tally.moved(Tally::none(), more);
                 Ok(())
             }
             Err(NoMemory) => Err(held.into_row()),
@@ -161,6 +167,7 @@ impl<T: Token> Rows<T> {
     {
         let leg = key_of_side(row_at(&self.list, index).side(is_second));
         let due = at.saturating_add(wait);
+        let before = Tally::of_row(row_at(&self.list, index));
         self.flown.add(leg, id, due)?;
         begin(
             &mut self.list,
@@ -173,11 +180,13 @@ impl<T: Token> Rows<T> {
             at,
             wait,
         );
+        let behind = Tally::of_row(row_at(&self.list, index));
+        self.tally = self.tally.moved(before, behind);
         Ok(())
     }
 
-    /// The side whose attempt the message from this server over this link answers. Where that isn't one of the request
-    /// whose attempt has the message's identifier, all are looked through.
+    /// The side whose attempt the message from this server over this link answers: one of the only request that has an
+    /// attempt with the message's identifier.
     pub fn find_landing(
         &self,
         alloc: Global,
@@ -186,24 +195,8 @@ impl<T: Token> Rows<T> {
         link: u64,
         bytes: &[u8],
     ) -> Result<Option<Landing>, NoMemory>
+        requires { AllByRecursion IsNumbered self.now }
         ensures { IfOk result (Finds flags server link bytes.now self.now) }
-    {
-        if let Some(landing) = self.landing_by_id(alloc, flags, server, link, bytes)? {
-            return Ok(Some(landing));
-        }
-        find_landing(alloc, &self.list, flags, server, link, bytes)
-    }
-
-    /// The same, if it is one of the request whose attempt has the message's identifier.
-    fn landing_by_id(
-        &self,
-        alloc: Global,
-        flags: Flags,
-        server: u32,
-        link: u64,
-        bytes: &[u8],
-    ) -> Result<Option<Landing>, NoMemory>
-        ensures { IfOk result (λ found. IfSome found (FindsAt flags server link bytes.now self.now)) }
     {
         match self.index_by_id(bytes) {
             Some(index) => row_landing(
@@ -219,25 +212,52 @@ impl<T: Token> Rows<T> {
         }
     }
 
-    /// The index of the request whose attempt has the message's identifier.
+    /// The index of the only request that may have an attempt with the message's identifier.
     fn index_by_id(&self, bytes: &[u8]) -> Option<usize>
-        ensures { IfSome result (λ index. index < length self.now) }
+        requires { AllByRecursion IsNumbered self.now }
+        ensures { IsOnlyWith (id_of bytes.now) self.now result }
     {
-        let leg = self.flown.flights.leg(id_of(bytes)?)?;
-        find_row(&self.list, leg.number)
+        match id_of(bytes) {
+            Some(id) => self.index_with(id),
+            None => None,
+        }
+    }
+
+    /// The index of the only request that may have an attempt with this identifier.
+    fn index_with(&self, id: u16) -> Option<usize>
+        requires { AllByRecursion IsNumbered self.now }
+        ensures { IsOnlyWith (Some id) self.now result }
+    {
+        match self.flown.flights.leg(id) {
+            Some(leg) => find_row(&self.list, leg.number),
+            None => None,
+        }
     }
 
     /// The attempt that is due first: by its deadline, then its request, then its leg.
     pub fn find_soonest(&self) -> Option<Soonest>
         ensures { IsSoonest self.now result }
     {
+        if self.none_flies() {
+            return None;
+        }
         if let Some(found) = self.first_side() {
             return Some(found);
         }
         find_soonest(&self.list)
     }
 
-    /// The same, by the first deadline that is kept.
+    /// No attempt is in flight.
+    fn none_flies(&self) -> bool
+        ensures { result ≡ true → dues self.now ≡ [] }
+    {
+        match self.flown.deadlines.first_due() {
+            None => true,
+            Some(_) => false,
+        }
+    }
+
+    /// The first attempt, by the first deadline that is kept.
     fn first_side(&self) -> Option<Soonest>
         ensures { IfSome result (λ found. IsSoonest self.now (Some found)) }
     {
@@ -257,14 +277,14 @@ impl<T: Token> Rows<T> {
     pub fn waiting_count(&self) -> u64
         ensures { result ≡ sum_by waiting_in self.now }
     {
-        count_sides(&self.list, Sought::Waiting)
+        self.tally.waiting
     }
 
     /// How many attempts are in flight.
     pub fn flying_count(&self) -> u64
         ensures { result ≡ sum_by flying_in self.now }
     {
-        count_sides(&self.list, Sought::Flying)
+        self.tally.flying
     }
 
     /// How many attempts are in flight on this server over this link.
@@ -291,7 +311,8 @@ impl<T: Token> Rows<T> {
         link: u64,
         most: u32,
     ) -> Result<Vec<Option<Answer>>, NoMemory>
-        ensures { IfOk result (λ answers. answers.items ≡ map (answer_over options.now server link most) self.now) }
+        ensures { IfOk result
+            (λ answers. answers.items ≡ map (answer_over options.now server link most) self.now) }
     {
         answers_over(alloc, options, &self.list, server, link, most)
     }
@@ -303,7 +324,7 @@ impl<T: Token> Rows<T> {
         &mut self,
         alloc: Global,
         options: &Options,
-        ready: &mut Vec<Ticket<T>>,
+        ready: &mut VecDeque<Ticket<T>>,
         index: usize,
         concerned: Hits,
         judged: Judged,
@@ -312,17 +333,19 @@ impl<T: Token> Rows<T> {
         answer: Option<Answer>,
     ) -> Result<(), NoMemory>
         requires inside { index < length self.old }
-        requires room { length self.old + vec_len ready.old ≤ vec_capacity ready.old }
+        requires room { length self.old + deque_len ready.old ≤ deque_capacity ready.old }
         ensures ends { OnOk result (EndsRow options.now.flags concerned judged reply most answer index
             self.old ready.old.items self.new ready.new.items) }
         ensures err { OnErr result ((self.new ≡ self.old) × (ready.new ≡ ready.old)) }
         ensures fewer { length self.new ≤ length self.old }
-        ensures len { length self.new + vec_len ready.new ≡ length self.old + vec_len ready.old }
-        ensures capacity { vec_capacity ready.new ≡ vec_capacity ready.old }
+        ensures len { length self.new + deque_len ready.new ≡ length self.old + deque_len ready.old }
+        ensures capacity { deque_capacity ready.new ≡ deque_capacity ready.old }
     {
         list_staying(row_at(&self.list, index), &answer, &mut self.waiting)?;
         self.flown
             .forget_ended(row_at(&self.list, index), concerned, &answer);
+        let len = self.list.len();
+        let before = Tally::of_row(row_at(&self.list, index));
         end_row(
             alloc,
             options,
@@ -335,6 +358,8 @@ impl<T: Token> Rows<T> {
             most,
             answer,
         );
+        let behind = tally_left(&self.list, index, len);
+        self.tally = self.tally.moved(before, behind);
         Ok(())
     }
 
@@ -345,21 +370,21 @@ impl<T: Token> Rows<T> {
         alloc: Global,
         options: &Options,
         answers: Vec<Option<Answer>>,
-        ready: &mut Vec<Ticket<T>>,
+        ready: &mut VecDeque<Ticket<T>>,
         server: u32,
         link: u64,
         most: u32,
     ) -> Result<(), NoMemory>
         requires answers { answers.items ≡ map (answer_over options.now server link most) self.old }
-        requires room { length self.old + vec_len ready.old ≤ vec_capacity ready.old }
+        requires room { length self.old + deque_len ready.old ≤ deque_capacity ready.old }
         ensures rows { OnOk result (self.new
             ≡ filter_map kept_of (map (fails_at options.now server link most) self.old)) }
         ensures tickets { OnOk result (ready.new.items ≡ ready.old.items
             ++ filter_map ticket_made (map (fails_at options.now server link most) self.old)) }
         ensures err { OnErr result ((self.new ≡ self.old) × (ready.new ≡ ready.old)) }
         ensures fewer { length self.new ≤ length self.old }
-        ensures len { length self.new + vec_len ready.new ≡ length self.old + vec_len ready.old }
-        ensures capacity { vec_capacity ready.new ≡ vec_capacity ready.old }
+        ensures len { length self.new + deque_len ready.new ≡ length self.old + deque_len ready.old }
+        ensures capacity { deque_capacity ready.new ≡ deque_capacity ready.old }
     {
         let kept = VecDeque::with_capacity(alloc, self.list.len())?;
         self.unlisted = true;
@@ -381,6 +406,7 @@ impl<T: Token> Rows<T> {
             link,
             most,
         );
+        self.tally = Tally::of_rows(&self.list);
         Ok(())
     }
 
@@ -393,20 +419,22 @@ impl<T: Token> Rows<T> {
         self.unlisted = true;
         forget_left(&mut self.flown, &self.list, list);
         set_rows(&mut self.list, list);
+        self.tally = Tally::of_rows(&self.list);
     }
 
     /// Completes each request with this status and without a reply. It takes no memory.
-    pub fn complete_all(&mut self, alloc: Global, ready: &mut Vec<Ticket<T>>, status: Status)
-        requires room { length self.old + vec_len ready.old ≤ vec_capacity ready.old }
+    pub fn complete_all(&mut self, alloc: Global, ready: &mut VecDeque<Ticket<T>>, status: Status)
+        requires room { length self.old + deque_len ready.old ≤ deque_capacity ready.old }
         ensures none { self.new ≡ [] }
         ensures tickets { ready.new.items ≡ ready.old.items ++ map (ended_with status) self.old }
-        ensures ready_len { vec_len ready.new ≡ vec_len ready.old + length self.old }
-        ensures capacity { vec_capacity ready.new ≡ vec_capacity ready.old }
+        ensures ready_len { deque_len ready.new ≡ deque_len ready.old + length self.old }
+        ensures capacity { deque_capacity ready.new ≡ deque_capacity ready.old }
     {
         forget_all(&mut self.flown, &self.list);
         complete_all(alloc, &mut self.list, ready, status);
         self.waiting.clear();
         self.unlisted = false;
+        self.tally = Tally::none();
     }
 }
 

@@ -1,10 +1,13 @@
 //! Taking the first request that is ready.
 
+ghost use Rattle.std.specs.Prelude.{◌≡◌, ◌+◌, ◌∷◌, ◌<◌};
+ghost use Rattle.std.specs.VecDeque.{deque_capacity, deque_len};
 ghost use Rattle.channel_model.specs.Meanings.{Takes};
 ghost use Rattle.channel_model.specs.Seen.{Happens};
 
 use super::Table;
 use chan_types::{Entry, Ticket, Token, What};
+use std::collections::VecDeque;
 
 impl<T: Token> Table<T> {
     /// Moves out the first ready request. It takes no memory.
@@ -14,7 +17,7 @@ impl<T: Token> Table<T> {
         if self.ready.is_empty() {
             return None;
         }
-        let ticket = self.ready.remove(0);
+        let ticket = pop_first(&mut self.ready);
         self.entries.push_reserved(Entry {
             seat,
             by: 0,
@@ -23,5 +26,18 @@ impl<T: Token> Table<T> {
             },
         });
         Some(ticket)
+    }
+}
+
+/// Takes the first item of a deque, which has some. It moves no other one.
+pub fn pop_first<X>(deque: &mut VecDeque<X>) -> X
+    requires { 0 < deque_len deque.old }
+    ensures items { deque.old.items ≡ result ∷ deque.new.items }
+    ensures len { deque_len deque.new + 1 ≡ deque_len deque.old }
+    ensures capacity { deque_capacity deque.new ≡ deque_capacity deque.old }
+{
+    match deque.pop_front() {
+        Some(item) => item,
+        None => unreachable!(),
     }
 }

@@ -14,10 +14,12 @@ use Rattle.channel_model.specs.Setting.{Setting}
 use Rattle.channel_model.specs.declared.answers.Landed.TheVariants.{Matched, Stray}
 use Rattle.channel_table.proofs.Attempts.{attempts_are, list_few, list_some}
 use Rattle.channel_table.proofs.Counting.{counted_kept}
+use Rattle.channel_table.proofs.Ending.{ends_keeping}
 use Rattle.channel_table.proofs.FailureSteps.{past_of-length, recount_is}
 use Rattle.channel_table.proofs.Keeping.{few_closed, happens_one, happens_same, kept_grown, kept_more, no_more}
 use Rattle.channel_table.proofs.Landing.{arrives_failed, counted_landed, lands_at, matched_closes, stray_closes_none, table_landed, table_stray}
 use Rattle.channel_table.proofs.RowAt.{counted_at_side}
+use Rattle.channel_table.proofs.StrayLemmas.{rows_numbered}
 use Rattle.channel_table.specs.Arriving.{judged_of, recount_by, row_lands}
 use Rattle.channel_table.specs.After.{answer_behind}
 use Rattle.channel_table.specs.Counted.{AreCounted}
@@ -26,6 +28,10 @@ use Rattle.channel_table.specs.Rows.{side_at}
 use Rattle.channel_table.specs.Sides.{at_side}
 use Rattle.channel_table.specs.declared.row.Row.{Row}
 use Rattle.channel_table.proofs.table.Table.arrive.Goals as goal
+
+pub find_landing-requires : goal.find_landing-requires
+find_landing-requires g c =
+    rows_numbered g.T.Token.plan (setting_of c.self.inside) (past_of c.self.inside.entries.items) c.self.inside.rows c.self.inside.ready.items c.self.invariant.stands
 
 pub most_attempts-most-requires-clause-some : goal.most_attempts-most-requires-clause-some
 most_attempts-most-requires-clause-some g c =
@@ -100,7 +106,8 @@ invariant_of-self-in-Some g c =
     let entry : Entry = record { seat = c.args.seat; by = 0; what = what } in
     let added : c.push_reserved-in-Some.new.self.items ≡ c.self.inside.entries.items ++ entry ∷ [] = rw (c.push_reserved-in-Some.ensures.items, c.arrival-in-Some.ensures, c.make_room.ensures.items, c.in_ok-kept.ensures) refl in
     let room = c.in_ok-make_room.ensures in
-    let ends = rw (c.at-in-Some.ensures, c.in_ok-reply-in-Some.ensures) at c.in_ok-end_row-in-Some.ensures.ends in
+    let ends = ends_keeping setting.options.flags (at_side c.in-Some.landing.is_second) c.in-Some.landing.judged c.in_ok-reply-in-Some.reply c.args.bytes.now c.most_attempts-most.result c.in_ok-answer-in-Some.answer c.in-Some.landing.index
+    c.self.inside.rows c.self.inside.ready.items c.end_row.new.self c.end_row.new.ready.items c.in_ok-reply-in-Some.ensures (rw c.at-in-Some.ensures at c.in_ok-end_row-in-Some.ensures.ends) in
     let answers = (rw c.at.ensures at c.in_ok-answer-in-Some.ensures) ∙ ap (λ (r : Row g.row.T.Denot). answer_behind setting.options (at_side c.in-Some.landing.is_second) c.in-Some.landing.judged c.args.bytes.now c.most_attempts-most.result r) (get_or_read c.self.inside.rows c.in-Some.landing.index c.row.result.now found.inside c.row.ensures ends.row ∙ ends.is ends.row) in
     let same : ends.row ≡ s.row = sym (ends.is s.row) ∙ s.at_index s.row in
     let there = ap (side_at c.in-Some.landing.is_second) same ∙ s.at in

@@ -1,4 +1,4 @@
-use Rattle.std.proofs.Common.{refl, ap, arith, ◌∙◌, ◌+◌, ◌≤◌, ◌*◌, length, vec_len, vec_capacity}
+use Rattle.std.proofs.Common.{refl, ap, arith, ◌∙◌, ◌+◌, ◌≤◌, ◌*◌, length, vec_len, vec_capacity, deque_len}
 use Rattle.chan_types.specs.declared.journal.What.TheVariants.{Destroy}
 use Rattle.chan_types.specs.declared.status.Status.TheVariants.{Destruction}
 use Rattle.channel_model.specs.Journal.{Past, past_of}
@@ -13,7 +13,7 @@ pub invariant_of-self : goal.invariant_of-self
 invariant_of-self g c =
     let past : Past = past_of c.self.inside.entries.items in
     let ended = table_ended g.T.Token.plan (setting_of c.self.inside) Destroy past Destruction refl refl refl (λ n. refl) (λ a. refl) c.self.inside.rows c.self.inside.ready.items c.self.invariant.stands in
-    let room : vec_len c.self.inside.entries + 2 * length c.self.inside.rows + vec_len c.self.inside.ready + 1 ≤ vec_capacity c.self.inside.entries = rw c.if-self.false at c.self.invariant.room in
+    let room : vec_len c.self.inside.entries + 2 * length c.self.inside.rows + deque_len c.self.inside.ready + 1 ≤ vec_capacity c.self.inside.entries = rw c.if-self.false at c.self.invariant.room in
     kept_more g.T.Token.plan c.self.inside _ _ refl c.push_reserved.ensures.items c.self.invariant (c.self.invariant.destroyed ∙ c.if-self.false)
     (rw (c.complete_all.ensures.none, c.complete_all.ensures.tickets) ended)
     (counted_unjudged (setting_of c.self.inside) Destroy past c.self.inside.list c.self.inside.servers c.self.inside.greatest_key c.self.inside.greatest_link c.self.inside.started c.self.invariant.counted refl refl (λ a earlier. refl))

@@ -1,10 +1,9 @@
-use Rattle.std.proofs.Common.{refl, sym, ap, arith, ◌∙◌, Some, length, map}
-use Rattle.std.specs.Prelude.{◌≢◌}
+use Rattle.std.proofs.Common.{refl, sym, ap, arith, ◌≡◌, ◌∙◌, ◌∷◌, Some, map}
 use Rattle.chan_types.specs.declared.journal.What.TheVariants.{Take}
 use Rattle.channel_model.specs.Journal.{past_of}
 use Rattle.channel_model.specs.Lawful.{first}
 use Rattle.channel_table.proofs.Counting.{counted_kept}
-use Rattle.channel_table.proofs.Keeping.{happens_one, head_and_rest, kept_more, no_more}
+use Rattle.channel_table.proofs.Keeping.{happens_one, kept_more, no_more}
 use Rattle.channel_table.proofs.RowFrames.{table_taken}
 use Rattle.channel_table.specs.Kept.{setting_of}
 use Rattle.channel_model.specs.Meanings.{Takes}
@@ -13,22 +12,20 @@ use Rattle.channel_table.proofs.table.Table.take.Goals as goal
 
 pub invariant_of-self : goal.invariant_of-self
 invariant_of-self g c =
-    let some : length c.self.inside.ready.items ≢ 0 = omega (arith, c.remove-ticket.ensures.len) in
-    let parts = head_and_rest c.self.inside.ready.items c.remove-ticket.new.self.items c.remove-ticket.result some c.remove-ticket.ensures.value c.remove-ticket.ensures.items in
+    let parts : c.self.inside.ready.items ≡ c.pop_first-ticket.result ∷ c.pop_first-ticket.new.deque.items = c.pop_first-ticket.ensures.items in
     let waits = ap first (c.self.invariant.stands.stand.ready_are ∙ ap (map ticket_number) parts) in
     kept_more g.T.Token.plan c.self.inside _ _ refl c.push_reserved.ensures.items c.self.invariant (waits ∙ ap Some (sym c.number.ensures))
-    (rw c.number.ensures (table_taken g.T.Token.plan (setting_of c.self.inside) _ c.self.inside.rows c.remove-ticket.result c.remove-ticket.new.self.items (rw parts at c.self.invariant.stands)))
+    (rw c.number.ensures (table_taken g.T.Token.plan (setting_of c.self.inside) _ c.self.inside.rows c.pop_first-ticket.result c.pop_first-ticket.new.deque.items (rw parts at c.self.invariant.stands)))
     (counted_kept (setting_of c.self.inside) (Take c.number.result) (past_of c.self.inside.entries.items) c.self.inside.list c.self.inside.servers c.self.inside.greatest_key c.self.inside.greatest_link c.self.inside.started c.self.invariant.counted refl refl (λ a flies. refl))
     (no_more (Take c.number.result) (past_of c.self.inside.entries.items) refl ∙ c.self.invariant.accepts) c.self.invariant.destroyed
     (omega (arith, c.self.invariant.few, c.push_reserved.ensures.len)) (omega (arith, c.self.invariant.few_links, c.push_reserved.ensures.len)) (omega (arith, c.self.invariant.few_starts, c.push_reserved.ensures.len))
-    (omega (arith, c.self.invariant.room, c.push_reserved.ensures.len, c.push_reserved.ensures.capacity, c.remove-ticket.ensures.len))
-    (omega (arith, c.self.invariant.room_ready, c.remove-ticket.ensures.len, c.remove-ticket.ensures.capacity))
+    (omega (arith, c.self.invariant.room, c.push_reserved.ensures.len, c.push_reserved.ensures.capacity, c.pop_first-ticket.ensures.len))
+    (omega (arith, c.self.invariant.room_ready, c.pop_first-ticket.ensures.len, c.pop_first-ticket.ensures.capacity))
 
 pub returns : goal.returns
 returns g c =
-    let some : length c.self.inside.ready.items ≢ 0 = omega (arith, c.remove-ticket.ensures.len) in
-    let parts = head_and_rest c.self.inside.ready.items c.remove-ticket.new.self.items c.remove-ticket.result some c.remove-ticket.ensures.value c.remove-ticket.ensures.items in
+    let parts : c.self.inside.ready.items ≡ c.pop_first-ticket.result ∷ c.pop_first-ticket.new.deque.items = c.pop_first-ticket.ensures.items in
     let waits = ap first (c.self.invariant.stands.stand.ready_are ∙ ap (map ticket_number) parts) in
     let ticket = (rw parts at c.self.invariant.stands.each_ticket).0 in
-    rw (← c.self.view_is) (happens_one g.T.Token.plan (Takes g.T.Token.plan (Some c.remove-ticket.result)) c.self.inside _ c.args.seat 0 (Take c.number.result) refl c.push_reserved.ensures.items (invariant_of-self g c)
+    rw (← c.self.view_is) (happens_one g.T.Token.plan (Takes g.T.Token.plan (Some c.pop_first-ticket.result)) c.self.inside _ c.args.seat 0 (Take c.number.result) refl c.push_reserved.ensures.items (invariant_of-self g c)
     (ap (λ n. Some (Take n)) c.number.ensures, waits, ticket.completes, ticket.accepts))

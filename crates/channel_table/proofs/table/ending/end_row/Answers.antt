@@ -30,5 +30,5 @@ returns-clause-ends g c =
     let here = c.take_at.ensures.value in
     let tested = get_or_read rows c.args.index c.row_at.result.now inside c.row_at.ensures row ∙ sym here in
     let last = ap (λ (r : Row g.row.T.Denot). has_next c.in-Some.answer.status r) (sym tested) ∙ sym c.has_next.ensures ∙ c.if-has_next.false in
-    rw (c.in-Some.is, c.push_reserved.ensures.items)
+    rw (c.in-Some.is, c.push_back_reserved.ensures.items)
     (ends_so c.args.options.now.flags c.args.concerned c.args.judged c.args.reply c.args.most c.args.index rows c.args.ready.now.items row inside here c.in-Some.answer c.into_ticket.result c.take_at.new.rows.items last c.into_ticket.ensures c.take_at.ensures.items)

@@ -1,4 +1,4 @@
-use Rattle.std.proofs.Common.{◌≡◌, ◌≤◌, ◌+◌, ◌++◌, map, vec_len, vec_capacity, deque_len, deque_capacity, length}
+use Rattle.std.proofs.Common.{◌≡◌, ◌≤◌, ◌+◌, ◌++◌, map, deque_len, deque_capacity, length}
 use Rattle.std.specs.Prelude.{filter_map}
 use Rattle.std.specs.Vec.Iter.{into_iter_items, into_iter_len}
 use Rattle.channel_table.specs.Failing.{answer_over, fails_at, kept_of, ticket_made}
@@ -12,8 +12,8 @@ invariant-loop-row g l =
     × (l.kept.items ≡ filter_map kept_of (map (fails_at l.options l.server l.link l.most) l.yielded))
     × (l.ready.items ≡ l.initial.ready.items ++ filter_map ticket_made (map (fails_at l.options l.server l.link l.most) l.yielded))
     × (into_iter_len l.row-iterator ≡ length (into_iter_items l.row-iterator))
-    × (deque_len l.kept + vec_len l.ready + into_iter_len l.row-iterator ≡ vec_len l.initial.ready + into_iter_len l.initial.row-iterator)
-    × (vec_len l.initial.ready ≤ vec_len l.ready)
-    × (vec_capacity l.ready ≡ vec_capacity l.initial.ready)
+    × (deque_len l.kept + deque_len l.ready + into_iter_len l.row-iterator ≡ deque_len l.initial.ready + into_iter_len l.initial.row-iterator)
+    × (deque_len l.initial.ready ≤ deque_len l.ready)
+    × (deque_capacity l.ready ≡ deque_capacity l.initial.ready)
     × (deque_capacity l.kept ≡ deque_capacity l.initial.kept)
     × (l.answers.items ≡ map (answer_over l.options l.server l.link l.most) (into_iter_items l.row-iterator))

@@ -1,4 +1,4 @@
-use Rattle.std.proofs.Common.{List, ap₂, false, subst, sym, ◌∙◌, ◌≡◌, ℕ}
+use Rattle.std.proofs.Common.{List, ap₂, arith, false, length, subst, sym, ◌<◌, ◌∙◌, ◌≡◌, ℕ}
 use Rattle.std.specs.FinMap as map
 use Rattle.std.specs.List.{list_any}
 use Rattle.std.specs.Prelude.{IfSome}
@@ -7,6 +7,7 @@ use Rattle.query_machine.specs.declared.leg.Flying.{Flying}
 use Rattle.timeout_queue.specs.declared.key.Key.{Key}
 use Rattle.channel_table.proofs.FlownRows.{begin_found, leg_idle}
 use Rattle.channel_table.proofs.IndexLemmas.{begins_listed, begins_rising}
+use Rattle.channel_table.proofs.TallyLemmas.{begins_tally}
 use Rattle.channel_table.specs.Apart.{IsApart}
 use Rattle.channel_table.specs.Flown.{AreFlown}
 use Rattle.channel_table.specs.Forgotten.{begun_flown}
@@ -35,10 +36,13 @@ invariant_of-self-2 g c =
     let waits = subst (WaitsAt c.args.index c.args.is_second) (sym c.self.view_is) c.requires.waits in
     let free = subst (λ (rs : List (Row g.row.T.Denot)). list_any (row_has_id c.args.id) rs ≡ false) (sym c.self.view_is) c.requires.free in
     let begins = c.begin.ensures.begins in
+    let inside = subst (λ (rs : List (Row g.row.T.Denot)). c.args.index < length rs) (sym c.self.view_is) c.requires.inside in
     let told = subst (λ (r : Row g.row.T.Denot). IfSome (side_at c.args.is_second r) (λ (s : Side). c.side.result.now ≡ s)) (c.row_at.ensures ∙ begins.is c.row_at.result.now) c.side.ensures in
     record {
       rising = begins_rising flying c.args.index c.args.is_second rows new begins c.self.invariant.rising;
       flown = subst (λ (f : Flown). AreFlown f (all_sides new)) (sym (c.in_ok-add.ensures.ok ∙ ap₂ (λ (k : Key) (due : ℕ). begun_flown k c.args.id due c.self.inside.flown) c.key_of_side-leg.ensures c.saturating_add-due.ensures))
           (begin_found c.self.inside.flown c.args.index c.args.is_second rows apart c.self.invariant.flown c.side.result.now flying new begins waits free told);
       listed = λ on. begins_listed flying c.args.index c.args.is_second rows new begins c.self.inside.waiting (c.self.invariant.listed on);
+      tally = begins_tally flying c.args.index c.args.is_second rows new begins inside (omega (arith, c.begin.new.rows.ok.0, c.begin.new.rows.small.0, c.begin.new.rows.small.1)) c.self.inside.tally c.of_row-before.result c.of_row-behind.result c.moved-self-inside.result c.row_at-2.result.now c.row_at-3.result.now
+          c.of_row-before.ensures c.row_at-2.ensures c.of_row-behind.ensures c.row_at-3.ensures c.self.invariant.tally c.moved-self-inside.ensures.waiting c.moved-self-inside.ensures.flying;
     }

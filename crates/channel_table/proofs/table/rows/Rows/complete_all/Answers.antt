@@ -1,3 +1,4 @@
+use Rattle.std.proofs.Common.{refl}
 use Rattle.channel_table.proofs.table.rows.Rows.complete_all.Goals as goal
 
 pub invariant_of-self : goal.invariant_of-self
@@ -5,4 +6,5 @@ invariant_of-self g c = record {
   rising = rw c.complete_all.ensures.none tt;
   flown = rw c.complete_all.ensures.none (c.forget_all.ensures c.self.invariant.flown);
   listed = λ on. rw c.complete_all.ensures.none tt;
+  tally = rw (c.complete_all.ensures.none, c.none-self-inside.ensures) (record { waiting = refl; flying = refl });
 }

@@ -1,5 +1,10 @@
-use Rattle.channel_table.proofs.LandingRow.{number_inside}
+use Rattle.std.proofs.Common.{None, Option, subst, sym, ◌∙◌, ℕ}
+use Rattle.channel_table.proofs.StrayLemmas.{none_without}
+use Rattle.channel_table.specs.Strays.{IsOnlyWith}
 use Rattle.channel_table.proofs.table.rows.Rows.index_by_id.Goals as goal
 
-pub returns : goal.returns
-returns g c = rw (← c.self.view_is) (number_inside c.in_ok-leg.leg.number c.self.inside.list.items c.find_row.result c.find_row.ensures)
+pub returns-in-Some : goal.returns-in-Some
+returns-in-Some g c = subst (λ (id : Option ℕ). IsOnlyWith id c.args.self.now c.index_with.result) (sym c.in-Some.is ∙ c.id_of.ensures) c.index_with.ensures
+
+pub returns-in-None : goal.returns-in-None
+returns-in-None g c = subst (λ (id : Option ℕ). IsOnlyWith id c.args.self.now None) (sym c.in-None.is ∙ c.id_of.ensures) (none_without c.args.self.now)
