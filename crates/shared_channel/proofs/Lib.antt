@@ -7,4 +7,8 @@ mod GoingLemmas
 mod AnswerLemmas
 mod EndLemmas
 mod StayLemmas
+mod BackLemmas
+mod CallLemmas
+mod SendLemmas
+mod ClosureLemmas
 pub mod Theorems

@@ -4,3 +4,10 @@ pub use Rattle.shared_channel.proofs.StayLemmas.{all_at, all_stay_more, all_stay
 pub use Rattle.shared_channel.proofs.GoingLemmas.{WentOn, fate_later, went_call, went_delivery, went_none, went_on}
 -- Commands that were performed through a pass.
 pub use Rattle.shared_channel.proofs.PerformLemmas.{performs_more, performs_none}
+-- The calls by which attempts expire and fail, servers are set, and those that look, leave a pass settled too.
+pub use Rattle.shared_channel.proofs.CallLemmas.{stays_busy, stays_counts, stays_due, stays_expire, stays_fault, stays_servers}
+-- Passes that were taken from the row of a new channel's passes, and came back to it.
+pub use Rattle.shared_channel.proofs.BackLemmas.{may_finish, one_back}
+-- A pass may go to another thread, a channel may be lent to several, and a closure may go where what it holds may.
+pub use Rattle.shared_channel.proofs.SendLemmas.{callback_send, channel_sync, pass_send}
+pub use Rattle.shared_channel.proofs.ClosureLemmas.{Own, lent, lent_send, tuple_send}

@@ -1,47 +1,17 @@
--- A thread's closure may go to another thread where all that it holds may: a reference to the thread's handle, one to the channel, a pass, and what its work takes.
-use mathlib.Core.List.{List, [], ◌∷◌}
+-- The closures of this benchmark's threads may go to another thread, by what each holds.
+use mathlib.Core.List.{[], ◌∷◌}
 use base.Fml.{Lft}
-use mir.Syntax.{named, ty_unit, w64}
-use Prim.Native.Nat.{ℕ}
+use mir.Syntax.{ty_unit, w64}
 use denote.Array.{Array}
 use denote.Exit.{no}
 use denote.Plain.{UInt}
 use denote.RattleType.{RattleType}
 use denote.Param.{arg, param}
-use denote.Param.Send.{AllSend, IsSend, IsSync, arg_send, param_send, recorded_send, sendable, shr_send, struct_send}
-use denote.Ref.{ShrRef}
-use denote.Struct.Declared.{shape}
-use denote.Struct.Field.{rows}
-use denote.Struct.Tuple.{TupleAt, field_at, parts, tuple_name, type_at}
+use denote.Param.Send.{IsSend, IsSync, arg_send, param_send, sendable}
+use denote.Struct.Tuple.{TupleAt, tuple_name}
 use Rattle.std.proofs.alloc.Global.TheSendSync as global
 use Rattle.std.specs.contracts.alloc.Global as Global
-use Rattle.completion_ticket.specs.contracts.scripted.Scripted as Scripted
-use Rattle.completion_ticket.specs.contracts.scripted.ScriptedDone.TheImpl as Impl
-use Rattle.shared_channel.specs.contracts.channel.Channel as Channel
-use Rattle.shared_channel.specs.contracts.pass.Pass as Pass
-use Rattle.shared_channel_bench.proofs.SendLemmas.{channel_sync, pass_send}
-
-all_parts : (Ts : List RattleType) → AllSend Ts → AllSend (rows (parts Ts))
-all_parts [] all = tt
-all_parts (T ∷ Ts) all = (all.0, all_parts Ts all.1)
-
-tuple_send : (name : List ℕ) (Ts : List RattleType) → AllSend Ts → IsSend (TupleAt name Ts)
-tuple_send name Ts all = recorded_send (field_at name Ts).row _ _ (type_at name Ts).to_one (struct_send (shape (type_at name Ts)) (all_parts Ts all))
-
--- a closure is a tuple of what it holds, under a name that its ownership doesn't depend on
-closure_send : (Ts : List RattleType) → AllSend Ts → IsSend (param 1 (arg ty_unit no (TupleAt [] Ts)))
-closure_send Ts all = param_send 1 _ (arg_send ty_unit no _ (tuple_send [] Ts all))
-
--- what is lent to each thread: its handle, and the channel
-abbrev pub lent : Lft → Lft → RattleType → List RattleType → List RattleType
-lent handle channel R rest = ShrRef (named 0) handle R ∷ ShrRef (named 0) channel (Channel.the_row Scripted.the_row Impl.ghosts) ∷ rest
-
--- a pass
-abbrev pub Own : RattleType
-Own = Pass.the_row Scripted.the_row Impl.ghosts
-
-lent_send : (handle channel : Lft) (R : RattleType) (rest : List RattleType) → IsSync R → AllSend rest → IsSend (param 1 (arg ty_unit no (TupleAt [] (lent handle channel R rest))))
-lent_send handle channel R rest shared all = closure_send (lent handle channel R rest) (shr_send _ _ R shared, (shr_send _ _ (Channel.the_row Scripted.the_row Impl.ghosts) channel_sync, all))
+use Rattle.shared_channel.proofs.Theorems.{Own, lent, lent_send, pass_send, tuple_send}
 
 number_send : IsSend (UInt w64)
 number_send = search sendable

@@ -1,3 +1,1 @@
-mod BackLemmas
 mod ClosureLemmas
-mod SendLemmas

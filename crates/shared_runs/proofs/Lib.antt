@@ -1,4 +1,1 @@
-mod BackLemmas
-mod CallLemmas
 mod ClosureLemmas
-mod SendLemmas

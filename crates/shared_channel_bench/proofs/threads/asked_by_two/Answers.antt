@@ -1,7 +1,7 @@
 use denote.Param.{param}
 use denote.Param.Send.{sendable}
 use Rattle.shared_channel_bench.proofs.ClosureLemmas.{asker_send}
-use Rattle.shared_channel_bench.proofs.SendLemmas.{pass_send}
+use Rattle.shared_channel.proofs.Theorems.{pass_send}
 use Rattle.shared_channel_bench.proofs.threads.asked_by_two.Goals as goal
 
 -- how a closure's type is named doesn't matter to what it owns

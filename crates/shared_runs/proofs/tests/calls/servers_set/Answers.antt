@@ -1,4 +1,4 @@
-use Rattle.shared_runs.proofs.CallLemmas.{stays_servers}
+use Rattle.shared_channel.proofs.Theorems.{stays_servers}
 use Rattle.shared_runs.proofs.tests.calls.servers_set.Goals as goal
 
 pub returns : goal.returns

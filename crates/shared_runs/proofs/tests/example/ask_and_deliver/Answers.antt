@@ -1,7 +1,7 @@
 use denote.Param.{param}
 use denote.Param.Send.{sendable}
 use Rattle.shared_runs.proofs.ClosureLemmas.{asker_send}
-use Rattle.shared_runs.proofs.SendLemmas.{pass_send}
+use Rattle.shared_channel.proofs.Theorems.{pass_send}
 use Rattle.shared_runs.proofs.tests.example.ask_and_deliver.Goals as goal
 
 -- how a closure's type is named doesn't matter to what it owns

@@ -1,7 +1,7 @@
 use denote.Param.{param}
 use denote.Param.Send.{sendable}
 use Rattle.shared_runs.proofs.ClosureLemmas.{pair_send}
-use Rattle.shared_runs.proofs.SendLemmas.{pass_send}
+use Rattle.shared_channel.proofs.Theorems.{pass_send}
 use Rattle.shared_runs.proofs.tests.four_threads.rounds_of_four.Goals as goal
 
 -- how a closure's type is named doesn't matter to what it owns

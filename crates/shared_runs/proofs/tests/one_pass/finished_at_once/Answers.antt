@@ -1,5 +1,4 @@
-use Rattle.shared_channel.proofs.Theorems.{all_stay_none}
-use Rattle.shared_runs.proofs.BackLemmas.{may_finish}
+use Rattle.shared_channel.proofs.Theorems.{all_stay_none, may_finish}
 use Rattle.shared_runs.proofs.tests.one_pass.finished_at_once.Goals as goal
 
 pub finish-finished-requires-clause-all : goal.finish-finished-requires-clause-all

@@ -1,6 +1,5 @@
 use Rattle.std.proofs.Common.{◌++◌, ◌∷◌, [], arith}
-use Rattle.shared_channel.proofs.Theorems.{all_stay_none}
-use Rattle.shared_runs.proofs.BackLemmas.{may_finish, one_back}
+use Rattle.shared_channel.proofs.Theorems.{all_stay_none, may_finish, one_back}
 use Rattle.shared_runs.proofs.tests.row.played_alone.Goals as goal
 
 pub finish-finished-requires-clause-all : goal.finish-finished-requires-clause-all

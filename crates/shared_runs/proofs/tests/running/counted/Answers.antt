@@ -1,4 +1,4 @@
-use Rattle.shared_runs.proofs.CallLemmas.{stays_counts}
+use Rattle.shared_channel.proofs.Theorems.{stays_counts}
 use Rattle.shared_runs.proofs.tests.running.counted.Goals as goal
 
 pub returns : goal.returns

@@ -1,4 +1,4 @@
-use Rattle.shared_runs.proofs.CallLemmas.{stays_due}
+use Rattle.shared_channel.proofs.Theorems.{stays_due}
 use Rattle.shared_runs.proofs.tests.running.due.Goals as goal
 
 pub returns : goal.returns

@@ -1,4 +1,4 @@
-use Rattle.shared_runs.proofs.CallLemmas.{stays_expire}
+use Rattle.shared_channel.proofs.Theorems.{stays_expire}
 use Rattle.shared_runs.proofs.tests.running.expired.Goals as goal
 
 pub returns : goal.returns

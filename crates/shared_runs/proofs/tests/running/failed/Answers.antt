@@ -1,4 +1,4 @@
-use Rattle.shared_runs.proofs.CallLemmas.{stays_fault}
+use Rattle.shared_channel.proofs.Theorems.{stays_fault}
 use Rattle.shared_runs.proofs.tests.running.failed.Goals as goal
 
 pub returns : goal.returns

@@ -1,4 +1,4 @@
-use Rattle.shared_runs.proofs.CallLemmas.{stays_busy}
+use Rattle.shared_channel.proofs.Theorems.{stays_busy}
 use Rattle.shared_runs.proofs.tests.running.is_busy.Goals as goal
 
 pub returns : goal.returns

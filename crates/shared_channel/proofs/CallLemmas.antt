@@ -12,7 +12,8 @@ use Rattle.net_addr.specs.declared.addr.ServerAddr.{ServerAddr}
 use Rattle.shared_channel.specs.Passes.{PassView, desk_of}
 use Rattle.shared_channel.specs.Settling.{taken_in}
 use Rattle.shared_channel.specs.Staying.{StaysSettled}
-use Rattle.shared_channel.proofs.Theorems.{stays, went_call}
+use Rattle.shared_channel.proofs.GoingLemmas.{went_call}
+use Rattle.shared_channel.proofs.StayLemmas.{stays}
 
 pub stays_expire : (at : ℕ) (reply : Result Lapse NoMemory) (old new : PassView) → Calls (Expires at reply) 0 (desk_of old) (desk_of new) → StaysSettled old new
 stays_expire at (Ok (Expired number leg)) old new call = stays old new (went_call (Expires at (Ok (Expired number leg))) 0 old new call (ap (λ a. taken_in (entries_of old.number 0 a)) call.meant.0))

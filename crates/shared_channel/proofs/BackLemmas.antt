@@ -7,7 +7,7 @@ use Rattle.shared_channel.specs.Making.{IsNewChannel}
 use Rattle.shared_channel.specs.Passes.{PassView}
 use Rattle.shared_channel.specs.Settling.{AreSettled}
 use Rattle.shared_channel.specs.Staying.{AllStaySettled, StaysSettled}
-use Rattle.shared_channel.proofs.Theorems.{all_stay_more, all_stayed}
+use Rattle.shared_channel.proofs.StayLemmas.{all_stay_more, all_stayed}
 
 -- of a row the last pass was taken and came back, and those before it stayed settled too
 pub one_back : {olds : List PassView} {old new : PassView} (rest news : List PassView) → olds ≡ rest ++ old ∷ [] → AllStaySettled rest news → StaysSettled old new → AllStaySettled olds (news ++ new ∷ [])
