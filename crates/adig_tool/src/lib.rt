@@ -11,6 +11,3 @@ mod session;
 
 pub use ended::Ended;
 pub use running::run;
-
-#[cfg(test)]
-mod tests;

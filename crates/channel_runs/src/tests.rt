@@ -1,8 +1,5 @@
 //! A channel with one owner, its runner and a network in memory, and what a run of them comes to, as lines of text.
 
-ghost use Rattle.std.specs.Prelude.{All, IfOk};
-ghost use Rattle.net_world.specs.Script.{MayCome};
-
 mod addresses;
 mod asking;
 mod both;
@@ -10,6 +7,7 @@ mod calls;
 mod datagrams;
 mod ending;
 mod failing;
+mod identifiers;
 mod links;
 mod making;
 mod refusing;
@@ -17,19 +15,17 @@ mod searching;
 mod servers;
 mod sorting;
 mod strays;
-mod telling;
 
 use calls::{Call, Request, answers_told, channel_of};
-use chan_types::{Bytes, Quiet};
+use chan_types::Quiet;
 use channel_model::Desk;
 use channel_table::Alone;
 use event_runner::Runner;
-use item_list::NoMemory;
-use net_world::{Got, ScriptWorld, Timed};
+use net_world::ScriptWorld;
 use resolv_options::read_resolv;
+use scenario::{Coming, Shown, calls_told, items_of, journal_told};
 use std::alloc::Global;
 use std::test::Fail;
-use telling::{calls_told, journal_told};
 
 /// A reply with the address 192.0.2.1 to the query with identifier 0x1234 for example.com (RFC 1035, section 4.1).
 const REPLY: &[u8] =
@@ -152,74 +148,6 @@ fn status_of(run: &Run) -> u8 {
 fn is_told(alloc: Global, run: Run, journal: &str, calls: &str) -> Result<bool, Fail> {
     let Run { desk, world, .. } = run;
     let told = journal_told(alloc, desk.close().entries())?;
-    let heard = calls_told(alloc, world.log().calls())?;
+    let heard = calls_told(alloc, world.log().calls(), Shown::Links)?;
     Ok(told.as_str() == journal && heard.as_str() == calls)
-}
-
-/// What comes on the network from a moment on: a datagram of a server, a piece of a link, or the end of a link.
-#[derive(Clone, Copy)]
-enum Coming<'a> {
-    Datagram {
-        from: u64,
-        server: u32,
-        bytes: &'a [u8],
-    },
-    Piece {
-        from: u64,
-        link: u64,
-        bytes: &'a [u8],
-    },
-    End {
-        from: u64,
-        link: u64,
-    },
-}
-
-/// A datagram of a server.
-fn from_server(from: u64, server: u32, bytes: &[u8]) -> Coming<'_> {
-    Coming::Datagram {
-        from,
-        server,
-        bytes,
-    }
-}
-
-/// A piece of a link.
-fn from_link(from: u64, link: u64, bytes: &[u8]) -> Coming<'_> {
-    Coming::Piece { from, link, bytes }
-}
-
-/// The item of a network in memory; a piece without a byte is an end.
-fn item_of(alloc: Global, coming: &Coming<'_>) -> Result<Timed, NoMemory>
-    ensures { IfOk result (λ item. MayCome item.got) }
-{
-    match *coming {
-        Coming::Datagram {
-            from,
-            server,
-            bytes,
-        } => Ok(Timed {
-            from,
-            got: Got::Datagram(server, Bytes::of(alloc, bytes)?),
-        }),
-        Coming::Piece { from, link, bytes } if !bytes.is_empty() => Ok(Timed {
-            from,
-            got: Got::Piece(link, Bytes::of(alloc, bytes)?),
-        }),
-        Coming::Piece { from, link, .. } | Coming::End { from, link } => Ok(Timed {
-            from,
-            got: Got::Ended(link),
-        }),
-    }
-}
-
-/// The items of a network in memory.
-fn items_of(alloc: Global, comings: &[Coming<'_>]) -> Result<Vec<Timed>, NoMemory>
-    ensures { IfOk result (λ items. All (λ item. MayCome item.got) items.items) }
-{
-    let mut items = Vec::new(alloc);
-    for coming in comings {
-        items.push(item_of(alloc, coming)?)?;
-    }
-    Ok(items)
 }

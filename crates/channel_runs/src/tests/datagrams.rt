@@ -1,6 +1,7 @@
 //! Runs over datagrams.
 
-use super::{ONE, REPLY, from_server, is_told, played_alone, status_of};
+use super::{ONE, REPLY, is_told, played_alone, status_of};
+use scenario::Coming;
 use std::test::Fail;
 
 /// One server, which is asked three times (resolv.conf(5)).
@@ -41,7 +42,7 @@ take 1
 #[test]
 fn a_reply_at_the_deadline_counts(rt: HostRuntime) -> Result<(), Fail> {
     let alloc = rt.alloc();
-    let items = [from_server(2000, 0, REPLY)];
+    let items = [Coming::datagram(2000, 0, REPLY)];
     let run = played_alone(alloc, ONE, &items, &[], 3)?;
     assert_eq!(rt; status_of(&run), 0);
     let journal = "accept 1\nstart 1 on 0 over 0 at 0\narrive from 0 over 0\ntake 1\n";
@@ -53,7 +54,7 @@ fn a_reply_at_the_deadline_counts(rt: HostRuntime) -> Result<(), Fail> {
 #[test]
 fn another_server_answers_nothing(rt: HostRuntime) -> Result<(), Fail> {
     let alloc = rt.alloc();
-    let items = [from_server(5, 1, REPLY)];
+    let items = [Coming::datagram(5, 1, REPLY)];
     let run = played_alone(alloc, TWO, &items, &[], 3)?;
     let journal = "accept 1
 start 1 on 0 over 0 at 0
@@ -70,7 +71,10 @@ start 1 on 1 over 0 at 2000
 #[test]
 fn a_server_is_asked_again_without_opt(rt: HostRuntime) -> Result<(), Fail> {
     let alloc = rt.alloc();
-    let items = [from_server(3, 0, FORMERR), from_server(4, 0, REPLY)];
+    let items = [
+        Coming::datagram(3, 0, FORMERR),
+        Coming::datagram(4, 0, REPLY),
+    ];
     let run = played_alone(alloc, ONE, &items, &[], 4)?;
     assert_eq!(rt; status_of(&run), 0);
     let journal = "accept 1
@@ -88,7 +92,10 @@ take 1
 #[test]
 fn the_next_server_is_asked_at_once(rt: HostRuntime) -> Result<(), Fail> {
     let alloc = rt.alloc();
-    let items = [from_server(1, 0, SERVFAIL), from_server(9, 1, REPLY)];
+    let items = [
+        Coming::datagram(1, 0, SERVFAIL),
+        Coming::datagram(9, 1, REPLY),
+    ];
     let run = played_alone(alloc, TWO, &items, &[], 4)?;
     assert_eq!(rt; status_of(&run), 0);
     let journal = "accept 1

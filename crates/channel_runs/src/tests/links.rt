@@ -1,6 +1,7 @@
 //! Runs over links.
 
-use super::{ASK, Coming, OVER_TCP, PLAIN, is_told, played_alone, played_with, status_of};
+use super::{ASK, OVER_TCP, PLAIN, is_told, played_alone, played_with, status_of};
+use scenario::Coming;
 use std::test::Fail;
 
 /// A truncated reply to the query with identifier 0x1234 for example.com: TC is set (RFC 1035, section 4.1.1).

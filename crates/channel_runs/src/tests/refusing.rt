@@ -3,8 +3,8 @@
 use super::PLAIN;
 use super::addresses::{ASKED_V4, ASKED_V6, RECORD_V4, RECORD_V6};
 use super::calls::{Call, Request, answers_told, channel};
-use super::telling::journal_told;
 use net_addr::{Addr, Family, ServerAddr};
+use scenario::journal_told;
 use std::test::Fail;
 
 /// An address for documentation (RFC 5737), with the port of the domain service.

@@ -1,8 +1,7 @@
 //! What answers no attempt, and how much of it a turn receives.
 
-use super::{
-    Coming, ONE, OVER_TCP, REPLY, from_link, from_server, is_told, played_alone, status_of,
-};
+use super::{ONE, OVER_TCP, REPLY, is_told, played_alone, status_of};
+use scenario::Coming;
 use std::alloc::Global;
 use std::test::Fail;
 
@@ -10,9 +9,9 @@ use std::test::Fail;
 fn strays_first(alloc: Global, strays: u64) -> Result<Vec<Coming<'static>>, Fail> {
     let mut items = Vec::new(alloc);
     for _ in 0..strays {
-        items.push(from_server(2000, 0, b"stray"))?;
+        items.push(Coming::datagram(2000, 0, b"stray"))?;
     }
-    items.push(from_server(2000, 0, REPLY))?;
+    items.push(Coming::datagram(2000, 0, REPLY))?;
     Ok(items)
 }
 
@@ -32,7 +31,7 @@ fn a_turn_receives_64_items(rt: HostRuntime) -> Result<(), Fail> {
 fn one_by_one(alloc: Global, bytes: &[u8]) -> Result<Vec<Coming<'_>>, Fail> {
     let mut items = Vec::new(alloc);
     for byte in bytes.chunks(1) {
-        items.push(from_link(1, 1, byte))?;
+        items.push(Coming::piece(1, 1, byte))?;
     }
     Ok(items)
 }
@@ -71,7 +70,7 @@ fn the_longest_message_is_a_stray(rt: HostRuntime) -> Result<(), Fail> {
     let mut bytes = Vec::from_elem(alloc, 0u8, 65_537)?;
     bytes[0] = 0xff;
     bytes[1] = 0xff;
-    let items = [from_link(1, 1, bytes.as_slice())];
+    let items = [Coming::piece(1, 1, bytes.as_slice())];
     let run = played_alone(alloc, OVER_TCP, &items, &[], 2)?;
     let journal = "accept 1\nstart 1 on 0 over 1 at 0\narrive from 0 over 1\n";
     assert!(rt;
@@ -89,7 +88,7 @@ fn the_longest_message_is_a_stray(rt: HostRuntime) -> Result<(), Fail> {
 #[test]
 fn a_piece_of_another_link_is_passed_over(rt: HostRuntime) -> Result<(), Fail> {
     let alloc = rt.alloc();
-    let items = [from_link(1, 7, REPLY)];
+    let items = [Coming::piece(1, 7, REPLY)];
     let run = played_alone(alloc, OVER_TCP, &items, &[], 2)?;
     let journal = "accept 1\nstart 1 on 0 over 1 at 0\n";
     assert!(rt;

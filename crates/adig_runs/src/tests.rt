@@ -1,24 +1,20 @@
 //! Whole runs over a network in memory: what happened, what was called, and what was put, as lines of text.
 
-ghost use Rattle.std.specs.Prelude.{All, IfOk};
-ghost use Rattle.net_world.specs.Script.{MayCome};
-
 mod pages;
 mod refusals;
 mod replies;
 mod searching;
 mod setting;
 mod statuses;
-mod telling;
 
-use crate::run;
+use adig_tool::run;
 use chan_types::Calls;
-use item_list::{Bytes, NoMemory};
-use net_world::{Got, MemFiles, MemSink, ScriptWorld, Timed};
+use item_list::Bytes;
+use net_world::{MemFiles, MemSink, ScriptWorld};
+use scenario::{Coming, Shown, calls_told, items_of, journal_told, sent_in, words_of};
 use std::alloc::Global;
 use std::collections::BTreeMap;
 use std::test::Fail;
-use telling::{calls_told, journal_told, sent_in};
 
 /// The words of a run for the addresses of example.com.
 const PLAIN: &str = "--server 192.0.2.53 --no-edns example.com";
@@ -86,7 +82,7 @@ fn ran(alloc: Global, case: &Scenario<'_>) -> Result<Left, Fail> {
         status: ended.status,
         put: sink.bytes().to_vec(alloc)?,
         journal: journal_told(alloc, ended.journal.entries())?,
-        calls: calls_told(alloc, world.log().calls())?,
+        calls: calls_told(alloc, world.log().calls(), Shown::Servers)?,
         sent: sent_in(alloc, world.log().calls())?,
         called: counted(&ended.calls),
     })
@@ -99,17 +95,6 @@ fn counted(calls: &Calls) -> u64 {
         count = count.saturating_add(1);
     }
     count
-}
-
-/// The words of a line. An empty line has none.
-fn words_of(alloc: Global, line: &str) -> Result<Vec<&str>, Fail> {
-    let mut words = Vec::new(alloc);
-    if !line.is_empty() {
-        for word in line.split(' ') {
-            words.push(word)?;
-        }
-    }
-    Ok(words)
 }
 
 /// The numbers of the calls that fail: the first, or none.
@@ -141,85 +126,19 @@ fn world_of(alloc: Global, case: &Scenario<'_>) -> Result<ScriptWorld, Fail> {
     Ok(ScriptWorld::make(words, items, case.fails.to_vec(alloc)?))
 }
 
-/// What comes on the network from a moment on: a datagram of a server, a piece of a link, or the end of a link.
-#[derive(Clone, Copy)]
-enum Coming<'a> {
-    Datagram {
-        from: u64,
-        server: u32,
-        bytes: &'a [u8],
-    },
-    Piece {
-        from: u64,
-        link: u64,
-        bytes: &'a [u8],
-    },
-    End {
-        from: u64,
-        link: u64,
-    },
-}
-
 /// A datagram of the first server.
 fn comes(from: u64, bytes: &[u8]) -> Coming<'_> {
-    Coming::Datagram {
-        from,
-        server: 0,
-        bytes,
-    }
+    Coming::datagram(from, 0, bytes)
 }
 
 /// A datagram of this server.
 fn comes_from(server: u32, from: u64, bytes: &[u8]) -> Coming<'_> {
-    Coming::Datagram {
-        from,
-        server,
-        bytes,
-    }
+    Coming::datagram(from, server, bytes)
 }
 
 /// A piece of the first link.
 fn piece(from: u64, bytes: &[u8]) -> Coming<'_> {
-    Coming::Piece {
-        from,
-        link: 1,
-        bytes,
-    }
-}
-
-/// The item of a network in memory; a piece without a byte is an end.
-fn item_of(alloc: Global, coming: &Coming<'_>) -> Result<Timed, NoMemory>
-    ensures { IfOk result (λ item. MayCome item.got) }
-{
-    match *coming {
-        Coming::Datagram {
-            from,
-            server,
-            bytes,
-        } => Ok(Timed {
-            from,
-            got: Got::Datagram(server, Bytes::of(alloc, bytes)?),
-        }),
-        Coming::Piece { from, link, bytes } if !bytes.is_empty() => Ok(Timed {
-            from,
-            got: Got::Piece(link, Bytes::of(alloc, bytes)?),
-        }),
-        Coming::Piece { from, link, .. } | Coming::End { from, link } => Ok(Timed {
-            from,
-            got: Got::Ended(link),
-        }),
-    }
-}
-
-/// The items of a network in memory.
-fn items_of(alloc: Global, comings: &[Coming<'_>]) -> Result<Vec<Timed>, NoMemory>
-    ensures { IfOk result (λ items. All (λ item. MayCome item.got) items.items) }
-{
-    let mut items = Vec::new(alloc);
-    for coming in comings {
-        items.push(item_of(alloc, coming)?)?;
-    }
-    Ok(items)
+    Coming::piece(from, 1, bytes)
 }
 
 /// Whether the run left this: its exit status, and what it put.

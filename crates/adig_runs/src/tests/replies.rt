@@ -1,6 +1,7 @@
 //! Runs over what servers answer, and when.
 
-use super::{Coming, PLAIN, REPLY, case, comes, comes_from, is_put, is_told, piece, ran};
+use super::{PLAIN, REPLY, case, comes, comes_from, is_put, is_told, piece, ran};
+use scenario::Coming;
 use std::test::Fail;
 
 /// The query of the plain run: 29 bytes with identifier 0x1234 and RD (RFC 1035, section 4.1).

@@ -1,0 +1,11 @@
+//! What tests of a channel say of a run: what comes on its network, as data, and what its journal and its network's log
+//! tell, as lines of text.
+#![tactic(auto)]
+
+mod coming;
+mod telling;
+mod words;
+
+pub use coming::{Coming, items_of};
+pub use telling::{Shown, calls_told, journal_told, sent_in};
+pub use words::words_of;
