@@ -1,0 +1,253 @@
+//! Callbacks that command: what each leaves in the journal, and that every accepted request is called once.
+
+use super::bodies::{Bodies, Deed};
+use super::{Scenario, Wanted, leaves, plain, played};
+use ahost_tool::Ended;
+use chan_types::{Calls, What};
+use std::alloc::Global;
+use std::test::Fail;
+
+/// A reply to the query for `x.test.` A with the first identifier: 192.0.2.1 (RFC 1035, section 4.1).
+const REPLY: &[u8] =
+    b"\x12\x34\x81\x80\0\x01\0\x01\0\0\0\0\x01x\x04test\0\0\x01\0\x01\xc0\x0c\0\x01\0\x01\0\0\x01\x2c\0\x04\xc0\0\x02\x01";
+
+/// What a callback asks during a cancel isn't cancelled: it is pending then, and its reply counts.
+#[test]
+fn a_request_asked_during_a_cancel_stays(rt: HostRuntime) -> Result<(), Fail> {
+    let scenario = Scenario {
+        bodies: Bodies::Deeds(&[&[Deed::Ask], &[], &[], &[Deed::Cancel]]),
+        ..plain(
+            "--server 192.0.2.53 --no-edns --family 4 x.test. y.test. z.test. 192.0.2.1",
+            &[REPLY],
+        )
+    };
+    let wanted = Wanted {
+        status: 1,
+        put: "x.test. 24 ECANCELLED
+  x.test. 0 SUCCESS
+    x.test. 300 IN A 192.0.2.1
+y.test. 24 ECANCELLED
+z.test. 24 ECANCELLED
+192.0.2.1 0 SUCCESS
+  192.0.2.1
+",
+        journal: "accept 1
+accept 2
+accept 3
+accept 4
+take 4
+by 4 cancel
+take 1
+by 1 accept 5
+take 2
+take 3
+start 5 on 0 over 0 at 0
+arrive from 0 over 0
+take 5
+destroy
+",
+        network: "serve 0 of 3221226037 at 53\nsend to 0\nwait to 2000\n",
+        answers: "4 status 0\n1 status 24\n2 status 24\n3 status 24\n5 status 0\n",
+    };
+    assert!(rt; leaves(rt.alloc(), &scenario, &wanted)?);
+    Ok(())
+}
+
+/// A callback destroys the channel and then asks: that request is refused, and the others end with the channel.
+#[test]
+fn a_destroyed_channel_refuses(rt: HostRuntime) -> Result<(), Fail> {
+    let scenario = Scenario {
+        bodies: Bodies::Deeds(&[&[Deed::Destroy, Deed::Ask], &[], &[]]),
+        ..plain(
+            "--server 192.0.2.53 --no-edns --family 4 x.test. y.test. z.test.",
+            &[REPLY],
+        )
+    };
+    let wanted = Wanted {
+        status: 1,
+        put: "x.test. 0 SUCCESS
+  192.0.2.1
+y.test. 16 EDESTRUCTION
+z.test. 16 EDESTRUCTION
+",
+        journal: "accept 1
+accept 2
+accept 3
+start 1 on 0 over 0 at 0
+start 2 on 0 over 0 at 0
+start 3 on 0 over 0 at 0
+arrive from 0 over 0
+take 1
+by 1 destroy
+take 2
+take 3
+",
+        network: "serve 0 of 3221226037 at 53
+send to 0
+send to 0
+send to 0
+wait to 2000
+",
+        answers: "1 status 0\n2 status 16\n3 status 16\n",
+    };
+    assert!(rt; leaves(rt.alloc(), &scenario, &wanted)?);
+    Ok(())
+}
+
+/// What a callback does while others are pending, how those end, and how many requests it adds. These are silent, as the
+/// others are that end by no callback.
+struct Reentry {
+    deeds: &'static [Deed],
+    others: &'static str,
+    added: u64,
+}
+
+/// Each deed, and pairs of them.
+const REENTRIES: [Reentry; 6] = [
+    Reentry {
+        deeds: &[Deed::Ask],
+        others: "x.test. 12 ETIMEOUT\n",
+        added: 1,
+    },
+    Reentry {
+        deeds: &[Deed::Ask, Deed::Ask],
+        others: "x.test. 12 ETIMEOUT\n",
+        added: 2,
+    },
+    Reentry {
+        deeds: &[Deed::Cancel],
+        others: "x.test. 24 ECANCELLED\n",
+        added: 0,
+    },
+    Reentry {
+        deeds: &[Deed::Destroy],
+        others: "x.test. 16 EDESTRUCTION\n",
+        added: 0,
+    },
+    Reentry {
+        deeds: &[Deed::Cancel, Deed::Ask],
+        others: "x.test. 24 ECANCELLED\n",
+        added: 1,
+    },
+    Reentry {
+        deeds: &[Deed::Destroy, Deed::Ask],
+        others: "x.test. 16 EDESTRUCTION\n",
+        added: 0,
+    },
+];
+
+/// In a callback, while 1, 3 and 100 others are pending.
+#[test]
+fn every_request_is_called_once(rt: HostRuntime) -> Result<(), Fail> {
+    for reentry in REENTRIES.iter() {
+        for others in [1, 3, 100] {
+            assert!(rt; is_right(rt.alloc(), reentry, others)?);
+        }
+    }
+    Ok(())
+}
+
+/// In the callback of a callback.
+#[test]
+fn every_request_is_called_once_inside(rt: HostRuntime) -> Result<(), Fail> {
+    for reentry in REENTRIES.iter() {
+        for others in [1, 3, 100] {
+            assert!(rt; is_right_inside(rt.alloc(), reentry, others)?);
+        }
+    }
+    Ok(())
+}
+
+/// Whether every request is called once, and the page is right, where the callback of a request that completes at once
+/// commands while so many others are pending.
+fn is_right(alloc: Global, reentry: &Reentry, others: u64) -> Result<bool, Fail> {
+    let found = "192.0.2.1 0 SUCCESS\n  192.0.2.1\n";
+    let page = page_of(alloc, reentry, others, found, "  x.test. 12 ETIMEOUT\n")?;
+    let line = line_with(alloc, others)?;
+    let bodies = Bodies::Last(others, reentry.deeds);
+    is_played(alloc, line.as_str(), bodies, page.as_str())
+}
+
+/// The same where its callback asks a request that completes at once, whose callback commands.
+fn is_right_inside(alloc: Global, reentry: &Reentry, others: u64) -> Result<bool, Fail> {
+    let found = "192.0.2.1 0 SUCCESS\n  192.0.2.1\n  192.0.2.1 0 SUCCESS\n    192.0.2.1\n";
+    let page = page_of(alloc, reentry, others, found, "    x.test. 12 ETIMEOUT\n")?;
+    let line = line_with(alloc, others)?;
+    let bodies = Bodies::Inside(others, reentry.deeds);
+    is_played(alloc, line.as_str(), bodies, page.as_str())
+}
+
+/// Whether a run with these words and bodies calls each request once, and puts this page.
+fn is_played(alloc: Global, line: &str, bodies: Bodies<'_>, page: &str) -> Result<bool, Fail> {
+    let scenario = Scenario {
+        bodies,
+        ..plain(line, &[])
+    };
+    let (ended, outside) = played(alloc, &scenario)?;
+    Ok(is_called_once(&ended) && outside.sink.bytes() == page.as_bytes())
+}
+
+/// The page: the blocks of the others, of what is found, and of what is added.
+fn page_of(
+    alloc: Global,
+    reentry: &Reentry,
+    others: u64,
+    found: &str,
+    added: &str,
+) -> Result<String, Fail> {
+    let mut page = String::new(alloc);
+    add_times(&mut page, reentry.others, others)?;
+    page.push_str(found)?;
+    add_times(&mut page, added, reentry.added)?;
+    Ok(page)
+}
+
+/// The words of a run for so many silent names, and behind them an address.
+fn line_with(alloc: Global, others: u64) -> Result<String, Fail> {
+    let mut line = String::from_str(alloc, "--server 192.0.2.53 --family 4 --tries 1")?;
+    add_times(&mut line, " x.test.", others)?;
+    line.push_str(" 192.0.2.1")?;
+    Ok(line)
+}
+
+/// Adds this so many times.
+fn add_times(text: &mut String, part: &str, count: u64) -> Result<(), Fail> {
+    for _ in 0..count {
+        text.push_str(part)?;
+    }
+    Ok(())
+}
+
+/// Whether each accepted request was called once, and nothing else was called.
+fn is_called_once(ended: &Ended) -> bool {
+    let mut accepted: u64 = 0;
+    for entry in ended.journal.entries() {
+        if let What::Accept { number, .. } = &entry.what {
+            if calls_of(&ended.calls, *number) != 1 {
+                return false;
+            }
+            accepted = accepted.saturating_add(1);
+        }
+    }
+    accepted == count_of(&ended.calls)
+}
+
+/// How many callbacks were called.
+fn count_of(calls: &Calls) -> u64 {
+    let mut count: u64 = 0;
+    for _ in calls.iter() {
+        count = count.saturating_add(1);
+    }
+    count
+}
+
+/// How often the request was called.
+fn calls_of(calls: &Calls, number: u64) -> u64 {
+    let mut count: u64 = 0;
+    for answer in calls.iter() {
+        if answer.number == number {
+            count = count.saturating_add(1);
+        }
+    }
+    count
+}

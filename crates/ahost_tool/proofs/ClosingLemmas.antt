@@ -1,0 +1,150 @@
+-- The closing of a channel: its Destroy, unless a callback has destroyed it, and the deliveries behind that.
+use Rattle.std.proofs.Common.{◌≡◌, ◌∙◌, ℕ, ◌+◌, ◌==◌, ◌||◌, Bool, true, false, not, cond, if◌then◌else◌, List, [], ◌∷◌, ◌++◌, map, refl, sym, ap, subst, inl, inr, arith, eq-eqb}
+use Rattle.std.specs.Option.{option_or}
+use Rattle.std.specs.Prelude.{Option, Some, None, count_by, filter, find, is_none, is_some, option_map, ◌⊎◌}
+use Rattle.std.proofs.lemmas.List.{append-nil, append_assoc}
+use Rattle.std.proofs.lemmas.List.Sums.{sum_by-cons}
+use Rattle.chan_types.specs.declared.answer.Answer.{Answer}
+use Rattle.chan_types.specs.declared.journal.Entry.{Entry}
+use Rattle.chan_types.specs.declared.journal.What.{What}
+use Rattle.chan_types.specs.declared.journal.What.TheVariants.{Accept, Arrive, Cancel, Destroy, Expire, Fault, Servers, Start, Take}
+use Rattle.chan_types.specs.declared.status.Status.TheVariants.{Destruction}
+use Rattle.channel_model.specs.Completion.{completed_by, fate, is_open, pending, ready}
+use Rattle.channel_model.specs.Journal.{Accepted, Past, accepted, accepted_by, followed_by, is_destroy, is_destroyed, past_of}
+use Rattle.channel_model.specs.Known.{Calls}
+use Rattle.channel_model.specs.Lawful.{IsAllowed, IsLawful, IsLawfulPast}
+use Rattle.channel_model.specs.Meanings.{Destroys}
+use Rattle.channel_model.specs.Merge.{bare}
+use Rattle.channel_model.specs.Seen.{entries_of}
+use Rattle.channel_model.specs.Setting.{Setting}
+use Rattle.channel_model.proofs.Theorems.{followed_by-append, past_of-push, pending-behind}
+use Rattle.channel_table.specs.Calling.{Owned, known_by_owner}
+use Rattle.ahost_tool.specs.Closing.{Closes}
+use Rattle.ahost_tool.specs.Delivering.{DeliversAll, IsIdle}
+use Rattle.ahost_tool.specs.declared.caller.Caller.{Caller}
+use Rattle.ahost_tool.proofs.ListLemmas.{denies, or_right}
+use Rattle.ahost_tool.proofs.MoveLemmas.{quiet_all}
+use Rattle.ahost_tool.proofs.OwnerLemmas.{owned_same, owner_called}
+
+-- the entry that ends the channel
+abbrev pub closing : Entry
+closing = record { seat = 0; by = 0; what = Destroy }
+
+-- behind a Destroy nothing is pending
+module _ (setting : Setting) (past : Past) where
+  abbrev destroyed_answer : ℕ → List Accepted → Option Answer
+  destroyed_answer n xs = option_map (λ spec. bare n Destruction []) (option_map (λ r. r.spec) (find (λ r. r.number == n) xs))
+
+  closed : (found : Option Answer) (n : ℕ) (xs : List Accepted) → is_some (find (λ r. r.number == n) xs) ≡ true → is_none (option_or found (destroyed_answer n xs)) ≡ false
+  closed (Some a) n xs h = refl
+  closed None n xs h = by (find (λ r. r.number == n) xs) h
+    where
+      by : (f : Option Accepted) → is_some f ≡ true → is_none (option_map (λ spec. bare n Destruction []) (option_map (λ r. r.spec) f)) ≡ false
+      by None h = absurd (cc h)
+      by (Some r) h = refl
+
+  -- a request of the list is found in it, behind others too
+  found_behind : (front : List Accepted) (r : Accepted) (xs : List Accepted) → is_some (find (λ q. q.number == r.number) (front ++ r ∷ xs)) ≡ true
+  found_behind [] r xs = rw (eq-eqb r.number r.number refl) refl
+  found_behind (f ∷ front) r xs = by (f.number == r.number) (found_behind front r xs)
+    where
+      by : (b : Bool) → is_some (find (λ q. q.number == r.number) (front ++ r ∷ xs)) ≡ true → is_some (if b then Some f else find (λ q. q.number == r.number) (front ++ r ∷ xs)) ≡ true
+      by true h = refl
+      by false h = h
+
+  none_open : (front xs : List Accepted) → filter (λ n. is_none (option_or (fate setting n past) (destroyed_answer n (front ++ xs)))) (map (λ r. r.number) xs) ≡ []
+  none_open front [] = refl
+  none_open front (x ∷ xs) =
+      rw (closed (fate setting x.number past) x.number (front ++ x ∷ xs) (found_behind front x xs))
+      (subst (λ l. filter (λ n. is_none (option_or (fate setting n past) (destroyed_answer n l))) (map (λ r. r.number) xs) ≡ []) (append_assoc front (x ∷ []) xs) (none_open (front ++ x ∷ []) xs))
+
+  pub pending_destroyed : pending setting (Destroy ∷ past) ≡ []
+  pending_destroyed =
+      ap (λ l. filter (is_open setting (Destroy ∷ past)) (map (λ r. r.number) l)) (append-nil (accepted past)) ∙ none_open [] (accepted past)
+
+-- an entry that accepts nothing leaves nothing pending where nothing was
+stays : (setting : Setting) (what : What) (past : Past) → accepted_by what ≡ None → pending setting past ≡ [] → pending setting (what ∷ past) ≡ []
+stays setting what past none empty = pending-behind setting what past none ∙ ap (filter (λ number. is_none (completed_by setting number what past))) empty
+
+-- nothing is pending in a channel that is destroyed
+pub destroyed_pending : (setting : Setting) (past : Past) → IsLawfulPast setting past → is_destroyed past ≡ true → pending setting past ≡ []
+destroyed_pending setting [] lawful is = refl
+destroyed_pending setting (Accept number spec script ∷ past) lawful is = absurd (let h : true ≡ false = sym is ∙ lawful.0.0 in cc)
+destroyed_pending setting (Destroy ∷ past) lawful is = pending_destroyed setting past
+destroyed_pending setting (Cancel ∷ past) lawful is = stays setting Cancel past refl (destroyed_pending setting past lawful.1 is)
+destroyed_pending setting (Take number ∷ past) lawful is = stays setting (Take number) past refl (destroyed_pending setting past lawful.1 is)
+destroyed_pending setting (Start number leg server link id mix moment ∷ past) lawful is = stays setting (Start number leg server link id mix moment) past refl (destroyed_pending setting past lawful.1 is)
+destroyed_pending setting (Arrive server link bytes ∷ past) lawful is = stays setting (Arrive server link bytes) past refl (destroyed_pending setting past lawful.1 is)
+destroyed_pending setting (Expire number leg moment ∷ past) lawful is = stays setting (Expire number leg moment) past refl (destroyed_pending setting past lawful.1 is)
+destroyed_pending setting (Fault server link moment ∷ past) lawful is = stays setting (Fault server link moment) past refl (destroyed_pending setting past lawful.1 is)
+destroyed_pending setting (Servers list ∷ past) lawful is = stays setting (Servers list) past refl (destroyed_pending setting past lawful.1 is)
+
+-- a Destroy that stands in the past stays there
+pub destroyed_stays : (past : Past) (es : List Entry) → is_destroyed past ≡ true → is_destroyed (followed_by past es) ≡ true
+destroyed_stays past [] h = h
+destroyed_stays past (e ∷ es) h = destroyed_stays (e.what ∷ past) es (or_right (is_destroy e.what) (is_destroyed past) h)
+
+-- there is at most one
+pub destroyed_once : (setting : Setting) (past : Past) → IsLawfulPast setting past → count_by is_destroy past ≡ cond (is_destroyed past) 1 0
+destroyed_once setting [] lawful = refl
+destroyed_once setting (what ∷ past) lawful = by what lawful.0 (sum_by-cons (λ w. cond (is_destroy w) 1 0) what past) (destroyed_once setting past lawful.1)
+  where
+    by : (w : What) → IsAllowed setting past w → count_by is_destroy (w ∷ past) ≡ cond (is_destroy w) 1 0 + count_by is_destroy past → count_by is_destroy past ≡ cond (is_destroyed past) 1 0 →
+        count_by is_destroy (w ∷ past) ≡ cond (is_destroy w || is_destroyed past) 1 0
+    by (Accept number spec script) allowed split rest = omega (arith, split, rest)
+    by Cancel allowed split rest = omega (arith, split, rest)
+    by Destroy allowed split rest = omega (arith, split, rest ∙ ap (λ b. cond b 1 0) allowed)
+    by (Take number) allowed split rest = omega (arith, split, rest)
+    by (Start number leg server link id mix moment) allowed split rest = omega (arith, split, rest)
+    by (Arrive server link bytes) allowed split rest = omega (arith, split, rest)
+    by (Expire number leg moment) allowed split rest = omega (arith, split, rest)
+    by (Fault server link moment) allowed split rest = omega (arith, split, rest)
+    by (Servers list) allowed split rest = omega (arith, split, rest)
+
+-- as often as in the journal
+pub destroys_counted : (past : Past) (es : List Entry) → count_by is_destroy (followed_by past es) ≡ count_by is_destroy past + count_by (λ e. is_destroy e.what) es
+destroys_counted past [] = omega arith
+destroys_counted past (e ∷ es) =
+    omega (arith, destroys_counted (e.what ∷ past) es, sum_by-cons (λ w. cond (is_destroy w) 1 0) e.what past, sum_by-cons (λ (x : Entry). cond (is_destroy x.what) 1 0) e es)
+
+-- a denial that fails
+undenied : (x : Bool) → not x ≡ false → x ≡ true
+undenied true is = refl
+undenied false is = absurd (cc is)
+
+-- what a destroy of the owner does: the closing entry, or nothing where the channel was destroyed
+pub destroy_is : (is_first : Bool) (a b : Owned) → Calls (Destroys is_first) 0 (known_by_owner a) (known_by_owner b) →
+    ((is_destroyed (past_of a.seen) ≡ false) × (b.seen ≡ a.seen ++ closing ∷ [])) ⊎ ((is_destroyed (past_of a.seen) ≡ true) × (b ≡ a))
+destroy_is is_first a b call = by is_first call
+  where
+    by : (f : Bool) → Calls (Destroys f) 0 (known_by_owner a) (known_by_owner b) → ((is_destroyed (past_of a.seen) ≡ false) × (b.seen ≡ a.seen ++ closing ∷ [])) ⊎ ((is_destroyed (past_of a.seen) ≡ true) × (b ≡ a))
+    by true c = let h = owner_called (Destroys true) 0 a b c in inl (denies (is_destroyed (past_of a.seen)) (sym h.meant.answer), h.journal ∙ ap (λ o. a.seen ++ entries_of 0 0 o) h.meant.entry)
+    by false c =
+        let h = owner_called (Destroys false) 0 a b c in
+        inr (undenied (is_destroyed (past_of a.seen)) (sym h.meant.answer), owned_same a b c.desk.setting c.desk.voice (h.journal ∙ ap (λ o. a.seen ++ entries_of 0 0 o) h.meant.entry ∙ append-nil a.seen))
+
+-- the channel is destroyed then
+pub destroy_destroys : (is_first : Bool) (a b : Owned) → Calls (Destroys is_first) 0 (known_by_owner a) (known_by_owner b) → is_destroyed (past_of b.seen) ≡ true
+destroy_destroys is_first a b call = by (destroy_is is_first a b call)
+  where
+    by : ((is_destroyed (past_of a.seen) ≡ false) × (b.seen ≡ a.seen ++ closing ∷ [])) ⊎ ((is_destroyed (past_of a.seen) ≡ true) × (b ≡ a)) → is_destroyed (past_of b.seen) ≡ true
+    by (inl first) = ap (λ j. is_destroyed (past_of j)) first.1 ∙ ap is_destroyed (past_of-push a.seen closing)
+    by (inr later) = subst (λ o. is_destroyed (past_of o.seen) ≡ true) (sym later.1) later.0
+
+-- the owner destroyed the channel, and delivered what was ready then
+pub closes : {B : Type 0} (is_first : Bool) (a : Caller B) (d : Owned) (b : Caller B) → IsIdle a → Calls (Destroys is_first) a.alone.voice (known_by_owner a.alone) (known_by_owner d) → DeliversAll (record a { alone = d }) b →
+    ready b.alone.setting (past_of b.alone.seen) ≡ [] → Closes a b
+closes is_first a d b idle voiced delivers none =
+    let call : Calls (Destroys is_first) 0 (known_by_owner a.alone) (known_by_owner d) = subst (λ v. Calls (Destroys is_first) v (known_by_owner a.alone) (known_by_owner d)) idle.own_voice voiced in
+    let idle_d : IsIdle (record a { alone = d }) = record { no_command = idle.no_command; own_voice = call.desk.voice ∙ idle.own_voice } in
+    let q = quiet_all (record a { alone = d }) b idle_d delivers in
+    let lawful : IsLawful b.alone.setting b.alone.seen = q.0.lawful call.lawful in
+    let past_is : past_of b.alone.seen ≡ followed_by (past_of d.seen) q.0.since = ap past_of q.0.seen ∙ followed_by-append [] d.seen q.0.since in
+    record {
+      is_first = is_first;
+      destroyed = d;
+      destroys = call;
+      delivered = delivers;
+      none_pending = destroyed_pending b.alone.setting (past_of b.alone.seen) lawful.allowed (ap is_destroyed past_is ∙ destroyed_stays (past_of d.seen) q.0.since (destroy_destroys is_first a.alone d call));
+      none_ready = none;
+    }

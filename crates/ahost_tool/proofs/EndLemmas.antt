@@ -1,0 +1,304 @@
+-- From the parts of a run to what the whole of it promises.
+use Rattle.std.proofs.Common.{◌≡◌, ◌≢◌, ◌∙◌, ℕ, suc, zero, ◌≤◌, ◌||◌, Bool, true, false, List, [], ◌∷◌, ◌++◌, length, refl, sym, ap, subst, inl, inr, ⊎_elim, arith}
+use Rattle.std.specs.Prelude.{Err, None, Ok, Option, Result, Some, filter_map, ◌⊎◌}
+use Rattle.std.specs.List.{AllByRecursion, list_all, list_any}
+use Rattle.std.proofs.lemmas.List.{append-nil}
+use mathlib.Core.List.{IsPrefix}
+use Rattle.chan_types.specs.declared.answer.Answer.{Answer}
+use Rattle.chan_types.specs.declared.journal.Entry.{Entry}
+use Rattle.chan_types.specs.declared.journal.What.{What}
+use Rattle.chan_types.specs.declared.journal.What.TheVariants.{Accept, Arrive, Cancel, Destroy, Expire, Fault, Servers, Start, Take}
+use Rattle.item_list.specs.declared.no_memory.NoMemory.{NoMemory}
+use Rattle.net_addr.specs.declared.addr.ServerAddr.{ServerAddr}
+use Rattle.net_world.specs.Cause.{Rose, is_not_waited}
+use Rattle.net_world.specs.declared.answers.Waited.TheVariants.{Failed as NotWaited}
+use Rattle.net_world.specs.declared.log.WorldCall.{WorldCall}
+use Rattle.channel_model.specs.Commands.{Asking, closing_position}
+use Rattle.channel_model.specs.Course.{IsCourse, IsCourseSoFar, has_no_turn}
+use Rattle.channel_model.specs.Endings.{IsStalledBehind, LastWaitFailed, waited_by}
+use Rattle.channel_model.specs.Lawful.{IsLawful}
+use Rattle.channel_model.specs.Servers.{servers_set_by}
+use Rattle.channel_model.specs.Setting.{Setting}
+use Rattle.channel_model.proofs.Theorems.{course_agrees, so_far_nearly, so_far_reads}
+use Rattle.channel_progress.specs.PlainRun.{IsPlainRun}
+use Rattle.channel_progress.specs.Waking.{NoWaitFailed}
+use Rattle.channel_table.specs.Calling.{Owned}
+use Rattle.event_runner.proofs.Theorems.{course_then, so_far_then, stalled_then}
+use Rattle.tool_line.specs.Outside.{OutputTold}
+use Rattle.tool_line.specs.Put.{IsPut, PutsText}
+use Rattle.tool_line.specs.declared.ending.Exit.{Exit}
+use Rattle.tool_line.specs.declared.ending.Exit.TheVariants.{Failure, OutOfMemory, Stalled as HasStalled, Success, WaitFault as FailedWait}
+use Rattle.ahost_tool.specs.Ends.{AreGood, IsEndOf}
+use Rattle.ahost_tool.specs.Kinds.{has_servers, is_ruled, is_servers}
+use Rattle.ahost_tool.specs.Page.{report_of, text_at}
+use Rattle.ahost_tool.specs.Promise.{IsComplete, IsGivenTime, IsPageEnd, IsRunEnd, IsTraffic, last_at}
+use Rattle.ahost_tool.specs.Session.{FallsIntoTurns, HasAccepted, SetsBehindFirst, ShowsEnd, longest_slice}
+use Rattle.ahost_tool.specs.declared.reporting.Report.{Report}
+use Rattle.ahost_tool.specs.declared.session.LoopEnd.{LoopEnd}
+use Rattle.ahost_tool.specs.declared.session.LoopEnd.TheVariants.{Completed, Stalled, WaitFault}
+use Rattle.ahost_tool.proofs.ListLemmas.{none_of}
+use Rattle.ahost_tool.proofs.MoveLemmas.{ruled_seats}
+use Rattle.ahost_tool.proofs.ProgressLemmas.{stalled_many}
+use Rattle.ahost_tool.proofs.ThenLemmas.{behind_more}
+
+-- ---- ends
+
+-- each end is one of a run
+pub end_known : (result : Result LoopEnd NoMemory) (lost : ℕ) (calls : List Answer) (end : Exit) → IsEndOf result lost calls end → IsRunEnd end
+end_known result (suc lost) calls end is = inr (inr (inr is))
+end_known (Ok Completed) zero calls end (inl good) = inl (inl good.0)
+end_known (Ok Completed) zero calls end (inr bad) = inl (inr bad.0)
+end_known (Ok WaitFault) zero calls end is = inr (inl is)
+end_known (Ok Stalled) zero calls end is = inr (inr (inl is))
+end_known (Err e) zero calls end is = inr (inr (inr is))
+
+-- an end that isn't for want of memory comes of turns that weren't cut short, and of no loss
+pub unlost : (result : Result LoopEnd NoMemory) (lost : ℕ) (calls : List Answer) (end : Exit) → IsEndOf result lost calls end → end ≢ OutOfMemory → lost ≡ 0
+unlost result (suc lost) calls end is served = absurd (served is)
+unlost result zero calls end is served = refl
+
+-- how the turns ended, by the end: well or otherwise, by a wait that failed, with turns that were used up, or memory was wanting
+abbrev pub Came : Result LoopEnd NoMemory → List Answer → Exit → Type 0
+Came result calls end =
+    ((result ≡ Ok Completed) × (end ≡ Success) × AreGood calls) ⊎ ((result ≡ Ok Completed) × (end ≡ Failure) × ¬ AreGood calls)
+    ⊎ ((result ≡ Ok WaitFault) × (end ≡ FailedWait)) ⊎ ((result ≡ Ok Stalled) × (end ≡ HasStalled)) ⊎ (end ≡ OutOfMemory)
+
+pub came : (result : Result LoopEnd NoMemory) (lost : ℕ) (calls : List Answer) (end : Exit) → IsEndOf result lost calls end → Came result calls end
+came result (suc lost) calls end is = inr (inr (inr (inr is)))
+came (Ok Completed) zero calls end (inl is) = inl (refl, is.0, is.1)
+came (Ok Completed) zero calls end (inr is) = inr (inl (refl, is.0, is.1))
+came (Ok WaitFault) zero calls end is = inr (inr (inl (refl, is)))
+came (Ok Stalled) zero calls end is = inr (inr (inr (inl (refl, is))))
+came (Err e) zero calls end is = inr (inr (inr (inr is)))
+
+module _ (result : Result LoopEnd NoMemory) (calls : List Answer) (end : Exit) where
+  pub good_of : Came result calls end → end ≡ Success → AreGood calls
+  good_of (inl w) h = w.2
+  good_of (inr (inl w)) h = absurd (let c : Failure ≡ Success = sym w.1 ∙ h in cc)
+  good_of (inr (inr (inl w))) h = absurd (let c : FailedWait ≡ Success = sym w.1 ∙ h in cc)
+  good_of (inr (inr (inr (inl w)))) h = absurd (let c : HasStalled ≡ Success = sym w.1 ∙ h in cc)
+  good_of (inr (inr (inr (inr w)))) h = absurd (let c : OutOfMemory ≡ Success = sym w ∙ h in cc)
+
+  pub bad_of : Came result calls end → end ≡ Failure → ¬ AreGood calls
+  bad_of (inl w) h = absurd (let c : Success ≡ Failure = sym w.1 ∙ h in cc)
+  bad_of (inr (inl w)) h = w.2
+  bad_of (inr (inr (inl w))) h = absurd (let c : FailedWait ≡ Failure = sym w.1 ∙ h in cc)
+  bad_of (inr (inr (inr (inl w)))) h = absurd (let c : HasStalled ≡ Failure = sym w.1 ∙ h in cc)
+  bad_of (inr (inr (inr (inr w)))) h = absurd (let c : OutOfMemory ≡ Failure = sym w ∙ h in cc)
+
+  pub wait_of : Came result calls end → end ≡ FailedWait → result ≡ Ok WaitFault
+  wait_of (inl w) h = absurd (let c : Success ≡ FailedWait = sym w.1 ∙ h in cc)
+  wait_of (inr (inl w)) h = absurd (let c : Failure ≡ FailedWait = sym w.1 ∙ h in cc)
+  wait_of (inr (inr (inl w))) h = w.0
+  wait_of (inr (inr (inr (inl w)))) h = absurd (let c : HasStalled ≡ FailedWait = sym w.1 ∙ h in cc)
+  wait_of (inr (inr (inr (inr w)))) h = absurd (let c : OutOfMemory ≡ FailedWait = sym w ∙ h in cc)
+
+  pub stall_of : Came result calls end → end ≡ HasStalled → result ≡ Ok Stalled
+  stall_of (inl w) h = absurd (let c : Success ≡ HasStalled = sym w.1 ∙ h in cc)
+  stall_of (inr (inl w)) h = absurd (let c : Failure ≡ HasStalled = sym w.1 ∙ h in cc)
+  stall_of (inr (inr (inl w))) h = absurd (let c : FailedWait ≡ HasStalled = sym w.1 ∙ h in cc)
+  stall_of (inr (inr (inr (inl w)))) h = w.0
+  stall_of (inr (inr (inr (inr w)))) h = absurd (let c : OutOfMemory ≡ HasStalled = sym w ∙ h in cc)
+
+  -- an end for another reason isn't a page's
+  pub paged : Came result calls end → ((result ≡ Ok Completed) × IsPageEnd end) ⊎ (IsPageEnd end → ⊥)
+  paged (inl w) = inl (w.0, inl w.1)
+  paged (inr (inl w)) = inl (w.0, inr w.1)
+  paged (inr (inr (inl w))) = inr other
+    where
+      other : IsPageEnd end → ⊥
+      other (inl h) = absurd (let c : FailedWait ≡ Success = sym w.1 ∙ h in cc)
+      other (inr h) = absurd (let c : FailedWait ≡ Failure = sym w.1 ∙ h in cc)
+  paged (inr (inr (inr (inl w)))) = inr other
+    where
+      other : IsPageEnd end → ⊥
+      other (inl h) = absurd (let c : HasStalled ≡ Success = sym w.1 ∙ h in cc)
+      other (inr h) = absurd (let c : HasStalled ≡ Failure = sym w.1 ∙ h in cc)
+  paged (inr (inr (inr (inr w)))) = inr other
+    where
+      other : IsPageEnd end → ⊥
+      other (inl h) = absurd (let c : OutOfMemory ≡ Success = sym w ∙ h in cc)
+      other (inr h) = absurd (let c : OutOfMemory ≡ Failure = sym w ∙ h in cc)
+
+  pub page_of_end : Came result calls end → IsPageEnd end → result ≡ Ok Completed
+  page_of_end c page = ⊎_elim (λ is. is.0) (λ other. absurd (other page)) (paged c)
+
+  -- the last position of another end
+  pub last_other : (journal : List Entry) → Came result calls end → (IsPageEnd end → ⊥) → last_at end journal ≡ length journal
+  last_other journal (inl w) other = absurd (other (inl w.1))
+  last_other journal (inr (inl w)) other = absurd (other (inr w.1))
+  last_other journal (inr (inr (inl w))) other = ap (λ x. last_at x journal) w.1
+  last_other journal (inr (inr (inr (inl w)))) other = ap (λ x. last_at x journal) w.1
+  last_other journal (inr (inr (inr (inr w)))) other = ap (λ x. last_at x journal) w
+
+-- where memory wasn't wanting, the turns weren't cut short
+pub served_ok : (result : Result LoopEnd NoMemory) (lost : ℕ) (calls : List Answer) (end : Exit) → IsEndOf result lost calls end → end ≢ OutOfMemory → (e : LoopEnd) × (result ≡ Ok e)
+served_ok (Ok e) lost calls end is served = (e, refl)
+served_ok (Err fault) (suc lost) calls end is served = absurd (served is)
+served_ok (Err fault) zero calls end is served = absurd (served is)
+
+pub accepted_full : (result : Result LoopEnd NoMemory) (e : LoopEnd) (askings accepted_ : List Asking) → result ≡ Ok e → HasAccepted askings result accepted_ → accepted_ ≡ askings
+accepted_full (Ok f) e askings accepted_ is has = has
+accepted_full (Err fault) e askings accepted_ is has = absurd (cc is)
+
+pub accepted_part : (result : Result LoopEnd NoMemory) (askings accepted_ : List Asking) → HasAccepted askings result accepted_ → IsPrefix accepted_ askings
+accepted_part (Ok e) askings accepted_ has = ([], append-nil accepted_ ∙ has)
+accepted_part (Err fault) askings accepted_ has = has
+
+-- ---- the network's calls
+
+module _ (setting : Setting) (later : Option (List ServerAddr)) (turns made : ℕ) (few : made ≤ turns) (es more : List Entry) (none : has_no_turn more ≡ true) (unset : has_servers more ≡ false) (calls : List WorldCall) where
+  -- a whole course, and entries behind it
+  traffic_whole : (end : Exit) → IsCourse setting 0 longest_slice es calls made 0 → SetsBehindFirst setting later made es calls → ((end ≡ FailedWait) → LastWaitFailed calls) → (end ≡ HasStalled → made ≡ turns) →
+      IsTraffic setting later turns end (es ++ more) calls
+  traffic_whole end course sets last_wait all_turns =
+      let whole_course = course_then setting 0 longest_slice es more calls made 0 none course in
+      record {
+        made = made;
+        few = few;
+        readings = so_far_reads setting 0 longest_slice (es ++ more) calls made 0 (inl whole_course) ∙ omega arith;
+        course = λ served. whole_course;
+        sets_behind = λ served. subst (SetsBehindFirst setting later made (es ++ more)) (append-nil calls) (behind_more setting later made made es more calls [] (λ z. z) unset sets);
+        course_so_far = inl whole_course;
+        agrees = λ served. course_agrees setting 0 longest_slice (es ++ more) calls made 0 whole_course;
+        nearly_agrees = so_far_nearly setting 0 longest_slice (es ++ more) calls made 0 (inl whole_course);
+        last_wait = last_wait;
+        all_turns = all_turns;
+      }
+
+  -- one that was cut short, or where requests of callbacks were lost
+  traffic_cut : (end : Exit) → end ≡ OutOfMemory → IsCourseSoFar setting 0 longest_slice es calls made 0 → IsTraffic setting later turns end (es ++ more) calls
+  traffic_cut end is course =
+      let so_far = so_far_then setting 0 longest_slice es more calls made 0 none course in
+      record {
+        made = made;
+        few = few;
+        readings = so_far_reads setting 0 longest_slice (es ++ more) calls made 0 so_far ∙ omega arith;
+        course = λ served. absurd (served is);
+        sets_behind = λ served. absurd (served is);
+        course_so_far = so_far;
+        agrees = λ served. absurd (served is);
+        nearly_agrees = so_far_nearly setting 0 longest_slice (es ++ more) calls made 0 so_far;
+        last_wait = λ wait. absurd (let e : FailedWait ≡ OutOfMemory = sym wait ∙ is in cc);
+        all_turns = λ stall. absurd (let e : HasStalled ≡ OutOfMemory = sym stall ∙ is in cc);
+      }
+
+-- turns that ended so, without want of memory
+abbrev ok_of : LoopEnd → Result LoopEnd NoMemory
+ok_of e = Ok e
+
+-- how the turns ended shows in the calls
+shown_wait : (turns made : ℕ) (channel : Owned) (calls : List WorldCall) (e : LoopEnd) → ok_of e ≡ ok_of WaitFault → ShowsEnd turns e channel made calls → LastWaitFailed calls
+shown_wait turns made channel calls Completed is shows = absurd (cc is)
+shown_wait turns made channel calls WaitFault is shows = shows
+shown_wait turns made channel calls Stalled is shows = absurd (cc is)
+
+shown_stall : (turns made : ℕ) (channel : Owned) (calls : List WorldCall) (e : LoopEnd) → ok_of e ≡ ok_of Stalled → ShowsEnd turns e channel made calls → (made ≡ turns) × IsStalledBehind channel.setting 0 longest_slice turns channel.seen calls
+shown_stall turns made channel calls Completed is shows = absurd (cc is)
+shown_stall turns made channel calls WaitFault is shows = absurd (cc is)
+shown_stall turns made channel calls Stalled is shows = shows
+
+-- the calls of a session, with what stands behind it
+pub traffic_of : (setting : Setting) (later : Option (List ServerAddr)) (turns : ℕ) (result : Result LoopEnd NoMemory) (answers : List Answer) (end : Exit) (mid : Owned) (more : List Entry) → mid.setting ≡ setting →
+    has_no_turn more ≡ true → has_servers more ≡ false → Came result answers end → (calls : List WorldCall) → FallsIntoTurns later turns result mid calls → IsTraffic setting later turns end (mid.seen ++ more) calls
+traffic_of setting later turns (Ok e) answers end mid more same none unset is calls falls =
+    traffic_whole setting later turns falls.0 falls.1 mid.seen more none unset calls end
+    (subst (λ s. IsCourse s 0 longest_slice mid.seen calls falls.0 0) same falls.2)
+    (subst (λ s. SetsBehindFirst s later falls.0 mid.seen calls) same falls.3)
+    (λ wait. shown_wait turns falls.0 mid calls e (wait_of (Ok e) answers end is wait) falls.4)
+    (λ stall. (shown_stall turns falls.0 mid calls e (stall_of (Ok e) answers end is stall) falls.4).0)
+traffic_of setting later turns (Err e) answers end mid more same none unset is calls falls =
+    traffic_cut setting later turns falls.0 falls.1 mid.seen more none unset calls end (err_wanting is)
+    (subst (λ s. IsCourseSoFar s 0 longest_slice mid.seen calls falls.0 0) same falls.2)
+  where
+    err_wanting : Came (Err e) answers end → end ≡ OutOfMemory
+    err_wanting (inl w) = absurd (cc w.0)
+    err_wanting (inr (inl w)) = absurd (cc w.0)
+    err_wanting (inr (inr (inl w))) = absurd (cc w.0)
+    err_wanting (inr (inr (inr (inl w)))) = absurd (cc w.0)
+    err_wanting (inr (inr (inr (inr w)))) = w
+
+-- ---- completeness
+
+-- a test that fails of all items fails of the last
+none_last : {A : Type 0} (test : A → Bool) (front : List A) (last : A) → test last ≡ true → list_any test (front ++ last ∷ []) ≡ true
+none_last test [] last is = rw is refl
+none_last test (x ∷ front) last is = either (test x) (none_last test front last is)
+  where
+    either : (b : Bool) → list_any test (front ++ last ∷ []) ≡ true → (b || list_any test (front ++ last ∷ [])) ≡ true
+    either true h = refl
+    either false h = h
+
+-- where no wait failed, the last didn't
+not_failed : (calls : List WorldCall) → NoWaitFailed calls → LastWaitFailed calls → ⊥
+not_failed calls none last =
+    let is : list_any is_not_waited (filter_map waited_by calls) ≡ true = ap (list_any is_not_waited) last.failed ∙ none_last is_not_waited last.earlier NotWaited refl in
+    absurd (let h : true ≡ false = sym is ∙ none in cc)
+
+-- an event that sets no servers
+unset_what : (what : What) → is_servers what ≡ false → servers_set_by what ≡ None
+unset_what (Accept number spec script) h = refl
+unset_what Cancel h = refl
+unset_what Destroy h = refl
+unset_what (Take number) h = refl
+unset_what (Start number leg server link id mix moment) h = refl
+unset_what (Arrive server link bytes) h = refl
+unset_what (Expire number leg moment) h = refl
+unset_what (Fault server link moment) h = refl
+unset_what (Servers list) h = absurd (cc h)
+
+unset_all : (es : List Entry) → has_servers es ≡ false → AllByRecursion (λ entry. servers_set_by entry.what ≡ None) es
+unset_all [] h = tt
+unset_all (e ∷ es) h =
+    let parts = none_of (is_servers e.what) (has_servers es) h in
+    (unset_what e.what parts.0, unset_all es parts.1)
+
+-- a run without later servers that was given time comes to its page's end, or wants memory
+pub comes_to_end : (setting : Setting) (turns : ℕ) (result : Result LoopEnd NoMemory) (answers : List Answer) (end : Exit) (mid : Owned) (more : List Entry) → mid.setting ≡ setting →
+    has_no_turn more ≡ true → Came result answers end → 1 ≤ length setting.options.servers → 1 ≤ setting.options.tries → IsLawful setting (mid.seen ++ more) → list_all is_ruled (mid.seen ++ more) ≡ true →
+    has_servers (mid.seen ++ more) ≡ false → (calls : List WorldCall) → FallsIntoTurns None turns result mid calls → IsGivenTime setting turns (mid.seen ++ more) calls → IsPageEnd end ⊎ (end ≡ OutOfMemory)
+comes_to_end setting turns result answers end mid more same none (inl w) servers tries lawful ruled unset calls falls time = inl (inl w.1)
+comes_to_end setting turns result answers end mid more same none (inr (inl w)) servers tries lawful ruled unset calls falls time = inl (inr w.1)
+comes_to_end setting turns result answers end mid more same none (inr (inr (inr (inr w)))) servers tries lawful ruled unset calls falls time = inr w
+comes_to_end setting turns result answers end mid more same none (inr (inr (inl w))) servers tries lawful ruled unset calls falls time =
+    let ended : FallsIntoTurns None turns (Ok WaitFault) mid calls = subst (λ x. FallsIntoTurns None turns x mid calls) w.0 falls in
+    absurd (not_failed calls time.waited ended.4)
+comes_to_end setting turns result answers end mid more same none (inr (inr (inr (inl w)))) servers tries lawful ruled unset calls falls time =
+    let ended : FallsIntoTurns None turns (Ok Stalled) mid calls = subst (λ x. FallsIntoTurns None turns x mid calls) w.0 falls in
+    let stalled : IsStalledBehind setting 0 longest_slice turns mid.seen calls = subst (λ s. IsStalledBehind s 0 longest_slice turns mid.seen calls) same ended.4.1 in
+    let plain : IsPlainRun setting 0 (mid.seen ++ more) calls = record {
+      lawful = lawful;
+      alone = ruled_seats (mid.seen ++ more) ruled;
+      unset = unset_all (mid.seen ++ more) unset;
+      some_server = servers;
+      some_try = tries;
+      waited = time.waited;
+      wakes = time.wakes;
+    } in
+    let few = stalled_many setting 0 turns (mid.seen ++ more) calls plain (stalled_then setting 0 longest_slice mid.seen more calls turns none stalled) in
+    absurd (omega (arith, few, time.enough))
+
+-- and then its report is put, where the output doesn't fail
+pub complete_of : (report : Report) (calls : List Answer) (journal : List Entry) (end : Exit) (status : ℕ) (old new : OutputTold) → IsPut (text_at report journal calls end) end status old new → ¬ Rose old.faults new.faults →
+    IsPageEnd end ⊎ (end ≡ OutOfMemory) → IsComplete report (record { status = status; journal = journal; calls = calls }) old new
+complete_of report calls journal end status old new put quiet (inl (inl is)) = of (subst (λ e. PutsText (text_at report journal calls e) e status old new) is put.told)
+  where
+    of : PutsText (Some (report_of report journal calls)) Success status old new → IsComplete report (record { status = status; journal = journal; calls = calls }) old new
+    of (inl whole) = inl (inl whole.0, whole.1)
+    of (inr (inl part)) = absurd (quiet part.1)
+    of (inr (inr none)) = inr none.0
+complete_of report calls journal end status old new put quiet (inl (inr is)) = of (subst (λ e. PutsText (text_at report journal calls e) e status old new) is put.told)
+  where
+    of : PutsText (Some (report_of report journal calls)) Failure status old new → IsComplete report (record { status = status; journal = journal; calls = calls }) old new
+    of (inl whole) = inl (inr whole.0, whole.1)
+    of (inr (inl part)) = absurd (quiet part.1)
+    of (inr (inr none)) = inr none.0
+complete_of report calls journal end status old new put quiet (inr is) =
+    inr (let h : PutsText None OutOfMemory status old new = subst (λ e. PutsText (text_at report journal calls e) e status old new) is put.told in h.0)
+
+-- ---- the whole
+
+-- the last position of a page's end, and of another
+pub last_page : (end : Exit) (journal : List Entry) → IsPageEnd end → last_at end journal ≡ closing_position journal
+last_page end journal (inl is) = ap (λ e. last_at e journal) is
+last_page end journal (inr is) = ap (λ e. last_at e journal) is

@@ -1,0 +1,253 @@
+-- Turns of a session with what stands between them, one behind the other, and how they come to their end.
+use Rattle.std.proofs.Common.{◌≡◌, ◌≢◌, ◌∙◌, ℕ, ◌+◌, ◌-◌, ◌≤◌, List, [], ◌∷◌, ◌++◌, Bool, true, false, length, refl, ap, sym, subst, arith}
+use Rattle.std.specs.Prelude.{Err, Ok, None, Option, Some, Result, is_err, min, ◌^◌, ⊤}
+use Rattle.std.proofs.lemmas.Bool.{and_from}
+use Rattle.std.proofs.lemmas.List.{append-nil}
+use Rattle.std.proofs.lemmas.List.Folds.{list_all-append}
+use Rattle.std.specs.List.{list_all}
+use Rattle.item_list.specs.declared.no_memory.NoMemory.{NoMemory}
+use Rattle.net_addr.specs.declared.addr.ServerAddr.{ServerAddr}
+use Rattle.net_world.specs.declared.answers.Waited.TheVariants.{Failed as NotWaited}
+use Rattle.net_world.specs.declared.log.WorldCall.{WorldCall}
+use Rattle.channel_model.specs.Commands.{accepted_for}
+use Rattle.channel_model.specs.Completion.{pending, ready}
+use Rattle.channel_model.specs.Course.{IsCourse, has_no_turn}
+use Rattle.channel_model.specs.Endings.{IsStalledBehind, LastWaitFailed}
+use Rattle.channel_model.specs.Journal.{past_of}
+use Rattle.channel_table.specs.Calling.{Owned, known_by_owner}
+use Rattle.event_runner.proofs.Theorems.{ran_at_most, ran_so_far, runs_behind, runs_cut, runs_delivered, runs_failed, runs_following, runs_paused, runs_turned, runs_unpaused, told_as, told_both, told_by, way_stalls}
+use Rattle.event_runner.specs.declared.answers.Paused.{Paused}
+use Rattle.event_runner.specs.declared.answers.Paused.TheVariants.{Skipped, WaitFault, Woken}
+use Rattle.event_runner.specs.declared.answers.Turned.{Turned}
+use Rattle.event_runner.specs.Goes.{Goes, Stops}
+use Rattle.event_runner.specs.Running.{HasLooked, HasWaited, PausesBy, Running, run_of}
+use Rattle.event_runner.specs.State.{IsTurnOwner}
+use Rattle.event_runner.specs.Turning.{IsCutShort, MakesTurn}
+use Rattle.event_runner.specs.UnderWay.{IsUnderWay, LogGets, Reach, RunsSince, delivered, following, rested, turned}
+use Rattle.ahost_tool.specs.Kinds.{has_servers, is_of_session}
+use Rattle.ahost_tool.specs.Session.{CountsPending, FallsIntoTurns, LeavesPending, MakesTurns, SetsAtMost, SetsBehindFirst, SetsLater, ShowsEnd, longest_slice}
+use Rattle.ahost_tool.specs.declared.caller.Caller.{Caller}
+use Rattle.ahost_tool.specs.declared.session.LoopEnd.{LoopEnd}
+use Rattle.ahost_tool.specs.declared.session.LoopEnd.TheVariants.{Completed, Stalled, WaitFault as WaitFailed}
+use Rattle.ahost_tool.proofs.MoveLemmas.{Moves, accepted_parts, moves_go_on, moves_kept, moves_none, moves_trans, moves_turn, own_all, session_seats, turn_unset}
+use Rattle.ahost_tool.proofs.OwnerLemmas.{looked_same, paused_same, waited_pending}
+use Rattle.ahost_tool.proofs.ThenLemmas.{Grows, Then, grows_none, sets_more, then_more, then_set}
+
+-- so many turns were made, and what completed was delivered; behind the last turn the run has come so far
+pub record Made {B : Type 0} (reach : Reach) (turns : ℕ) (old new : Caller B) (before after : Running) (log_old log_new : Option (List WorldCall)) : Type 0 where
+  pub moves : Moves old new
+  pub told : (log : Option (List WorldCall)) → RunsSince longest_slice 0 0 rested (known_by_owner old.alone) before log log_old → RunsSince longest_slice turns 0 reach (known_by_owner new.alone) after log log_new
+
+-- a count of what is pending
+some_counted : (count : ℕ) (xs : List ℕ) → count ≡ length xs → count ≢ 0 → xs ≢ []
+some_counted count xs is some none = some (is ∙ ap length none)
+
+none_counted : (count : ℕ) (xs : List ℕ) → count ≡ length xs → count ≡ 0 → xs ≡ []
+none_counted count [] is none = refl
+none_counted count (x ∷ xs) is none = let h : length (x ∷ xs) ≡ 0 = sym is ∙ none in absurd (omega (arith, h))
+
+-- no turn was made yet
+pub made_none : {B : Type 0} (a : Caller B) (r : Running) (l : Option (List WorldCall)) → Made rested 0 a a r r l l
+made_none a r l = record { moves = moves_none a; told = λ log since. since }
+
+module _ {B : Type 0} (turns : ℕ) (a : Caller B) (before : Running) (l : Option (List WorldCall)) where
+  -- a part without an entry of a turn
+  pub made_then : (reach : Reach) (b c : Caller B) (r : Running) (m : Option (List WorldCall)) → (p : Moves b c) × (has_no_turn p.since ≡ true) → Made reach turns a b before r l m → Made reach turns a c before r l m
+  made_then reach b c r m p x = record {
+    moves = moves_trans a b c x.moves p.0;
+    told = λ log since.
+        runs_behind longest_slice turns 0 log m reach (known_by_owner b.alone) (known_by_owner c.alone) r (moves_go_on b c p.0) (ap has_no_turn (own_all p.0.since (session_seats p.0.since p.0.of_session)) ∙ p.1) (x.told log since);
+  }
+
+  module _ (b : Caller B) (r : Running) (m : Option (List WorldCall)) where
+    -- nothing is ready any more
+    pub made_delivered : ready b.alone.setting (past_of b.alone.seen) ≡ [] → Made turned turns a b before r l m → Made delivered turns a b before r l m
+    made_delivered none x = record {
+      moves = x.moves;
+      told = λ log since. runs_delivered longest_slice turns 0 log m (known_by_owner b.alone) r none (x.told log since);
+    }
+
+    -- a request is pending
+    pub made_following : (count : ℕ) (c : Owned) → CountsPending count b.alone c → count ≢ 0 → Made rested turns a b before r l m → Made following turns a (record b { alone = c }) before r l m
+    made_following count c counts some x =
+        subst (λ o. Made following turns a (record b { alone = o }) before r l m) (sym counts.same) (record {
+          moves = x.moves;
+          told = λ log since.
+              runs_following longest_slice turns 0 log m (known_by_owner b.alone) r (some_counted count (pending b.alone.setting (past_of b.alone.seen)) counts.count_is some) (x.told log since);
+        })
+
+    -- one turn more
+    pub made_turned : (c : Owned) (s : Running) (n : Option (List WorldCall)) (answer : Turned) → (goes : Goes (MakesTurn answer) (run_of (known_by_owner b.alone) r m) (run_of (known_by_owner c) s n)) → s.reading ≡ answer.reading →
+        Made following turns a b before r l m → Made turned (turns + 1) a (record b { alone = c }) before s l n
+    made_turned c s n answer goes read x = record {
+      moves = moves_trans a b (record b { alone = c }) x.moves (moves_turn b c goes.goes_on goes.made);
+      told = λ log since. runs_turned longest_slice turns 0 log m (known_by_owner b.alone) (known_by_owner c) r s n answer goes read (x.told log since);
+    }
+
+    -- a pause
+    pub made_paused : (c : Owned) (s : Running) (broken : Bool) (n : Option (List WorldCall)) (answer : Paused) → 1 ≤ turns →
+        PausesBy (min (r.reading + longest_slice) (2 ^ 64 - 1)) answer (known_by_owner b.alone) (known_by_owner c) m n → s ≡ record r { broken = broken } →
+        Made delivered turns a b before r l m → Made rested turns a (record b { alone = c }) before s l n
+    made_paused c s broken n answer some pauses is x = record {
+      moves = subst (λ o. Moves a (record b { alone = o })) (sym (paused_same _ answer b.alone c m n pauses)) x.moves;
+      told = λ log since. runs_paused longest_slice turns 0 log m (known_by_owner b.alone) (known_by_owner c) r s broken n answer some pauses is (x.told log since);
+    }
+
+    -- what a run of turns is, as a course
+    pub made_course : (reach : Reach) → Made reach turns a b before r l m → (log : Option (List WorldCall)) → RunsSince longest_slice 0 0 rested (known_by_owner a.alone) before log l →
+        LogGets (λ calls. IsTurnOwner (known_by_owner b.alone) → IsCourse b.alone.setting 0 longest_slice b.alone.seen calls turns 0) log m
+    made_course reach x log since =
+        told_as (λ calls. IsTurnOwner (known_by_owner b.alone) → IsUnderWay longest_slice turns 0 reach (known_by_owner b.alone) r calls)
+        (λ calls. IsTurnOwner (known_by_owner b.alone) → IsCourse b.alone.setting 0 longest_slice b.alone.seen calls turns 0)
+        (λ calls way owner. (way owner).course) log m (x.told log since)
+
+-- ---- logs that go on, and the servers that are set
+
+-- a part of a turn
+pub grows_told : (kind : List WorldCall → Type 0) (old new : Option (List WorldCall)) → LogGets kind old new → Grows old new
+grows_told kind old new gets = told_as kind (λ calls. ⊤) (λ calls any. tt) old new gets
+
+-- a pause
+pub grows_paused : (latest : ℕ) (answer : Paused) (x y : Owned) (m n : Option (List WorldCall)) → PausesBy latest answer (known_by_owner x) (known_by_owner y) m n → Grows m n
+grows_paused latest Skipped x y m n pauses = subst (Grows m) (sym pauses.no_call) (grows_none m)
+grows_paused latest Woken x y m n pauses = told_by (λ calls. ⊤) _ tt m n pauses.waits
+grows_paused latest WaitFault x y m n pauses = told_by (λ calls. ⊤) _ tt m n pauses.waits
+
+module _ {B : Type 0} (later left : Option (List ServerAddr)) (turns : ℕ) (a b : Caller B) (before : Running) (l m : Option (List WorldCall)) where
+  -- a count left them as they were
+  pub then_counted : (count : ℕ) (c : Owned) → CountsPending count b.alone c → Then later left turns a b before l m → Then later left turns a (record b { alone = c }) before l m
+  then_counted count c counts t = subst (λ o. Then later left turns a (record b { alone = o }) before l m) (sym counts.same) t
+
+  -- and so did a pause
+  pub then_paused : (latest : ℕ) (answer : Paused) (c : Owned) (n : Option (List WorldCall)) → PausesBy latest answer (known_by_owner b.alone) (known_by_owner c) m n → Then later left turns a b before l m →
+      Then later left turns a (record b { alone = c }) before l n
+  then_paused latest answer c n pauses t =
+      subst (λ o. Then later left turns a (record b { alone = o }) before l n) (sym (paused_same latest answer b.alone c m n pauses))
+      (then_more later a before l left turns b b m n (moves_none b) refl (grows_paused latest answer b.alone c m n pauses) t)
+
+  -- a turn that was cut short sets none
+  pub most_cut : (c : Owned) (r u : Running) (n : Option (List WorldCall)) → (stops : Stops IsCutShort (run_of (known_by_owner b.alone) r m) (run_of (known_by_owner c) u n)) → Then later left turns a b before l m →
+      has_servers a.alone.seen ≡ false → SetsAtMost c.setting later c.seen
+  most_cut c r u n stops t unset =
+      (sets_more later a before l turns turns b (record b { alone = c }) m n (moves_turn b c stops.goes_on stops.made) (λ z. z) (turn_unset b c stops.goes_on stops.made) (grows_told _ m n stops.told) t.sets).at_most unset
+
+  -- nor does a whole one
+  pub most_turned : (c : Owned) (r u : Running) (n : Option (List WorldCall)) (answer : Turned) → (goes : Goes (MakesTurn answer) (run_of (known_by_owner b.alone) r m) (run_of (known_by_owner c) u n)) → Then later left turns a b before l m →
+      has_servers a.alone.seen ≡ false → SetsAtMost c.setting later c.seen
+  most_turned c r u n answer goes t unset =
+      (sets_more later a before l turns turns b (record b { alone = c }) m n (moves_turn b c goes.goes_on goes.made) (λ z. z) (turn_unset b c goes.goes_on goes.made) (grows_told _ m n goes.told) t.sets).at_most unset
+
+  -- behind one those were set that were left
+  pub then_turned : (c d : Owned) (r u : Running) (n : Option (List WorldCall)) (answer : Turned) (done : Unit {0}) → (goes : Goes (MakesTurn answer) (run_of (known_by_owner b.alone) r m) (run_of (known_by_owner c) u n)) →
+      Made turned (turns + 1) a (record b { alone = c }) before u l n → SetsLater left (Ok done) c d → Then later left turns a b before l m → Then later None (turns + 1) a (record b { alone = d }) before l n
+  then_turned c d r u n answer done goes x set t =
+      then_set later a before l left turns b (record b { alone = c }) m n (moves_turn b c goes.goes_on goes.made) (turn_unset b c goes.goes_on goes.made) (grows_told _ m n goes.told) t
+      (made_course (turns + 1) a before l (record b { alone = c }) u n turned x) d done set
+
+-- ---- how the turns come to their end
+
+-- what was done, whatever the end
+module _ {B : Type 0} (later : Option (List ServerAddr)) (most : ℕ) (result : Result LoopEnd NoMemory) (a b : Caller B) (before : Running) (l m : Option (List WorldCall)) where
+  ends_by : Moves a b → LeavesPending b.alone.setting result (past_of b.alone.seen) → (has_servers a.alone.seen ≡ false → SetsAtMost b.alone.setting later b.alone.seen) →
+      ((log : Option (List WorldCall)) → RunsSince longest_slice 0 0 rested (known_by_owner a.alone) before log l → has_servers a.alone.seen ≡ false →
+      LogGets (λ calls. IsTurnOwner (known_by_owner b.alone) → FallsIntoTurns later most result b.alone calls) log m) → MakesTurns later most result a b before l m
+  ends_by moves left sets told = record {
+    setting = moves.setting;
+    hand = moves.hand;
+    kept = moves_kept a b moves;
+    unclosed = λ was. ap (list_all is_of_session) moves.seen ∙ list_all-append is_of_session a.alone.seen moves.since
+        ∙ and_from (list_all is_of_session a.alone.seen) (list_all is_of_session moves.since) was moves.of_session;
+    asked = ap (accepted_for 0) moves.seen ∙ accepted_parts 0 a.alone.seen moves.since ∙ ap (λ xs. accepted_for 0 a.alone.seen ++ xs) moves.asked_none ∙ append-nil (accepted_for 0 a.alone.seen);
+    left = left;
+    sets = sets;
+    told = told;
+  }
+
+module _ {B : Type 0} (later left : Option (List ServerAddr)) (most turns : ℕ) (a b : Caller B) (before r : Running) (l m : Option (List WorldCall)) where
+  -- the turns were made, and this shows how they ended
+  ends_ok : (end : LoopEnd) → turns ≤ most → Made rested turns a b before r l m → Then later left turns a b before l m → LeavesPending b.alone.setting (Ok end) (past_of b.alone.seen) →
+      ((calls : List WorldCall) → IsUnderWay longest_slice turns 0 rested (known_by_owner b.alone) r calls → ShowsEnd most end b.alone turns calls) → MakesTurns later most (Ok end) a b before l m
+  ends_ok end few x t left_is shows = ends_by later most (Ok end) a b before l m x.moves left_is t.sets.at_most (λ log since unset.
+      told_as
+      (λ calls. (IsTurnOwner (known_by_owner b.alone) → IsUnderWay longest_slice turns 0 rested (known_by_owner b.alone) r calls)
+      × (IsTurnOwner (known_by_owner b.alone) → SetsBehindFirst b.alone.setting later turns b.alone.seen calls))
+      (λ calls. IsTurnOwner (known_by_owner b.alone) → FallsIntoTurns later most (Ok end) b.alone calls)
+      (λ calls both owner. (turns, few, (both.0 owner).course, both.1 owner, shows calls (both.0 owner))) log m
+      (told_both (λ calls. IsTurnOwner (known_by_owner b.alone) → IsUnderWay longest_slice turns 0 rested (known_by_owner b.alone) r calls)
+      (λ calls. IsTurnOwner (known_by_owner b.alone) → SetsBehindFirst b.alone.setting later turns b.alone.seen calls) log m (x.told log since) (t.sets.told log since unset)))
+
+  -- nothing is pending
+  pub ends_completed : (count : ℕ) (c : Owned) → turns ≤ most → ready b.alone.setting (past_of b.alone.seen) ≡ [] → CountsPending count b.alone c → count ≡ 0 → Made rested turns a b before r l m → Then later left turns a b before l m →
+      MakesTurns later most (Ok Completed) a (record b { alone = c }) before l m
+  ends_completed count c few none counts nothing x t =
+      subst (λ o. MakesTurns later most (Ok Completed) a (record b { alone = o }) before l m) (sym counts.same)
+      (ends_ok Completed few x t (none, none_counted count (pending b.alone.setting (past_of b.alone.seen)) counts.count_is nothing) (λ calls way. tt))
+
+  -- all turns were made, and a request is pending
+  pub ends_stalled : (count : ℕ) (c : Owned) → turns ≡ most → ready b.alone.setting (past_of b.alone.seen) ≡ [] → CountsPending count b.alone c → count ≢ 0 → Made rested turns a b before r l m → Then later left turns a b before l m →
+      MakesTurns later most (Ok Stalled) a (record b { alone = c }) before l m
+  ends_stalled count c all none counts counted x t =
+      let some = some_counted count (pending b.alone.setting (past_of b.alone.seen)) counts.count_is counted in
+      subst (λ o. MakesTurns later most (Ok Stalled) a (record b { alone = o }) before l m) (sym counts.same)
+      (ends_ok Stalled (omega (arith, all)) x t (none, some)
+      (λ calls way. (all, subst (λ n. IsStalledBehind b.alone.setting 0 longest_slice n b.alone.seen calls) all (way_stalls longest_slice turns rested (known_by_owner b.alone) r calls some way))))
+
+  -- a wait failed
+  pub ends_failed : (c : Owned) (s : Running) (broken : Bool) (n : Option (List WorldCall)) → 1 ≤ turns → turns ≤ most → ready b.alone.setting (past_of b.alone.seen) ≡ [] →
+      HasWaited (min (r.reading + longest_slice) (2 ^ 64 - 1)) NotWaited (known_by_owner b.alone) (known_by_owner c) m n → s ≡ record r { broken = broken } →
+      Made delivered turns a b before r l m → Then later left turns a (record b { alone = c }) before l n → MakesTurns later most (Ok WaitFailed) a (record b { alone = c }) before l n
+  ends_failed c s broken n some few none waited is x t =
+      let latest : ℕ = min (r.reading + longest_slice) (2 ^ 64 - 1) in
+      let same : c ≡ b.alone = paused_same latest WaitFault b.alone c m n waited in
+      ends_by later most (Ok WaitFailed) a (record b { alone = c }) before l n
+      (subst (λ o. Moves a (record b { alone = o })) (sym same) x.moves)
+      (subst (λ o. ready o.setting (past_of o.seen) ≡ []) (sym same) none, waited_pending latest NotWaited b.alone c m n waited)
+      t.sets.at_most
+      (λ log since unset.
+      let way = runs_paused longest_slice turns 0 log m (known_by_owner b.alone) (known_by_owner c) r s broken n WaitFault some waited is (x.told log since) in
+      let failed = runs_failed (λ calls. IsTurnOwner (known_by_owner b.alone) → IsUnderWay longest_slice turns 0 delivered (known_by_owner b.alone) r calls) latest (known_by_owner b.alone) (known_by_owner c) log m n (x.told log since) waited in
+      told_as
+      (λ calls. ((IsTurnOwner (known_by_owner c) → IsUnderWay longest_slice turns 0 rested (known_by_owner c) s calls) × LastWaitFailed calls)
+      × (IsTurnOwner (known_by_owner c) → SetsBehindFirst c.setting later turns c.seen calls))
+      (λ calls. IsTurnOwner (known_by_owner c) → FallsIntoTurns later most (Ok WaitFailed) c calls)
+      (λ calls both owner. (turns, few, (both.0.0 owner).course, both.1 owner, both.0.1)) log n
+      (told_both
+      (λ calls. (IsTurnOwner (known_by_owner c) → IsUnderWay longest_slice turns 0 rested (known_by_owner c) s calls) × LastWaitFailed calls)
+      (λ calls. IsTurnOwner (known_by_owner c) → SetsBehindFirst c.setting later turns c.seen calls) log n
+      (told_both (λ calls. IsTurnOwner (known_by_owner c) → IsUnderWay longest_slice turns 0 rested (known_by_owner c) s calls) LastWaitFailed log n way failed)
+      (t.sets.told log since unset)))
+
+  -- want of memory cut a turn short
+  pub ends_cut : (result : Result LoopEnd NoMemory) (c : Owned) (s : Running) (n : Option (List WorldCall)) → is_err result ≡ true → turns + 1 ≤ most →
+      (stops : Stops IsCutShort (run_of (known_by_owner b.alone) r m) (run_of (known_by_owner c) s n)) → (has_servers a.alone.seen ≡ false → SetsAtMost c.setting later c.seen) →
+      Made following turns a b before r l m → MakesTurns later most result a (record b { alone = c }) before l n
+  ends_cut (Ok end) c s n err few stops sets x = absurd (cc err)
+  ends_cut (Err fault) c s n err few stops sets x =
+      ends_by later most (Err fault) a (record b { alone = c }) before l n
+      (moves_trans a b (record b { alone = c }) x.moves (moves_turn b c stops.goes_on stops.made)) tt sets
+      (λ log since unset. ran_at_most longest_slice (turns + 1) most 0 (known_by_owner c) log n few (runs_cut longest_slice turns 0 log m (known_by_owner b.alone) (known_by_owner c) r s n stops (x.told log since)))
+
+  -- or it came where the later servers were to be set
+  pub ends_unset : (result : Result LoopEnd NoMemory) (ls : Option (List ServerAddr)) (set_result : Result (Unit {0}) NoMemory) (c : Owned) → is_err result ≡ true → is_err set_result ≡ true → turns ≤ most → SetsLater ls set_result b.alone c → (has_servers a.alone.seen ≡ false → SetsAtMost b.alone.setting later b.alone.seen) →
+      Made turned turns a b before r l m → MakesTurns later most result a (record b { alone = c }) before l m
+  ends_unset (Ok end) ls set_result c err failed few set sets x = absurd (cc err)
+  ends_unset (Err fault) ls set_result c err failed few set sets x =
+      subst (λ o. MakesTurns later most (Err fault) a (record b { alone = o }) before l m) (sym (same ls set_result failed set))
+      (ends_by later most (Err fault) a b before l m x.moves tt sets
+      (λ log since unset. ran_at_most longest_slice turns most 0 (known_by_owner b.alone) log m few (ran_so_far longest_slice turns 0 log m turned (known_by_owner b.alone) r (x.told log since))))
+    where
+      same : (ls : Option (List ServerAddr)) (set_result : Result (Unit {0}) NoMemory) → is_err set_result ≡ true → SetsLater ls set_result b.alone c → c ≡ b.alone
+      same None set_result failed set = set
+      same (Some addresses) (Ok done) failed set = absurd (cc failed)
+      same (Some addresses) (Err fault) failed set = set
+
+  -- or to a pause
+  pub ends_unpaused : (result : Result LoopEnd NoMemory) (c : Owned) (n : Option (List WorldCall)) → is_err result ≡ true → turns ≤ most →
+      HasLooked (known_by_owner b.alone) (known_by_owner c) × (n ≡ m) → (has_servers a.alone.seen ≡ false → SetsAtMost b.alone.setting later b.alone.seen) → Made delivered turns a b before r l m → MakesTurns later most result a (record b { alone = c }) before l n
+  ends_unpaused (Ok end) c n err few looked sets x = absurd (cc err)
+  ends_unpaused (Err fault) c n err few looked sets x =
+      let same : c ≡ b.alone = looked_same b.alone c looked.0 in
+      ends_by later most (Err fault) a (record b { alone = c }) before l n
+      (subst (λ o. Moves a (record b { alone = o })) (sym same) x.moves) tt
+      (λ unset. subst (λ o. SetsAtMost o.setting later o.seen) (sym same) (sets unset))
+      (λ log since unset. ran_at_most longest_slice turns most 0 (known_by_owner c) log n few (runs_unpaused longest_slice turns 0 log m (known_by_owner b.alone) (known_by_owner c) r n looked (x.told log since)))

@@ -1,0 +1,191 @@
+-- How a run comes to its promise: by its words, and by the files that it reads.
+use Rattle.std.proofs.Common.{◌≡◌, ◌≢◌, ℕ, ◌≤◌, List, [], length, nat_lt, refl, sym, subst, ◌∙◌, inr, arith, ltb-true, ltb-false}
+use Rattle.std.specs.Prelude.{Bool, Err, IfSome, None, Ok, Option, Result, Some, false, true}
+use Rattle.std.specs.String.{string_bytes}
+use Rattle.chan_types.specs.Plans.{Plan}
+use Rattle.hosts_file.specs.declared.hosts.HostLine.{HostLine}
+use Rattle.net_addr.specs.declared.addr.Addr.{Addr}
+use Rattle.net_world.specs.Files.{IsReadOf}
+use Rattle.net_world.specs.declared.answers.FileRead.{FileRead}
+use Rattle.net_world.specs.declared.answers.FileRead.TheVariants.{Absent, Content, Failed as NotRead, Large}
+use Rattle.resolv_options.specs.Values.{OptionValues}
+use Rattle.tool_line.specs.Ahost.{AhostAsks, IsSaid}
+use Rattle.tool_line.specs.Files.{hosts_of, options_set}
+use Rattle.tool_line.specs.Lookup.{Lookup, lookup}
+use Rattle.tool_line.specs.Outside.{FilesTold, Outside}
+use Rattle.tool_line.specs.Settings.{AreSetBy, SettingValues}
+use Rattle.tool_line.specs.Words.{Text}
+use Rattle.tool_line.specs.declared.ahost.AhostAsk.{AhostAsk}
+use Rattle.tool_line.specs.declared.ahost.Load.{Load}
+use Rattle.tool_line.specs.declared.ending.Exit.TheVariants.{FileFault}
+use Rattle.tool_line.specs.declared.files.FileFault.{FileFault as FaultOfFile}
+use Rattle.tool_line.specs.declared.files.FileFault.TheVariants.{Failed, NoMemory as NoMemoryLeft, TooLarge}
+use Rattle.tool_line.specs.declared.switches.Switches.{Switches}
+use Rattle.ahost_tool.specs.Asked.{Asked, asked_of}
+use Rattle.ahost_tool.specs.Promise.{Promise}
+use Rattle.ahost_tool.specs.Running.{Comes, EndsEarly, IsRunFor, IsServed, count_names}
+use Rattle.ahost_tool.specs.Setting.{GivesHosts, GivesSetting, IsSettingOf, ReadsFile}
+use Rattle.ahost_tool.specs.declared.ended.Ended.{Ended}
+use Rattle.ahost_tool.specs.declared.reporting.Report.TheVariants.{Page}
+use Rattle.ahost_tool.proofs.PromiseLemmas.{promise_early}
+
+-- ---- words ask one thing
+
+some_same : {A : Type 0} (x y : A) → Some x ≡ Some y → x ≡ y
+some_same x y is = cc
+
+-- settings that are set by the same words are the same
+same_settings : (under : Lookup) (a b : SettingValues) → AreSetBy under a → AreSetBy under b → a ≡ b
+same_settings under a b x y =
+    fields a.servers b.servers a.port b.port a.timeout b.timeout a.tries b.tries a.sources b.sources a.switches b.switches
+    (some_same a.servers b.servers (sym x.servers ∙ y.servers)) (some_same a.port b.port (sym x.port ∙ y.port)) (some_same a.timeout b.timeout (sym x.timeout ∙ y.timeout))
+    (some_same a.tries b.tries (sym x.tries ∙ y.tries)) (some_same a.sources b.sources (sym x.sources ∙ y.sources)) (x.switches ∙ sym y.switches)
+  where
+    fields : (s1 s2 : Option (List Addr)) (p1 p2 t1 t2 r1 r2 : Option ℕ) (u1 u2 : Option (List Addr)) (w1 w2 : Switches) → s1 ≡ s2 → p1 ≡ p2 → t1 ≡ t2 → r1 ≡ r2 → u1 ≡ u2 → w1 ≡ w2 →
+        ◌≡◌ {A = SettingValues} (record { servers = s1; port = p1; timeout = t1; tries = r1; sources = u1; switches = w1 })
+        (record { servers = s2; port = p2; timeout = t2; tries = r2; sources = u2; switches = w2 })
+    fields s1 s2 p1 p2 t1 t2 r1 r2 u1 u2 w1 w2 a b c d e f = cc
+
+-- the same uses
+same_uses : (words : List Text) (a b : AhostAsk) (x : AhostAsks words a) (y : AhostAsks words b) → x.uses ≡ y.uses
+same_uses words a b x y = some_same x.uses y.uses (sym x.are ∙ y.are)
+
+-- words ask for one load
+same_load_asked : (words : List Text) (a b : AhostAsk) → AhostAsks words a → AhostAsks words b → a.load ≡ b.load
+same_load_asked words a b x y =
+    let says : IsSaid (lookup y.uses) a = subst (λ us. IsSaid (lookup us) a) (same_uses words a b x y) x.say in
+    some_same a.load b.load (sym says.load ∙ y.say.load)
+
+-- what holds of the load that is asked for holds of it whatever the words ask
+pub same_load : (holds : Load → Type 0) (words : List Text) (a b : AhostAsk) → AhostAsks words a → AhostAsks words b → IfSome a.load holds → IfSome b.load holds
+same_load holds words a b x y = subst (λ l. IfSome l holds) (same_load_asked words a b x y)
+
+-- and where the words ask for none, none is asked for
+pub same_none : (words : List Text) (a b : AhostAsk) → AhostAsks words a → AhostAsks words b → b.load ≡ None → a.load ≡ None
+same_none words a b x y none = same_load_asked words a b x y ∙ none
+
+-- a run for what is asked is one for whatever the words ask
+pub same_run : (words : List Text) (plans : List Plan) (a b : AhostAsk) (turns : ℕ) (ended : Ended) (files_before files_after : FilesTold) (before after : Outside) → AhostAsks words a → AhostAsks words b →
+    IsRunFor a plans turns ended files_before files_after before after → IsRunFor b plans turns ended files_before files_after before after
+same_run words plans a b turns ended files_before files_after before after x y run =
+    let says : IsSaid (lookup y.uses) a = subst (λ us. IsSaid (lookup us) a) (same_uses words a b x y) x.say in
+    let resolv : string_bytes a.resolv ≡ string_bytes b.resolv = some_same _ _ (sym says.resolv ∙ y.say.resolv) in
+    let hosts : string_bytes a.hosts ≡ string_bytes b.hosts = some_same _ _ (sym says.hosts ∙ y.say.hosts) in
+    let settings : a.settings ≡ b.settings = same_settings (lookup y.uses) a.settings b.settings says.settings y.say.settings in
+    let specs : a.specs ≡ b.specs = some_same _ _ (sym says.specs ∙ y.say.specs) in
+    let orders : a.orders ≡ b.orders = says.orders ∙ sym y.say.orders in
+    let later : a.later ≡ b.later = some_same _ _ (sym says.later ∙ y.say.later) in
+    record {
+      setting = run.setting;
+      read =
+          subst (λ p. IsSettingOf p (string_bytes b.hosts) b.settings run.setting files_before files_after) resolv
+          (subst (λ p. IsSettingOf (string_bytes a.resolv) p b.settings run.setting files_before files_after) hosts
+          (subst (λ v. IsSettingOf (string_bytes a.resolv) (string_bytes a.hosts) v run.setting files_before files_after) settings run.read));
+      comes =
+          subst (λ s. Comes (asked_of Page s plans b.orders b.later) turns run.setting ended before after) specs
+          (subst (λ o. Comes (asked_of Page a.specs plans o b.later) turns run.setting ended before after) orders
+          (subst (λ l. Comes (asked_of Page a.specs plans a.orders l) turns run.setting ended before after) later run.comes));
+    }
+
+-- and what is served of it is so
+pub same_served : (words : List Text) (bodies : ℕ) (a b : AhostAsk) → AhostAsks words a → AhostAsks words b → IsServed bodies b → IsServed bodies a
+same_served words bodies a b x y served =
+    let says : IsSaid (lookup y.uses) a = subst (λ us. IsSaid (lookup us) a) (same_uses words a b x y) x.say in
+    let specs : a.specs ≡ b.specs = some_same _ _ (sym says.specs ∙ y.say.specs) in
+    record {
+      one_thread = some_same a.workers b.workers (sym says.workers ∙ y.say.workers) ∙ served.one_thread;
+      enough =
+          subst (λ l. count_names l a.specs ≤ bodies) (sym (same_load_asked words a b x y))
+          (subst (λ s. count_names b.load s ≤ bodies) (sym specs) served.enough);
+    }
+
+-- by a test of it
+module _ (bodies count : ℕ) (a : AhostAsk) (test : Bool) (count_is : count ≡ bodies) where
+  pub served_so : (test ≡ true → IsServed count a) → test ≡ true → IsServed bodies a
+  served_so tests holds = subst (λ n. IsServed n a) count_is (tests holds)
+
+  -- what isn't served isn't what the words ask either
+  pub unserved : (words : List Text) (b : AhostAsk) → AhostAsks words a → AhostAsks words b → (IsServed count a → test ≡ true) → test ≡ false → IsServed bodies b → ⊥
+  unserved words b x y tests fails served =
+      let holds : test ≡ true = tests (subst (λ n. IsServed n a) (sym count_is) (same_served words bodies a b x y served)) in
+      let h : true ≡ false = sym holds ∙ fails in absurd (cc h)
+
+-- ---- want of memory before there is a channel
+
+-- some answer of a read fits, which is no failure
+some_read : (files : FilesTold) (after : FilesTold) (path : Text) (most : ℕ) → (file : FileRead) × ReadsFile path most file files after
+some_read files after path most = by files.files refl
+  where
+    of_told : (told : List ℕ → Option (List ℕ)) (found : Option (List ℕ)) → told path ≡ found → (file : FileRead) × IsReadOf (Some told) path most file × (file ≢ NotRead)
+    of_told told None is = (Absent, is, λ e. absurd (cc e))
+    of_told told (Some bytes) is = sized (nat_lt most (length bytes)) refl
+      where
+        sized : (large : Bool) → nat_lt most (length bytes) ≡ large → (file : FileRead) × IsReadOf (Some told) path most file × (file ≢ NotRead)
+        sized true more = (Large, rw is (ltb-true most (length bytes) more), λ e. absurd (cc e))
+        sized false fits = (Content bytes, (ltb-false most (length bytes) fits, is), λ e. absurd (cc e))
+
+    by : (f : Option (List ℕ → Option (List ℕ))) → files.files ≡ f → (file : FileRead) × ReadsFile path most file files after
+    by None is = (Absent, record { read = subst (λ x. IsReadOf x path most Absent) (sym is) tt; fault = λ e. absurd (cc e) })
+    by (Some told) is =
+        let found = of_told told (told path) refl in
+        (found.0, record { read = subst (λ x. IsReadOf x path most found.0) (sym is) found.1; fault = λ e. absurd (found.2 e) })
+
+-- nothing was put, with status 5
+nothing_put : (outside : Outside) → EndsEarly FileFault (record { status = 5; journal = []; calls = [] }) outside outside
+nothing_put outside = record {
+  no_journal = refl;
+  no_calls = refl;
+  no_traffic = refl;
+  put = record { told = inr (inr (refl, refl)); counted = omega arith };
+}
+
+early_comes : (asked : Asked) (turns : ℕ) (setting : Result (OptionValues × List HostLine) FaultOfFile) (outside : Outside) → Comes asked turns setting (record { status = 5; journal = []; calls = [] }) outside outside
+early_comes asked turns (Ok setting) outside = promise_early asked (record { options = setting.0; hosts = setting.1 }) turns outside
+early_comes asked turns (Err fault) outside = nothing_put outside
+
+-- a run that wanted memory before it had its setting, or behind that
+pub early_run : (ask : AhostAsk) (plans : List Plan) (turns : ℕ) (files_before files_after : FilesTold) (outside : Outside) → IsRunFor ask plans turns (record { status = 5; journal = []; calls = [] }) files_before files_after outside outside
+early_run ask plans turns files_before files_after outside =
+    let resolv = some_read files_before files_after (string_bytes ask.resolv) 65536 in
+    let found = of_options (options_set ask.settings resolv.0) in
+    record {
+      setting = found.0;
+      read = (resolv.0, resolv.1, found.1);
+      comes = early_comes (asked_of Page ask.specs plans ask.orders ask.later) turns found.0 outside;
+    }
+  where
+    of_hosts : (options : OptionValues) (file : FileRead) → ReadsFile (string_bytes ask.hosts) 4194304 file files_before files_after → (lines : Result (List HostLine) FaultOfFile) → hosts_of file ≡ lines →
+        (setting : Result (OptionValues × List HostLine) FaultOfFile) × GivesHosts (string_bytes ask.hosts) options setting files_before files_after
+    of_hosts options file reads (Ok lines) is = (Ok (options, lines), (refl, (file, reads, is)))
+    of_hosts options file reads (Err fault) is = (Err fault, (file, reads, is))
+
+    of_options : (options : Result OptionValues FaultOfFile) → (setting : Result (OptionValues × List HostLine) FaultOfFile) × GivesSetting (string_bytes ask.hosts) options setting files_before files_after
+    of_options (Ok options) =
+        let hosts = some_read files_before files_after (string_bytes ask.hosts) 4194304 in
+        of_hosts options hosts.0 hosts.1 (hosts_of hosts.0) refl
+    of_options (Err fault) = (Err fault, refl)
+
+-- ---- files that were read, by their paths as they were passed
+
+module _ (ask : AhostAsk) (plans : List Plan) (turns : ℕ) (ended : Ended) (files_before files_after : FilesTold) (before after : Outside) (resolv hosts : Text) (resolv_is : resolv ≡ string_bytes ask.resolv) (hosts_is : hosts ≡ string_bytes ask.hosts) where
+  read_for : (setting : Result (OptionValues × List HostLine) FaultOfFile) → IsSettingOf resolv hosts ask.settings setting files_before files_after →
+      IsSettingOf (string_bytes ask.resolv) (string_bytes ask.hosts) ask.settings setting files_before files_after
+  read_for setting read =
+      subst (λ p. IsSettingOf p (string_bytes ask.hosts) ask.settings setting files_before files_after) resolv_is
+      (subst (λ p. IsSettingOf resolv p ask.settings setting files_before files_after) hosts_is read)
+
+  -- the run asked a channel with what they set
+  pub good_run : (options : OptionValues) (lines : List HostLine) → IsSettingOf resolv hosts ask.settings (Ok (options, lines)) files_before files_after →
+      Promise (asked_of Page ask.specs plans ask.orders ask.later) (record { options = options; hosts = lines }) turns ended before after → IsRunFor ask plans turns ended files_before files_after before after
+  good_run options lines read promise = record { setting = Ok (options, lines); read = read_for (Ok (options, lines)) read; comes = promise }
+
+  -- a file that can't be read ended the run
+  pub fault_run : (fault : FaultOfFile) → IsSettingOf resolv hosts ask.settings (Err fault) files_before files_after → EndsEarly FileFault ended before after → IsRunFor ask plans turns ended files_before files_after before after
+  fault_run fault read ends = record { setting = Err fault; read = read_for (Err fault) read; comes = ends }
+
+-- such a fault is no want of memory
+pub failed_apart : (fault : FaultOfFile) → fault ≡ Failed → fault ≢ NoMemoryLeft
+failed_apart fault is none = absurd (let h : Failed ≡ NoMemoryLeft = sym is ∙ none in cc)
+
+pub large_apart : (fault : FaultOfFile) → fault ≡ TooLarge → fault ≢ NoMemoryLeft
+large_apart fault is none = absurd (let h : TooLarge ≡ NoMemoryLeft = sym is ∙ none in cc)

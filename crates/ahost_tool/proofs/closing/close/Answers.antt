@@ -1,0 +1,5 @@
+use Rattle.ahost_tool.proofs.ClosingLemmas.{closes}
+use Rattle.ahost_tool.proofs.closing.close.Goals as goal
+
+pub returns : goal.returns
+returns g c = closes c.destroy.result _ _ _ c.requires.idle c.destroy.ensures.done c.deliver_all.ensures.delivers c.deliver_all.ensures.none_ready

@@ -1,0 +1,10 @@
+use Rattle.ahost_tool.proofs.LoadingLemmas.{early_load, load_run}
+use Rattle.ahost_tool.proofs.loading.load.Goals as goal
+
+-- the network was made
+pub returns : goal.returns
+returns g c = load_run c.args.load _ c.args.turns _ _ _ _ _ c.resolve.new.world _ _ c.in-Ok.ensures.0 c.in-Ok.ensures.1 c.in-Ok.ensures.2 c.empty.ensures c.resolve.ensures
+
+-- memory was wanting for it
+pub returns-in_default : goal.returns-in_default
+returns-in_default g c = rw (c.early.ensures, c.number.ensures) (early_load _ _ _ _)

@@ -1,0 +1,10 @@
+use Rattle.std.proofs.Common.{◌≡◌, length}
+use Rattle.ahost_tool.proofs.PerformLemmas.{HasPerformed}
+use Rattle.ahost_tool.proofs.performing.perform_all.Given as goal
+
+-- the commands so far were performed, and the orders are as they were
+abbrev pub invariant-loop-command : goal.invariant-loop-command
+invariant-loop-command g l = (l.hand.orders ≡ l.fn.hand.orders) × HasPerformed l.fn.hand.commands l.hand.commands l.fn.alone l.alone l.fn.lost l.lost
+
+abbrev pub decreases-loop-command : goal.decreases-loop-command
+decreases-loop-command g l = length l.hand.commands

@@ -1,0 +1,20 @@
+use Rattle.std.proofs.Common.{◌≤◌, ap, length, subst, ◌∙◌}
+use Rattle.ahost_tool.proofs.PromiseLemmas.{promise_early, promise_of}
+use Rattle.ahost_tool.proofs.resolving.resolve.Goals as goal
+
+-- the owner is idle behind the session
+pub close-requires : goal.close-requires
+close-requires g c = record { idle = c.session-loop_end.ensures.session.kept.0 }
+
+-- the channel was made
+pub returns : goal.returns
+returns g c =
+    rw c.close-journal.ensures
+    (promise_of _ _ _ _ _ _ _ _ _ (ap (λ caller. caller.alone.setting) c.in-Ok.ensures.1) (ap (λ caller. caller.hand.orders) c.in-Ok.ensures.1) c.session-loop_end.ensures.session c.close.ensures
+    (subst (λ options. 1 ≤ length options.servers) (c.known.view_is ∙ c.in-Ok.ensures.0) c.known.invariant.some_server)
+    (subst (λ options. 1 ≤ options.tries) (c.known.view_is ∙ c.in-Ok.ensures.0) c.known.invariant.some_try) _ _ _ _ _ _
+    c.end_of-end.ensures c.session-loop_end.ensures.wait_fault (rw (c.entries.ensures, c.close-journal.ensures) at c.tell-status.ensures))
+
+-- memory was wanting for it
+pub returns-in_default : goal.returns-in_default
+returns-in_default g c = rw (c.early.ensures, c.number.ensures) (promise_early _ _ _ _)

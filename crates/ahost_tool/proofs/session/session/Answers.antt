@@ -1,0 +1,21 @@
+use Rattle.std.proofs.Common.{ap}
+use Rattle.std.specs.Prelude.{is_err}
+use Rattle.ahost_tool.proofs.SessionLemmas.{begun, session_asked, session_refused, session_unasked, unbegun}
+use Rattle.ahost_tool.proofs.session.session.Goals as goal
+
+pub returns-in_err-runner-clause-session : goal.returns-in_err-runner-clause-session
+returns-in_err-runner-clause-session g c =
+    session_unasked _ _ _ c.args.caller.now _ _ c.from_residual.result c.requires.new c.from_residual.ensures.0
+    (unbegun c.args.caller.now c.requires.new _ _ c.args.options.now c.requires.options c.in_err-runner.ensures.opens)
+
+pub returns-in_err-accept_all-clause-session : goal.returns-in_err-accept_all-clause-session
+returns-in_err-accept_all-clause-session g c =
+    session_refused _ _ _ c.args.caller.now c.requires.new _ _ _ _ (rw c.into_vec.ensures at c.accept_all.ensures) c.in_ok-runner.runner
+    (begun c.args.caller.now c.requires.new _ _ c.args.options.now c.in_ok-runner.runner c.requires.options c.in_ok-runner.ensures.fresh c.in_ok-runner.ensures.opens)
+    c.from_residual-in_err-accept_all.result c.from_residual-in_err-accept_all.ensures.0 (ap is_err c.in_err-accept_all.was)
+
+pub returns-clause-session : goal.returns-clause-session
+returns-clause-session g c =
+    session_asked _ _ _ c.args.caller.now c.requires.new _ _ _ _ (rw c.into_vec.ensures at c.accept_all.ensures) c.in_ok-runner.runner
+    (begun c.args.caller.now c.requires.new _ _ c.args.options.now c.in_ok-runner.runner c.requires.options c.in_ok-runner.ensures.fresh c.in_ok-runner.ensures.opens)
+    c.make_turns.result _ _ _ c.in_ok-accept_all.was c.make_turns.ensures.turns

@@ -1,0 +1,70 @@
+-- How what is ready is delivered: it is taken, its callback is called, and what the callback commands is performed.
+use Rattle.std.specs.Prelude.{List, None, Option, Some, [], ◌++◌, ◌∷◌, ◌≡◌}
+use Rattle.chan_types.specs.Gives.{gives}
+use Rattle.chan_types.specs.Plans.{Plan}
+use Rattle.chan_types.specs.declared.orders.Orders.{Orders}
+use Rattle.chan_types.specs.declared.ticket.Ticket.{Ticket}
+use Rattle.channel_model.specs.Known.{Calls}
+use Rattle.channel_model.specs.Meanings.{Takes}
+use Rattle.channel_table.specs.Calling.{Owned, known_by_owner}
+use Rattle.completion_ticket.specs.States.{CallbackState, CalledState}
+use Rattle.hosts_file.specs.declared.hosts.Hosts.{Hosts}
+use Rattle.resolv_options.specs.declared.options.Options.{Options}
+use Rattle.ahost_tool.specs.Performing.{Performs}
+use Rattle.ahost_tool.specs.declared.caller.Caller.{Caller}
+
+-- the script of a callback
+abbrev pub plan_of : CallbackState → Plan
+plan_of callback = callback.plan
+
+-- a channel with these options and hosts before its first entry
+abbrev pub fresh : Options → Hosts → Owned
+fresh options hosts = record { setting = record { options = options; hosts = hosts }; voice = 0; seen = [] }
+
+-- its owner, whose callbacks go by these orders, before anything was called or lost
+abbrev pub fresh_caller : {B : Type 0} → Options → Hosts → Orders → Caller B
+fresh_caller options hosts orders =
+    record { alone = fresh options hosts; hand = record { orders = orders; commands = [] }; calls = []; lost = 0 }
+
+-- no command is on the way, and the owner speaks for himself
+pub record IsIdle {B : Type 0} (caller : Caller B) : Type 0 where
+  pub no_command : caller.hand.commands ≡ []
+  pub own_voice : caller.alone.voice ≡ 0
+
+-- a callback was told the answer of its request, which is noted: its commands are in the hand
+pub record Tells {B : Type 0} (ticket : Ticket CallbackState) (called : CalledState) (old new : Caller B) : Type 0 where
+  -- what is left of the callback has the request's number, and a body exactly where the callback had one
+  pub is_called : called ≡ record { number = ticket.call.number; boxed = ticket.token.boxed }
+  pub calls : new.calls ≡ old.calls ++ ticket.call ∷ []
+  pub gives_them : new.hand ≡ record old.hand { commands = gives ticket.token.plan ticket.call old.hand.orders }
+  pub channel : new.alone ≡ old.alone
+  pub lost : new.lost ≡ old.lost
+
+-- and then the commands that its script gives were performed, on that request's command
+pub record Spends {B : Type 0} (ticket : Ticket CallbackState) (called : CalledState) (old new : Caller B) : Type 0 where
+  pub is_called : called ≡ record { number = ticket.call.number; boxed = ticket.token.boxed }
+  pub calls : new.calls ≡ old.calls ++ ticket.call ∷ []
+  pub behind : Owned
+  pub performed : Performs (gives ticket.token.plan ticket.call old.hand.orders) (record old.alone { voice = ticket.call.number }) behind old.lost new.lost
+  pub channel : new.alone ≡ record behind { voice = 0 }
+  pub hand : new.hand ≡ old.hand
+
+-- the first ready request was taken, and its ticket spent; or none was ready, and all is as it was
+abbrev pub DeliversOne : {B : Type 0} → Option CalledState → Caller B → Caller B → Type 0
+DeliversOne (Some called) old new =
+    (ticket : Ticket CallbackState) × (taken : Owned) × Calls (Takes plan_of (Some ticket)) 0 (known_by_owner old.alone) (known_by_owner taken)
+    × Spends ticket called (record old { alone = taken }) new
+DeliversOne None old new =
+    Calls (Takes plan_of None) 0 (known_by_owner old.alone) (known_by_owner new.alone) × (new ≡ record old { alone = new.alone })
+
+-- ready requests were delivered one after the other, and this is left of their callbacks
+abbrev pub DeliversSome : {B : Type 0} → List CalledState → Caller B → Caller B → Type 0
+DeliversSome [] old new = new ≡ old
+DeliversSome {B} (called ∷ more) old new = (middle : Caller B) × DeliversOne (Some called) old middle × DeliversSome more middle new
+
+-- and then none was ready
+pub record DeliversAll {B : Type 0} (old new : Caller B) : Type 0 where
+  pub called : List CalledState
+  pub middle : Caller B
+  pub some : DeliversSome called old middle
+  pub none : DeliversOne None middle new

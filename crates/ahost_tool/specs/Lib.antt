@@ -1,0 +1,15 @@
+pub mod Kinds
+pub mod Weight
+pub mod Asked
+pub mod Performing
+pub mod Delivering
+pub mod Closing
+pub mod Session
+pub mod Summary
+pub mod Page
+pub mod Told
+pub mod Promise
+pub mod Ends
+pub mod Setting
+pub mod Loading
+pub mod Running

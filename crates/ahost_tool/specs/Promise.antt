@@ -1,0 +1,126 @@
+-- What a run promises: one journal orders what happened in its channel, and what it asked, sent, called and put follows from that journal.
+use Rattle.std.specs.List.{AllByRecursion, list_all}
+use Rattle.std.specs.Prelude.{IsTrue, List, None, Option, Some, [], count_by, length, map, ℕ, ◌*◌, ◌+◌, ◌<◌, ◌≡◌, ◌≢◌, ◌≤◌, ◌⊎◌}
+use mathlib.Core.List.{IsPrefix}
+use Rattle.chan_types.specs.declared.journal.Entry.{Entry}
+use Rattle.net_world.specs.Cause.{Rose}
+use Rattle.net_world.specs.declared.log.WorldCall.{WorldCall}
+use Rattle.channel_model.specs.Commands.{ObeysOrders, accepted_for, closing_position, past_at}
+use Rattle.channel_model.specs.Completion.{fate, occurrences, pending, ready, requests}
+use Rattle.channel_model.specs.Course.{IsCourse, IsCourseSoFar}
+use Rattle.channel_model.specs.CutShort.{NearlyAgrees}
+use Rattle.channel_model.specs.Endings.{LastWaitFailed, turns_in}
+use Rattle.channel_model.specs.Journal.{Past, accepted, is_destroy, past_of}
+use Rattle.channel_model.specs.Lawful.{IsLawful}
+use Rattle.channel_model.specs.Setting.{Setting}
+use Rattle.channel_model.specs.Stretch.{beginning}
+use Rattle.channel_model.specs.Traffic.{TrafficAgrees}
+use Rattle.channel_model.specs.Turn.{received_in}
+use Rattle.channel_progress.specs.Allowed.{attempts_allowed}
+use Rattle.channel_progress.specs.Waking.{NoWaitFailed, WakesInTime}
+use Rattle.event_runner.specs.UnderWay.{LogGets}
+use Rattle.net_addr.specs.declared.addr.ServerAddr.{ServerAddr}
+use Rattle.tool_line.specs.Outside.{GrowsBy, Outside, OutputTold}
+use Rattle.tool_line.specs.Put.{IsPut}
+use Rattle.tool_line.specs.declared.ending.Exit.{Exit}
+use Rattle.tool_line.specs.declared.ending.Exit.TheVariants.{Failure, FileFault, OutOfMemory, SinkFault, Stalled, Success, Usage, WaitFault}
+use Rattle.ahost_tool.specs.Asked.{Asked}
+use Rattle.ahost_tool.specs.Ends.{AreGood}
+use Rattle.ahost_tool.specs.Kinds.{is_ruled}
+use Rattle.ahost_tool.specs.Page.{report_of, text_at}
+use Rattle.ahost_tool.specs.Session.{SetsAtMost, SetsBehindFirst, longest_slice}
+use Rattle.ahost_tool.specs.declared.ended.Ended.{Ended}
+use Rattle.ahost_tool.specs.declared.reporting.Report.{Report}
+
+-- at this end every request has its answer, and the text is the report
+abbrev pub IsPageEnd : Exit → Type 0
+IsPageEnd end = (end ≡ Success) ⊎ (end ≡ Failure)
+
+-- the ends to which a run comes whose words are understood and whose files could be read
+abbrev pub IsRunEnd : Exit → Type 0
+IsRunEnd end = IsPageEnd end ⊎ (end ≡ WaitFault) ⊎ (end ≡ Stalled) ⊎ (end ≡ OutOfMemory)
+
+-- nothing is pending and nothing ready behind this past
+abbrev pub IsOver : Setting → Past → Type 0
+IsOver setting past = (pending setting past ≡ []) × (ready setting past ≡ [])
+
+-- the last position at which a command may be performed: where the text is the report, that of the closing Destroy, if a callback hasn't destroyed the channel; else the journal's end
+abbrev pub last_at : Exit → List Entry → ℕ
+last_at Success journal = closing_position journal
+last_at Failure journal = closing_position journal
+last_at Usage journal = length journal
+last_at FileFault journal = length journal
+last_at SinkFault journal = length journal
+last_at OutOfMemory journal = length journal
+last_at WaitFault journal = length journal
+last_at Stalled journal = length journal
+
+-- what a run that came to this end called of the network
+pub record IsTraffic (setting : Setting) (later : Option (List ServerAddr)) (turns : ℕ) (end : Exit) (journal : List Entry) (calls : List WorldCall) : Type 0 where
+  -- It made so many turns, which are not more than it may make, and in each it read the clock once.
+  pub made : ℕ
+  pub few : made ≤ turns
+  pub readings : turns_in calls ≡ made
+  -- Journal and calls fall into these turns: the servers of the setting are told before the first, nothing waits before it, and between two there is one wait, up to the first deadline, or none where there is something to do. Want of memory alone cuts this short.
+  pub course : end ≢ OutOfMemory → IsCourse setting 0 longest_slice journal calls made 0
+  -- The later servers, if there are some, are set behind the first turn and before the second, unless the channel was destroyed before that.
+  pub sets_behind : end ≢ OutOfMemory → SetsBehindFirst setting later made journal calls
+  pub course_so_far : IsCourseSoFar setting 0 longest_slice journal calls made 0
+  -- So what the journal notes of messages, queries, links and faults is what these calls tell; where memory was wanting, but for one call.
+  pub agrees : end ≢ OutOfMemory → TrafficAgrees setting 0 journal calls
+  pub nearly_agrees : NearlyAgrees setting 0 beginning journal calls
+  -- A run ends for a wait only where its last wait failed, and as stalled only where all turns were made.
+  pub last_wait : end ≡ WaitFault → LastWaitFailed calls
+  pub all_turns : end ≡ Stalled → made ≡ turns
+
+-- a run is given more turns than two for each attempt that its requests may spend, two for each request, and one for each item that was received, over a network that wakes in time and whose waits don't fail
+pub record IsGivenTime (setting : Setting) (turns : ℕ) (journal : List Entry) (calls : List WorldCall) : Type 0 where
+  pub enough : 2 * attempts_allowed setting journal + 2 * length (accepted (past_of journal)) + received_in calls < turns
+  pub wakes : WakesInTime calls
+  pub waited : NoWaitFailed calls
+
+-- the whole report was put, with exit status 0 or 1; or memory was wanting, with 5
+abbrev pub IsComplete : Report → Ended → OutputTold → OutputTold → Type 0
+IsComplete report ended before after =
+    (((ended.status ≡ 0) ⊎ (ended.status ≡ 1)) × GrowsBy before.bytes after.bytes (report_of report ended.journal ended.calls)) ⊎ (ended.status ≡ 5)
+
+-- what a run promises that asks this of a channel of this setting
+pub record Promise (asked : Asked) (setting : Setting) (turns : ℕ) (ended : Ended) (before after : Outside) : Type 0 where
+  -- How the run came to its end, before its text was put: the text is chosen by that, and the exit status.
+  pub end : Exit
+  pub ends : IsRunEnd end
+  -- One journal orders what happened: each of its entries may stand where it stands.
+  pub lawful : IsLawful setting ended.journal
+  -- All entries are of the channel's one seat, and none cancels that no callback commanded.
+  pub ruled : IsTrue (list_all is_ruled ended.journal)
+  -- The requests were accepted that were asked, in order, each with the script of its callback, unless memory was wanting; and no other but on a callback's command.
+  pub asked_all : end ≢ OutOfMemory → accepted_for 0 ended.journal ≡ asked.askings
+  pub asked_at_most : IsPrefix (accepted_for 0 ended.journal) asked.askings
+  -- What the callbacks of the taken requests command was performed, on their command and by the orders; where the text is the report, none of it behind the closing Destroy. Requests are lost only where memory was wanting.
+  pub lost : ℕ
+  pub obeyed : ObeysOrders setting ended.journal 1 asked.orders (last_at end ended.journal) lost
+  pub none_lost : end ≢ OutOfMemory → lost ≡ 0
+  -- The callback of each accepted request was called once, with its fate.
+  pub called_once : (request : ℕ) → occurrences request (map (λ answer. answer.number) ended.calls) ≡ occurrences request (requests (past_of ended.journal))
+  pub called_with_fates : AllByRecursion (λ answer. fate setting answer.number (past_of ended.journal) ≡ Some answer) ended.calls
+  -- Nothing is pending and nothing ready at the journal's end: what was accepted has completed, and was taken.
+  pub all_taken : IsOver setting (past_of ended.journal)
+  -- A channel that was made was destroyed once.
+  pub destroyed : ended.journal ≢ [] → count_by (λ entry. is_destroy entry.what) ended.journal ≡ 1
+  -- All requests ended well, or one otherwise.
+  pub success : end ≡ Success → AreGood ended.calls
+  pub failure : end ≡ Failure → ¬ AreGood ended.calls
+  -- Where the text is the report, or a beginning of it, nothing was cut short: nothing was pending and nothing ready at the closing Destroy.
+  pub finished : IsPageEnd end → IsOver setting (past_at ended.journal (closing_position ended.journal))
+  -- A run ends for a wait only where a wait of the network failed in it.
+  pub wait_fault : end ≡ WaitFault → Rose before.network.wait_faults after.network.wait_faults
+  -- It ends as stalled only where a request was pending at the closing Destroy, and all turns were made, which the network's calls tell.
+  pub stalled : end ≡ Stalled → pending setting (past_at ended.journal (closing_position ended.journal)) ≢ []
+  -- Servers were set at most once, on nobody's command, and then they are the later ones.
+  pub sets : SetsAtMost setting asked.later ended.journal
+  -- Where the network tells its calls, those of this run are its servers, turns and waits, and the journal notes what they tell.
+  pub traffic : LogGets (IsTraffic setting asked.later turns end ended.journal) before.network.log after.network.log
+  -- A run without later servers that is given time comes to its report, where the output doesn't fail in it, unless memory is wanting.
+  pub completes : asked.later ≡ None → LogGets (λ calls. IsGivenTime setting turns ended.journal calls → ¬ Rose before.output.faults after.output.faults → IsComplete asked.report ended before.output after.output) before.network.log after.network.log
+  -- The text was put, once, and the exit status is that of the end; 4 only where the output failed in this run, and 5 for want of memory.
+  pub put : IsPut (text_at asked.report ended.journal ended.calls end) end ended.status before.output after.output

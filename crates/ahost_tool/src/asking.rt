@@ -1,0 +1,71 @@
+//! The part of a run that knows what is asked: it reads the files, and asks.
+
+ghost use Rattle.std.specs.Prelude.{◌≡◌, ◌≤◌, All, IfSome, List, None, Option, length, map, ℕ};
+ghost use Rattle.net_world.specs.declared.log.WorldCall.{WorldCall};
+ghost use Rattle.tool_line.specs.Outside.{files_told, outside};
+ghost use Rattle.ahost_tool.specs.Running.{EndsEarly, IsRunFor};
+
+use crate::ended::Ended;
+use crate::putting::put_line;
+use crate::reporting::Report;
+use crate::resolving::resolve;
+use crate::setting::read_setting;
+use crate::task::Task;
+use completion_ticket::Done;
+use net_world::{Files, Sink, World};
+use std::alloc::Global;
+use tool_line::{AhostAsk, Exit, FileFault};
+
+/// Reads resolv.conf and the hosts file, asks with what they and the words set, and puts the page.
+pub(crate) fn ask<B: Done + Drop, W: World, F: Files, K: Sink>(
+    alloc: Global,
+    asked: AhostAsk,
+    bodies: Vec<B>,
+    files: &mut F,
+    world: &mut W,
+    sink: &mut K,
+    turns: u64,
+) -> Ended
+    requires fresh { All (λ body. B.told body ≡ None) bodies.items }
+    requires servers { IfSome asked.later (λ later. (1 ≤ length later) × (length later ≤ 8)) }
+    ensures promise { IsRunFor asked (map B.plan bodies.items) turns result
+        (files_told (F.files files.old) (F.faults files.old))
+        (files_told (F.files files.new) (F.faults files.new))
+        (outside (W.log world.old) (W.wait_faults world.old) (K.bytes sink.old) (K.faults sink.old))
+        (outside (W.log world.new) (W.wait_faults world.new) (K.bytes sink.new) (K.faults sink.new)) }
+    ensures files { F.files files.new ≡ F.files files.old }
+{
+    let AhostAsk {
+        resolv,
+        hosts,
+        settings,
+        specs,
+        orders,
+        workers: _,
+        load: _,
+        later,
+    } = asked;
+    let task = Task {
+        specs,
+        bodies,
+        orders,
+        later,
+        report: Report::Page,
+    };
+    match read_setting(alloc, resolv.as_str(), hosts.as_str(), settings, files) {
+        Ok((options, hosts)) => resolve(alloc, task, options, hosts, world, sink, turns),
+        Err(FileFault::Failed) => leave(alloc, sink, Exit::FileFault),
+        Err(FileFault::TooLarge) => leave(alloc, sink, Exit::FileFault),
+        Err(FileFault::NoMemory) => Ended::early(alloc, Exit::OutOfMemory.number()),
+    }
+}
+
+/// Ends a run before it has a channel: the line of this end is put.
+pub(crate) fn leave<K: Sink>(alloc: Global, sink: &mut K, end: Exit) -> Ended
+    ensures { (log : Option (List WorldCall)) (wait_faults : ℕ) → EndsEarly end result
+        (outside log wait_faults (K.bytes sink.old) (K.faults sink.old))
+        (outside log wait_faults (K.bytes sink.new) (K.faults sink.new)) }
+{
+    let status = put_line(sink, end);
+    Ended::early(alloc, status)
+}

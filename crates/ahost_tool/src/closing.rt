@@ -1,0 +1,18 @@
+//! The end of a channel.
+
+ghost use Rattle.ahost_tool.specs.Delivering.{IsIdle};
+ghost use Rattle.ahost_tool.specs.Closing.{Closes};
+
+use crate::caller::Caller;
+use crate::delivering::deliver_all;
+use channel_model::Desk;
+use completion_ticket::Done;
+
+/// Destroys the channel, unless a callback has, and delivers what is then ready: nothing is left.
+pub(crate) fn close<B: Done + Drop>(caller: &mut Caller<B>)
+    requires idle { IsIdle caller.old }
+    ensures { Closes caller.old caller.new }
+{
+    caller.alone.destroy();
+    deliver_all(caller);
+}

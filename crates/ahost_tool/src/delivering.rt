@@ -1,0 +1,57 @@
+//! Delivering: what is ready is taken, its callback is told its answer, and what the callback commands is performed.
+
+ghost use Rattle.std.specs.Prelude.{◌≡◌, []};
+ghost use Rattle.channel_model.specs.Completion.{ready};
+ghost use Rattle.channel_model.specs.Journal.{past_of};
+ghost use Rattle.ahost_tool.specs.Delivering.{DeliversAll, DeliversOne, IsIdle, Spends, Tells};
+
+use crate::caller::Caller;
+use crate::performing::perform_all;
+use chan_types::Ticket;
+use channel_model::Desk;
+use completion_ticket::{Callback, Called, Done};
+
+/// Delivers until nothing is ready: commands of callbacks may make further requests ready.
+pub(crate) fn deliver_all<B: Done + Drop>(caller: &mut Caller<B>)
+    requires idle { IsIdle caller.old }
+    ensures delivers { DeliversAll caller.old caller.new }
+    ensures none_ready { ready caller.new.alone.setting (past_of caller.new.alone.seen) ≡ [] }
+    ensures idle { IsIdle caller.new }
+{
+    while let Some(_called) = deliver_one(caller) {}
+}
+
+/// Takes the first ready request, and spends its ticket.
+fn deliver_one<B: Done + Drop>(caller: &mut Caller<B>) -> Option<Called<B>>
+    requires idle { IsIdle caller.old }
+    ensures { DeliversOne result caller.old caller.new }
+{
+    match caller.alone.take() {
+        Some(ticket) => Some(spend(caller, ticket)),
+        None => None,
+    }
+}
+
+/// Tells the ticket's callback its answer, and then performs what it commands, on this request's command.
+fn spend<B: Done + Drop>(caller: &mut Caller<B>, ticket: Ticket<Callback<B>>) -> Called<B>
+    requires idle { IsIdle caller.old }
+    ensures { Spends ticket result caller.old caller.new }
+{
+    let by = ticket.number();
+    let called = tell(caller, ticket);
+    caller.alone.voice(by);
+    perform_all(&mut caller.alone, &mut caller.hand, &mut caller.lost);
+    caller.alone.voice(0);
+    called
+}
+
+/// Tells the ticket's callback its answer, and notes that. Its commands are then in the hand.
+fn tell<B: Done + Drop>(caller: &mut Caller<B>, ticket: Ticket<Callback<B>>) -> Called<B>
+    requires idle { IsIdle caller.old }
+    ensures { Tells ticket result caller.old caller.new }
+{
+    let (callback, call) = ticket.spend();
+    let called = callback.call(call.answer(), &mut caller.hand);
+    caller.calls.add(call);
+    called
+}

@@ -1,0 +1,23 @@
+//! `ahost` as a library: it asks for the addresses of names over a given network, lets callbacks ask further, and puts
+//! what was found as a page of text.
+#![tactic(auto)]
+
+mod asking;
+mod caller;
+mod closing;
+mod delivering;
+mod ended;
+mod loading;
+mod page;
+mod performing;
+mod putting;
+mod reporting;
+mod resolving;
+mod running;
+mod session;
+mod setting;
+mod summary;
+mod task;
+
+pub use ended::Ended;
+pub use running::{run, run_boxed};

@@ -1,0 +1,112 @@
+//! The part of a run that asks: the channel is made, its requests are brought to their end, and the text is put.
+
+ghost use Rattle.std.specs.Prelude.{◌≡◌, ◌≤◌, ◌↔◌, All, IfOk, IfSome, IsTrue, None, length, map};
+ghost use Rattle.chan_types.specs.declared.status.Status.TheVariants.{Success as WentWell};
+ghost use Rattle.tool_line.specs.Outside.{outside};
+ghost use Rattle.ahost_tool.specs.Delivering.{fresh_caller};
+ghost use Rattle.ahost_tool.specs.Ends.{IsEndOf, IsPageEndOf};
+ghost use Rattle.ahost_tool.specs.Promise.{Promise};
+ghost use Rattle.ahost_tool.specs.Asked.{asked_of};
+
+use crate::caller::Caller;
+use crate::closing::close;
+use crate::ended::Ended;
+use crate::putting::tell;
+use crate::session::{LoopEnd, session};
+use crate::task::Task;
+use chan_types::{Answer, Calls, Orders, Status};
+use completion_ticket::Done;
+use hosts_file::Hosts;
+use item_list::NoMemory;
+use net_world::{Sink, World};
+use resolv_options::Options;
+use std::alloc::Global;
+use tool_line::Exit;
+
+/// Asks a channel with these options and hosts, and puts its report. A channel that was made is destroyed in every case, so
+/// that each callback is called.
+pub(crate) fn resolve<B: Done + Drop, W: World, K: Sink>(
+    alloc: Global,
+    task: Task<B>,
+    options: Options,
+    hosts: Hosts,
+    world: &mut W,
+    sink: &mut K,
+    turns: u64,
+) -> Ended
+    requires fresh { All (λ body. B.told body ≡ None) task.bodies.items }
+    requires servers { IfSome task.later (λ later. (1 ≤ length later) × (length later ≤ 8)) }
+    ensures { Promise (asked_of task.report task.specs (map B.plan task.bodies.items) task.orders task.later)
+        (record { options = options; hosts = hosts }) turns result
+        (outside (W.log world.old) (W.wait_faults world.old) (K.bytes sink.old) (K.faults sink.old))
+        (outside (W.log world.new) (W.wait_faults world.new) (K.bytes sink.new) (K.faults sink.new)) }
+{
+    let report = task.report;
+    let Ok((known, mut caller)) = caller_with(alloc, options, hosts, task.orders) else {
+        return Ended::early(alloc, Exit::OutOfMemory.number());
+    };
+    let loop_end = session(alloc, &known, task, &mut caller, world, turns);
+    close(&mut caller);
+    let Caller {
+        alone,
+        hand: _,
+        calls,
+        lost,
+    } = caller;
+    let journal = alone.close();
+    let end = end_of(loop_end, lost, &calls);
+    let status = tell(alloc, report, journal.entries(), &calls, end, sink);
+    Ended {
+        status,
+        journal,
+        calls,
+    }
+}
+
+/// The owner of a channel with these options and hosts, and the options once more.
+fn caller_with<B: Done + Drop>(
+    alloc: Global,
+    options: Options,
+    hosts: Hosts,
+    orders: Orders,
+) -> Result<(Options, Caller<B>), NoMemory>
+    ensures { IfOk result (λ made. (made.0 ≡ options) × (made.1 ≡ fresh_caller options hosts orders)) }
+{
+    let known = options.copy(alloc)?;
+    let caller = Caller::make(alloc, options, hosts, orders)?;
+    Ok((known, caller))
+}
+
+/// How a run came to its end whose turns ended so, where so many requests were lost, and whose callbacks were called with
+/// these answers.
+fn end_of(loop_end: Result<LoopEnd, NoMemory>, lost: u64, calls: &Calls) -> Exit
+    ensures { IsEndOf loop_end lost calls.now result }
+{
+    if lost != 0 {
+        return Exit::OutOfMemory;
+    }
+    match loop_end {
+        Ok(LoopEnd::Completed) => page_end(calls),
+        Ok(LoopEnd::WaitFault) => Exit::WaitFault,
+        Ok(LoopEnd::Stalled) => Exit::Stalled,
+        Err(NoMemory) => Exit::OutOfMemory,
+    }
+}
+
+/// The end of a run whose requests completed.
+fn page_end(calls: &Calls) -> Exit
+    ensures { IsPageEndOf calls.now result }
+{
+    if calls.iter().all(is_success) {
+        Exit::Success
+    } else {
+        Exit::Failure
+    }
+}
+
+/// The request ended well.
+fn is_success(answer: &Answer) -> bool
+    ensures { IsTrue result ↔ (answer.now.status ≡ WentWell) }
+{
+    answer.status == Status::Success
+}

@@ -1,0 +1,168 @@
+//! The part of a run that brings its requests to their end: turns, and between them what completes is delivered.
+
+ghost use Rattle.std.specs.Prelude.{◌≡◌, ◌≤◌, ◌∷◌, All, IfSome, None, Ok, [], length, map};
+ghost use Rattle.net_world.specs.Cause.{Rose};
+ghost use Rattle.ahost_tool.specs.Delivering.{IsIdle};
+ghost use Rattle.ahost_tool.specs.Session.{AcceptsAll, CountsPending, IsSession, MakesTurns, SetsLater, IsNew};
+ghost use Rattle.ahost_tool.specs.Asked.{askings};
+
+use crate::caller::Caller;
+use crate::delivering::deliver_all;
+use crate::task::Task;
+use chan_types::Spec;
+use channel_model::{Desk, Refused, SetFault};
+use channel_table::Alone;
+use completion_ticket::{Callback, Done};
+use event_runner::{Paused, Runner};
+use item_list::NoMemory;
+use net_addr::ServerList;
+use net_world::World;
+use resolv_options::Options;
+use std::alloc::Global;
+use std::collections::VecDeque;
+
+/// How the turns came to their end.
+#[derive(Clone, Copy, Debug, PartialEq, Eq)]
+pub(crate) enum LoopEnd {
+    /// Nothing is pending.
+    Completed,
+    /// A wait failed.
+    WaitFault,
+    /// All turns were made, and a request is pending.
+    Stalled,
+}
+
+/// Makes a runner, accepts the requests, and makes turns with pauses between them until nothing is pending: at most so
+/// many. What has completed is delivered before the first turn and behind each; the later servers are set right behind
+/// the first.
+pub(crate) fn session<B: Done + Drop, W: World>(
+    alloc: Global,
+    options: &Options,
+    task: Task<B>,
+    caller: &mut Caller<B>,
+    world: &mut W,
+    turns: u64,
+) -> Result<LoopEnd, NoMemory>
+    requires new { IsNew caller.old }
+    requires options { options.now ≡ caller.old.alone.setting.options }
+    requires fresh { All (λ body. B.told body ≡ None) task.bodies.items }
+    requires servers { IfSome task.later (λ later. (1 ≤ length later) × (length later ≤ 8)) }
+    ensures session { IsSession (askings task.specs (map B.plan task.bodies.items)) task.later turns result
+        caller.old caller.new (W.log world.old) (W.log world.new) }
+    ensures waits { W.wait_faults world.old ≤ W.wait_faults world.new }
+    ensures wait_fault { result ≡ Ok LoopEnd.WaitFault
+        → Rose (W.wait_faults world.old) (W.wait_faults world.new) }
+{
+    let Task {
+        specs,
+        bodies,
+        orders: _,
+        later,
+        report: _,
+    } = task;
+    let mut runner = Runner::make(alloc, world, options)?;
+    accept_all(&mut caller.alone, specs.into_vec(), bodies)?;
+    make_turns(caller, later, &mut runner, world, turns)
+}
+
+/// Accepts a request for each spec that has a body, in order, each with the callback of its body.
+fn accept_all<B: Done + Drop>(
+    alone: &mut Alone<Callback<B>>,
+    specs: Vec<Spec>,
+    bodies: Vec<B>,
+) -> Result<(), NoMemory>
+    requires voice { alone.old.voice ≡ 0 }
+    requires fresh { All (λ body. B.told body ≡ None) bodies.items }
+    ensures { AcceptsAll (askings specs.items (map B.plan bodies.items)) result alone.old alone.new }
+{
+    let mut specs = VecDeque::from(specs);
+    let mut bodies = VecDeque::from(bodies);
+    while let Some(spec) = specs.pop_front() {
+        let Some(body) = bodies.pop_front() else {
+            return Ok(());
+        };
+        accept(alone, spec, body)?;
+    }
+    Ok(())
+}
+
+/// Accepts a request with the callback of this body, which is told where the request is refused.
+fn accept<B: Done + Drop>(
+    alone: &mut Alone<Callback<B>>,
+    spec: Spec,
+    body: B,
+) -> Result<(), NoMemory>
+    requires voice { alone.old.voice ≡ 0 }
+    requires fresh { B.told body ≡ None }
+    ensures { AcceptsAll (askings (spec ∷ []) (B.plan body ∷ [])) result alone.old alone.new }
+{
+    let Err(Refused { why, token, .. }) = alone.accept(spec, Callback::of(body)) else {
+        return Ok(());
+    };
+    token.refuse(why);
+    Err(NoMemory)
+}
+
+/// Makes turns, and pauses between them, until nothing is pending: at most so many.
+fn make_turns<B: Done + Drop, W: World>(
+    caller: &mut Caller<B>,
+    mut later: Option<ServerList>,
+    runner: &mut Runner,
+    world: &mut W,
+    turns: u64,
+) -> Result<LoopEnd, NoMemory>
+    requires idle { IsIdle caller.old }
+    requires servers { IfSome later (λ later. (1 ≤ length later) × (length later ≤ 8)) }
+    ensures turns { MakesTurns later turns result caller.old caller.new runner.old
+        (W.log world.old) (W.log world.new) }
+    ensures waits { W.wait_faults world.old ≤ W.wait_faults world.new }
+    ensures wait_fault { result ≡ Ok LoopEnd.WaitFault
+        → Rose (W.wait_faults world.old) (W.wait_faults world.new) }
+{
+    deliver_all(caller);
+    for _ in 0..turns {
+        if count_pending(&mut caller.alone) == 0 {
+            return Ok(LoopEnd::Completed);
+        }
+        runner.turn(&mut caller.alone, world)?;
+        set_later(&mut caller.alone, &mut later)?;
+        deliver_all(caller);
+        if let Paused::WaitFault = runner.pause(&mut caller.alone, world, u64::MAX)? {
+            return Ok(LoopEnd::WaitFault);
+        }
+    }
+    if count_pending(&mut caller.alone) == 0 {
+        Ok(LoopEnd::Completed)
+    } else {
+        Ok(LoopEnd::Stalled)
+    }
+}
+
+/// Sets the servers that are left to be set, if there are some: then none are left. A channel that a callback has destroyed
+/// keeps those that it had.
+fn set_later<B: Done + Drop>(
+    alone: &mut Alone<Callback<B>>,
+    later: &mut Option<ServerList>,
+) -> Result<(), NoMemory>
+    requires servers { IfSome later.old (λ later. (1 ≤ length later) × (length later ≤ 8)) }
+    ensures sets { SetsLater later.old result alone.old alone.new }
+    ensures left { later.new ≡ None }
+{
+    let Some(servers) = later.take() else {
+        return Ok(());
+    };
+    match alone.set_servers(servers.as_slice()) {
+        Ok(_) => Ok(()),
+        Err(SetFault::Closed) => Ok(()),
+        // Of 2^32 keys at most 16 are given, so they are never used up.
+        Err(SetFault::Full) => Err(NoMemory),
+        Err(SetFault::NoMemory) => Err(NoMemory),
+    }
+}
+
+/// How many requests are pending.
+fn count_pending<B: Done + Drop>(alone: &mut Alone<Callback<B>>) -> u64
+    ensures { CountsPending result alone.old alone.new }
+{
+    alone.counts().pending
+}
