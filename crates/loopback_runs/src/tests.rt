@@ -1,6 +1,7 @@
-//! `adig` asks the nameserver of `tns`, each over its real network.
+//! The real outside over loopback; and `adig` asks the nameserver of `tns`, each over its real network.
 
 mod bound;
+mod engine;
 
 use adig_tool::run as ask;
 use bound::Bound;

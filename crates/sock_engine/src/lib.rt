@@ -20,6 +20,3 @@ pub use real_files::RealFiles;
 pub use real_sink::RealSink;
 pub use sock_world::SockWorld;
 pub use words::{texts_of, words_of};
-
-#[cfg(test)]
-mod tests;

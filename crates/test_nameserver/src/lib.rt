@@ -36,10 +36,3 @@ pub use peer_world::PeerWorld;
 pub use replying::answer;
 pub use running::run;
 pub use zone::Zone;
-
-#[cfg(test)]
-mod peer_tests;
-#[cfg(test)]
-mod run_tests;
-#[cfg(test)]
-mod tests;

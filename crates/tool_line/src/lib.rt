@@ -28,6 +28,3 @@ pub use settings::Settings;
 pub use switches::Switches;
 pub use values::{addresses, family, number, path};
 pub use words::{Choice, Words, read_words};
-
-#[cfg(test)]
-mod tests;

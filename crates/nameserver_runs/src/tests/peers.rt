@@ -1,6 +1,6 @@
 //! The network in memory, and what it loses.
 
-use super::*;
+use test_nameserver::*;
 use net_world::{Got, World, Wrote};
 use std::alloc::Global;
 use std::test::Fail;

@@ -1,6 +1,6 @@
 //! Runs of the nameserver over a listener in memory.
 
-use super::*;
+use test_nameserver::*;
 use net_world::{MemFiles, MemSink, Sent};
 use std::alloc::Global;
 use std::collections::BTreeMap;

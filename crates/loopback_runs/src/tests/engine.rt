@@ -1,6 +1,6 @@
 //! The real forms over loopback, files that the test makes, and standard output.
 
-use super::*;
+use sock_engine::*;
 use dns_message::{Bytes, NoMemory};
 use net_addr::{Addr, ServerAddr};
 use net_world::{FileRead, Files, Got, PutEnd, Sent, Sink, Waited, World, Wrote};

@@ -4,7 +4,7 @@ mod asks;
 mod pages;
 mod refusals;
 
-use super::*;
+use tool_line::*;
 use net_addr::{Addr, Family};
 use std::alloc::Global;
 use std::test::Fail;

@@ -1,6 +1,6 @@
 //! Outside examples: zones, queries and replies, byte by byte.
 
-use super::*;
+use test_nameserver::*;
 use std::alloc::Global;
 use std::test::Fail;
 
