@@ -1,23 +1,21 @@
 -- The closing of a channel: its Destroy, and the Takes behind it.
-use Rattle.std.proofs.Common.{◌≡◌, ℕ, ◌+◌, List, [], ◌∷◌, ◌++◌, length, refl, sym, ap, subst, ◌∙◌, map, Bool, true, false, if◌then◌else◌, arith, eq-eqb}
+use Rattle.std.proofs.Common.{◌≡◌, ◌+◌, List, [], ◌∷◌, ◌++◌, length, refl, sym, ap, subst, ◌∙◌, map, Bool, true, false, if◌then◌else◌, arith}
 use Rattle.std.specs.List.{AllByRecursion}
-use Rattle.std.specs.Option.{option_or}
-use Rattle.std.specs.Prelude.{Option, Some, None, filter, find, is_none, is_some, not, option_map, ◌==◌}
+use Rattle.std.specs.Prelude.{Some, None, not}
 use Rattle.std.proofs.lemmas.List.{append-nil, append_assoc, length-append}
 use Rattle.chan_types.specs.declared.answer.Answer.{Answer}
 use Rattle.chan_types.specs.declared.journal.Entry.{Entry}
 use Rattle.chan_types.specs.declared.journal.What.TheVariants.{Destroy, Take}
-use Rattle.chan_types.specs.declared.status.Status.TheVariants.{Destruction}
-use Rattle.channel_model.specs.Completion.{fate, is_open, pending, ready}
-use Rattle.channel_model.specs.Journal.{Accepted, Past, accepted, followed_by, is_destroyed, past_of}
+use Rattle.channel_model.specs.Completion.{fate, pending, ready}
+use Rattle.channel_model.specs.Journal.{Past, followed_by, is_destroyed, past_of}
 use Rattle.channel_model.specs.Known.{Calls, StandsAt}
 use Rattle.channel_model.specs.Lawful.{IsLawful}
 use Rattle.channel_model.specs.Meanings.{Destroys}
-use Rattle.channel_model.specs.Merge.{bare}
 use Rattle.channel_model.specs.Seen.{entries_of}
 use Rattle.channel_model.specs.Setting.{Setting}
 use Rattle.channel_model.proofs.Theorems.{followed_by-append, take-pending}
 use Rattle.channel_table.specs.Calling.{Owned, known_by_owner}
+use Rattle.owner_laws.proofs.Destroyed.{pending_destroyed}
 use Rattle.adig_tool.specs.Closing.{Closes}
 use Rattle.adig_tool.specs.Entries.{closing}
 use Rattle.adig_tool.specs.SessionParts.{Delivers, take_entry}
@@ -43,38 +41,6 @@ past_on old new more is = ap past_of is ∙ followed_by-append [] old more
 pending_takes : (setting : Setting) (past : Past) (answers : List Answer) → pending setting (followed_by past (map take_entry answers)) ≡ pending setting past
 pending_takes setting past [] = refl
 pending_takes setting past (a ∷ answers) = pending_takes setting (Take a.number ∷ past) answers ∙ take-pending setting past a.number
-
--- behind a Destroy nothing is pending
-module _ (setting : Setting) (past : Past) where
-  abbrev destroyed_answer : ℕ → List Accepted → Option Answer
-  destroyed_answer n xs = option_map (λ spec. bare n Destruction []) (option_map (λ r. r.spec) (find (λ r. r.number == n) xs))
-
-  closed : (found : Option Answer) (n : ℕ) (xs : List Accepted) → is_some (find (λ r. r.number == n) xs) ≡ true → is_none (option_or found (destroyed_answer n xs)) ≡ false
-  closed (Some a) n xs h = refl
-  closed None n xs h = by (find (λ r. r.number == n) xs) h
-    where
-      by : (f : Option Accepted) → is_some f ≡ true → is_none (option_map (λ spec. bare n Destruction []) (option_map (λ r. r.spec) f)) ≡ false
-      by None h = absurd (cc h)
-      by (Some r) h = refl
-
-  -- a request of the list is found in it, behind others too
-  found_behind : (front : List Accepted) (r : Accepted) (xs : List Accepted) → is_some (find (λ q. q.number == r.number) (front ++ r ∷ xs)) ≡ true
-  found_behind [] r xs = rw (eq-eqb r.number r.number refl) refl
-  found_behind (f ∷ front) r xs = by (f.number == r.number) (found_behind front r xs)
-    where
-      by : (b : Bool) → is_some (find (λ q. q.number == r.number) (front ++ r ∷ xs)) ≡ true → is_some (if b then Some f else find (λ q. q.number == r.number) (front ++ r ∷ xs)) ≡ true
-      by true h = refl
-      by false h = h
-
-  none_open : (front xs : List Accepted) → filter (λ n. is_none (option_or (fate setting n past) (destroyed_answer n (front ++ xs)))) (map (λ r. r.number) xs) ≡ []
-  none_open front [] = refl
-  none_open front (x ∷ xs) =
-      rw (closed (fate setting x.number past) x.number (front ++ x ∷ xs) (found_behind front x xs))
-      (subst (λ l. filter (λ n. is_none (option_or (fate setting n past) (destroyed_answer n l))) (map (λ r. r.number) xs) ≡ []) (append_assoc front (x ∷ []) xs) (none_open (front ++ x ∷ []) xs))
-
-  pub pending_destroyed : pending setting (Destroy ∷ past) ≡ []
-  pending_destroyed =
-      ap (λ l. filter (is_open setting (Destroy ∷ past)) (map (λ r. r.number) l)) (append-nil (accepted past)) ∙ none_open [] (accepted past)
 
 -- an open channel was destroyed, and what was ready then was delivered
 pub closes : (a b c : Owned) (is_first : Bool) (calls_a calls_c : List Answer) → a.voice ≡ 0 → is_destroyed (past_of a.seen) ≡ false →

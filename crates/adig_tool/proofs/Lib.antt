@@ -1,6 +1,5 @@
 pub mod ListLemmas
 pub mod FateLemmas
-pub mod OwnerLemmas
 pub mod WorkLemmas
 pub mod LoopLemmas
 pub mod OneSessionLemmas

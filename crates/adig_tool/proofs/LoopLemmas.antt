@@ -24,7 +24,7 @@ use Rattle.adig_tool.specs.declared.session.LoopEnd.{LoopEnd}
 use Rattle.adig_tool.specs.declared.session.LoopEnd.TheVariants.{Completed, Stalled, WaitFault as WaitFailed}
 use Rattle.adig_tool.specs.Session.{FallsIntoTurns, longest_slice}
 use Rattle.adig_tool.specs.SessionParts.{Delivers, MakesTurns, TellsPending, Works}
-use Rattle.adig_tool.proofs.OwnerLemmas.{looked_same, paused_same, waited_pending}
+use Rattle.owner_laws.proofs.Owner.{looked_same, paused_same, waited_pending}
 use Rattle.adig_tool.proofs.WorkLemmas.{takes_no_turn, turn_works, works_go_on, works_none, works_own, works_trans}
 
 -- so many turns were made, and what completed was called; behind the last turn the run has come so far

@@ -1,7 +1,7 @@
 -- From the parts of a run to what the whole of it promises.
-use Rattle.std.proofs.Common.{◌≡◌, ◌≢◌, ℕ, ◌==◌, not, List, [], ◌∷◌, ◌++◌, length, refl, sym, ap, subst, ◌∙◌, map, Bool, true, false, inl, inr, arith}
-use Rattle.std.specs.Prelude.{Err, None, Ok, Option, Result, Some, filter_map, ◌*◌, ◌+◌, ◌||◌, ◌⊎◌, ◌≤◌}
-use Rattle.std.specs.List.{AllByRecursion, list_all, list_any}
+use Rattle.std.proofs.Common.{◌≡◌, ◌≢◌, ℕ, ◌==◌, not, List, [], ◌∷◌, ◌++◌, length, refl, sym, ap, subst, ◌∙◌, map, true, false, inl, inr, arith}
+use Rattle.std.specs.Prelude.{Err, None, Ok, Option, Result, Some, ◌*◌, ◌+◌, ◌⊎◌, ◌≤◌}
+use Rattle.std.specs.List.{AllByRecursion, list_all}
 use Rattle.std.proofs.lemmas.List.{append-nil}
 use mathlib.Core.List.{IsPrefix}
 use Rattle.chan_types.specs.declared.answer.Answer.{Answer}
@@ -10,24 +10,21 @@ use Rattle.chan_types.specs.declared.journal.What.{What}
 use Rattle.chan_types.specs.declared.journal.What.TheVariants.{Accept, Arrive, Cancel, Destroy, Expire, Fault, Start, Take, Servers}
 use Rattle.chan_types.specs.declared.spec.Spec.{Spec}
 use Rattle.item_list.specs.declared.no_memory.NoMemory.{NoMemory}
-use Rattle.net_world.specs.Cause.{Rose, is_not_waited}
-use Rattle.net_world.specs.declared.answers.Waited.TheVariants.{Failed as NotWaited}
+use Rattle.net_world.specs.Cause.{Rose}
 use Rattle.net_world.specs.declared.log.WorldCall.{WorldCall}
 use Rattle.channel_model.specs.Commands.{closing_position, past_at}
 use Rattle.channel_model.specs.Completion.{fate, pending, ready, requests, taken}
 use Rattle.channel_model.specs.Course.{IsCourse, IsCourseSoFar, has_no_turn}
-use Rattle.channel_model.specs.Endings.{IsStalledBehind, LastWaitFailed, waited_by}
+use Rattle.channel_model.specs.Endings.{IsStalledBehind, LastWaitFailed}
 use Rattle.channel_model.specs.Journal.{Accepted, Past, accepted, followed_by, is_destroy, is_destroyed, past_of}
 use Rattle.channel_model.specs.Lawful.{IsLawful}
 use Rattle.channel_model.specs.Setting.{Setting}
 use Rattle.channel_model.proofs.Theorems.{course_agrees, so_far_reads}
 use Rattle.channel_model.proofs.Theorems.{so_far_nearly}
-use Rattle.channel_model.specs.Servers.{servers_set_by}
 use Rattle.channel_model.specs.Turn.{received_in}
 use Rattle.channel_progress.specs.Allowed.{attempts_allowed}
 use Rattle.channel_progress.specs.PlainRun.{IsPlainRun}
-use Rattle.channel_progress.specs.Waking.{NoWaitFailed}
-use Rattle.channel_progress.proofs.Theorems.{stalled_one}
+use Rattle.channel_progress.proofs.Theorems.{not_failed, stalled_one}
 use Rattle.channel_table.specs.Calling.{Owned}
 use Rattle.event_runner.specs.UnderWay.{LogGets}
 use Rattle.event_runner.proofs.Theorems.{course_then, so_far_then, stalled_then}
@@ -47,7 +44,7 @@ use Rattle.adig_tool.specs.declared.session.LoopEnd.{LoopEnd}
 use Rattle.adig_tool.specs.declared.session.LoopEnd.TheVariants.{Completed, Stalled, WaitFault}
 use Rattle.adig_tool.proofs.CalledLemmas.{called_then, numbers_of, taken_all, taken_later}
 use Rattle.adig_tool.proofs.ClosingLemmas.{past_on}
-use Rattle.adig_tool.proofs.ListLemmas.{all_pass, first_passes, one_at_most, three_hold}
+use Rattle.adig_tool.proofs.ListLemmas.{all_pass, one_at_most, three_hold}
 use Rattle.adig_tool.proofs.ObeyedLemmas.{obeyed}
 use Rattle.adig_tool.proofs.WholeLemmas.{closing_at, is_kept, kept_open, no_turn, whole, whole_accepted, whole_closed, whole_own}
 
@@ -212,41 +209,9 @@ traffic_of setting turns (Err e) answers end mid more same none is calls falls =
 
 -- ---- completeness
 
--- a test that fails of all items fails of the last
-none_last : {A : Type 0} (test : A → Bool) (front : List A) (last : A) → test last ≡ true → list_any test (front ++ last ∷ []) ≡ true
-none_last test [] last is = rw is refl
-none_last test (x ∷ front) last is = either (test x) (none_last test front last is)
-  where
-    either : (b : Bool) → list_any test (front ++ last ∷ []) ≡ true → (b || list_any test (front ++ last ∷ [])) ≡ true
-    either true h = refl
-    either false h = h
-
--- where no wait failed, the last didn't
-not_failed : (calls : List WorldCall) → NoWaitFailed calls → LastWaitFailed calls → ⊥
-not_failed calls none last =
-    let is : list_any is_not_waited (filter_map waited_by calls) ≡ true = ap (list_any is_not_waited) last.failed ∙ none_last is_not_waited last.earlier NotWaited refl in
-    absurd (let h : true ≡ false = sym is ∙ none in cc)
-
--- an own entry is of seat 0, and sets no servers
+-- an own entry is of seat 0
 own_alone : (es : List Entry) → list_all is_own es ≡ true → list_all (λ entry. entry.seat == 0) es ≡ true
 own_alone es own = all_pass is_own (λ entry. entry.seat == 0) (λ e h. (three_hold (e.seat == 0) (e.by == 0) (is_steady e.what) h).0) es own
-
-steady_unset : (what : What) → is_steady what ≡ true → servers_set_by what ≡ None
-steady_unset (Accept number spec script) h = refl
-steady_unset Cancel h = refl
-steady_unset Destroy h = refl
-steady_unset (Take number) h = refl
-steady_unset (Start number leg server link id mix moment) h = refl
-steady_unset (Arrive server link bytes) h = refl
-steady_unset (Expire number leg moment) h = refl
-steady_unset (Fault server link moment) h = refl
-steady_unset (Servers list) h = absurd (cc h)
-
-own_unset : (es : List Entry) → list_all is_own es ≡ true → AllByRecursion (λ entry. servers_set_by entry.what ≡ None) es
-own_unset [] own = tt
-own_unset (e ∷ es) own =
-    let now = first_passes is_own e es own in
-    (steady_unset e.what (three_hold (e.seat == 0) (e.by == 0) (is_steady e.what) now.0).2, own_unset es now.1)
 
 -- at most one request was accepted
 few_accepted : (spec : Spec) (rs : List Accepted) → IsPrefix rs (first_request spec ∷ []) → length rs ≤ 1
@@ -270,7 +235,6 @@ comes_to_end setting turns (Ok Stalled) answers end mid spec more same none is s
     let plain : IsPlainRun setting 0 (mid.seen ++ more) calls = record {
       lawful = lawful;
       alone = own_alone (mid.seen ++ more) own;
-      unset = own_unset (mid.seen ++ more) own;
       some_server = servers;
       some_try = tries;
       waited = time.waited;

@@ -29,7 +29,7 @@ use Rattle.channel_table.specs.Calling.{Owned, known_by_owner}
 use Rattle.event_runner.specs.Goes.{AreMadeInTurns, is_made_in_turn}
 use Rattle.adig_tool.specs.Session.{first_request, is_of_session, leaves_running}
 use Rattle.adig_tool.specs.SessionParts.{Delivers, TellsPending, Works, take_entry}
-use Rattle.adig_tool.proofs.OwnerLemmas.{owned_same, owner_called, owner_went_on}
+use Rattle.owner_laws.proofs.Owner.{owned_same, owner_called, owner_went_on}
 
 -- ---- lists of entries
 

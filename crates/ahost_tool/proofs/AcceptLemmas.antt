@@ -20,7 +20,7 @@ use Rattle.ahost_tool.specs.Asked.{askings}
 use Rattle.ahost_tool.specs.Delivering.{plan_of}
 use Rattle.ahost_tool.specs.Session.{AcceptsAll, is_asking}
 use Rattle.ahost_tool.proofs.MoveLemmas.{accepted_parts}
-use Rattle.ahost_tool.proofs.OwnerLemmas.{owner_called}
+use Rattle.owner_laws.proofs.Owner.{owner_called}
 
 -- nothing was accepted
 pub accepts_none : (a : Owned) → AcceptsAll [] (Ok tt) a a

@@ -1,66 +1,31 @@
 -- The closing of a channel: its Destroy, unless a callback has destroyed it, and the deliveries behind that.
-use Rattle.std.proofs.Common.{◌≡◌, ◌∙◌, ℕ, ◌+◌, ◌==◌, ◌||◌, Bool, true, false, not, cond, if◌then◌else◌, List, [], ◌∷◌, ◌++◌, map, refl, sym, ap, subst, inl, inr, arith, eq-eqb}
-use Rattle.std.specs.Option.{option_or}
-use Rattle.std.specs.Prelude.{Option, Some, None, count_by, filter, find, is_none, is_some, option_map, ◌⊎◌}
-use Rattle.std.proofs.lemmas.List.{append-nil, append_assoc}
+use Rattle.std.proofs.Common.{◌≡◌, ◌∙◌, ◌+◌, ◌||◌, Bool, true, false, not, cond, List, [], ◌∷◌, ◌++◌, refl, sym, ap, subst, inl, inr, arith}
+use Rattle.std.specs.Prelude.{None, count_by, filter, is_none, ◌⊎◌}
+use Rattle.std.proofs.lemmas.List.{append-nil}
 use Rattle.std.proofs.lemmas.List.Sums.{sum_by-cons}
-use Rattle.chan_types.specs.declared.answer.Answer.{Answer}
 use Rattle.chan_types.specs.declared.journal.Entry.{Entry}
 use Rattle.chan_types.specs.declared.journal.What.{What}
 use Rattle.chan_types.specs.declared.journal.What.TheVariants.{Accept, Arrive, Cancel, Destroy, Expire, Fault, Servers, Start, Take}
-use Rattle.chan_types.specs.declared.status.Status.TheVariants.{Destruction}
-use Rattle.channel_model.specs.Completion.{completed_by, fate, is_open, pending, ready}
-use Rattle.channel_model.specs.Journal.{Accepted, Past, accepted, accepted_by, followed_by, is_destroy, is_destroyed, past_of}
+use Rattle.channel_model.specs.Completion.{completed_by, pending, ready}
+use Rattle.channel_model.specs.Journal.{Past, accepted_by, followed_by, is_destroy, is_destroyed, past_of}
 use Rattle.channel_model.specs.Known.{Calls}
 use Rattle.channel_model.specs.Lawful.{IsAllowed, IsLawful, IsLawfulPast}
 use Rattle.channel_model.specs.Meanings.{Destroys}
-use Rattle.channel_model.specs.Merge.{bare}
 use Rattle.channel_model.specs.Seen.{entries_of}
 use Rattle.channel_model.specs.Setting.{Setting}
 use Rattle.channel_model.proofs.Theorems.{followed_by-append, past_of-push, pending-behind}
 use Rattle.channel_table.specs.Calling.{Owned, known_by_owner}
+use Rattle.owner_laws.proofs.Destroyed.{pending_destroyed}
 use Rattle.ahost_tool.specs.Closing.{Closes}
 use Rattle.ahost_tool.specs.Delivering.{DeliversAll, IsIdle}
 use Rattle.ahost_tool.specs.declared.caller.Caller.{Caller}
 use Rattle.ahost_tool.proofs.ListLemmas.{denies, or_right}
 use Rattle.ahost_tool.proofs.MoveLemmas.{quiet_all}
-use Rattle.ahost_tool.proofs.OwnerLemmas.{owned_same, owner_called}
+use Rattle.owner_laws.proofs.Owner.{owned_same, owner_called}
 
 -- the entry that ends the channel
 abbrev pub closing : Entry
 closing = record { seat = 0; by = 0; what = Destroy }
-
--- behind a Destroy nothing is pending
-module _ (setting : Setting) (past : Past) where
-  abbrev destroyed_answer : ℕ → List Accepted → Option Answer
-  destroyed_answer n xs = option_map (λ spec. bare n Destruction []) (option_map (λ r. r.spec) (find (λ r. r.number == n) xs))
-
-  closed : (found : Option Answer) (n : ℕ) (xs : List Accepted) → is_some (find (λ r. r.number == n) xs) ≡ true → is_none (option_or found (destroyed_answer n xs)) ≡ false
-  closed (Some a) n xs h = refl
-  closed None n xs h = by (find (λ r. r.number == n) xs) h
-    where
-      by : (f : Option Accepted) → is_some f ≡ true → is_none (option_map (λ spec. bare n Destruction []) (option_map (λ r. r.spec) f)) ≡ false
-      by None h = absurd (cc h)
-      by (Some r) h = refl
-
-  -- a request of the list is found in it, behind others too
-  found_behind : (front : List Accepted) (r : Accepted) (xs : List Accepted) → is_some (find (λ q. q.number == r.number) (front ++ r ∷ xs)) ≡ true
-  found_behind [] r xs = rw (eq-eqb r.number r.number refl) refl
-  found_behind (f ∷ front) r xs = by (f.number == r.number) (found_behind front r xs)
-    where
-      by : (b : Bool) → is_some (find (λ q. q.number == r.number) (front ++ r ∷ xs)) ≡ true → is_some (if b then Some f else find (λ q. q.number == r.number) (front ++ r ∷ xs)) ≡ true
-      by true h = refl
-      by false h = h
-
-  none_open : (front xs : List Accepted) → filter (λ n. is_none (option_or (fate setting n past) (destroyed_answer n (front ++ xs)))) (map (λ r. r.number) xs) ≡ []
-  none_open front [] = refl
-  none_open front (x ∷ xs) =
-      rw (closed (fate setting x.number past) x.number (front ++ x ∷ xs) (found_behind front x xs))
-      (subst (λ l. filter (λ n. is_none (option_or (fate setting n past) (destroyed_answer n l))) (map (λ r. r.number) xs) ≡ []) (append_assoc front (x ∷ []) xs) (none_open (front ++ x ∷ []) xs))
-
-  pub pending_destroyed : pending setting (Destroy ∷ past) ≡ []
-  pending_destroyed =
-      ap (λ l. filter (is_open setting (Destroy ∷ past)) (map (λ r. r.number) l)) (append-nil (accepted past)) ∙ none_open [] (accepted past)
 
 -- an entry that accepts nothing leaves nothing pending where nothing was
 stays : (setting : Setting) (what : What) (past : Past) → accepted_by what ≡ None → pending setting past ≡ [] → pending setting (what ∷ past) ≡ []

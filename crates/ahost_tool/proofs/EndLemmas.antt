@@ -1,44 +1,40 @@
 -- From the parts of a run to what the whole of it promises.
-use Rattle.std.proofs.Common.{◌≡◌, ◌≢◌, ◌∙◌, ℕ, suc, zero, ◌≤◌, ◌||◌, Bool, true, false, List, [], ◌∷◌, ◌++◌, length, refl, sym, ap, subst, inl, inr, ⊎_elim, arith}
-use Rattle.std.specs.Prelude.{Err, None, Ok, Option, Result, Some, filter_map, ◌⊎◌}
-use Rattle.std.specs.List.{AllByRecursion, list_all, list_any}
+use Rattle.std.proofs.Common.{◌≡◌, ◌≢◌, ◌∙◌, ℕ, suc, zero, ◌≤◌, true, false, List, [], ◌++◌, length, refl, sym, ap, subst, inl, inr, ⊎_elim, arith}
+use Rattle.std.specs.Prelude.{Err, None, Ok, Option, Result, Some, ◌⊎◌}
+use Rattle.std.specs.List.{list_all}
 use Rattle.std.proofs.lemmas.List.{append-nil}
 use mathlib.Core.List.{IsPrefix}
 use Rattle.chan_types.specs.declared.answer.Answer.{Answer}
 use Rattle.chan_types.specs.declared.journal.Entry.{Entry}
-use Rattle.chan_types.specs.declared.journal.What.{What}
-use Rattle.chan_types.specs.declared.journal.What.TheVariants.{Accept, Arrive, Cancel, Destroy, Expire, Fault, Servers, Start, Take}
 use Rattle.item_list.specs.declared.no_memory.NoMemory.{NoMemory}
 use Rattle.net_addr.specs.declared.addr.ServerAddr.{ServerAddr}
-use Rattle.net_world.specs.Cause.{Rose, is_not_waited}
-use Rattle.net_world.specs.declared.answers.Waited.TheVariants.{Failed as NotWaited}
+use Rattle.net_world.specs.Cause.{Rose}
 use Rattle.net_world.specs.declared.log.WorldCall.{WorldCall}
 use Rattle.channel_model.specs.Commands.{Asking, closing_position}
 use Rattle.channel_model.specs.Course.{IsCourse, IsCourseSoFar, has_no_turn}
-use Rattle.channel_model.specs.Endings.{IsStalledBehind, LastWaitFailed, waited_by}
+use Rattle.channel_model.specs.Endings.{IsStalledBehind, LastWaitFailed}
 use Rattle.channel_model.specs.Lawful.{IsLawful}
-use Rattle.channel_model.specs.Servers.{servers_set_by}
 use Rattle.channel_model.specs.Setting.{Setting}
 use Rattle.channel_model.proofs.Theorems.{course_agrees, so_far_nearly, so_far_reads}
 use Rattle.channel_progress.specs.PlainRun.{IsPlainRun}
-use Rattle.channel_progress.specs.Waking.{NoWaitFailed}
+use Rattle.channel_progress.specs.Prompted.{unprompted_in}
+use Rattle.channel_progress.proofs.Theorems.{not_failed}
 use Rattle.channel_table.specs.Calling.{Owned}
-use Rattle.event_runner.proofs.Theorems.{course_then, so_far_then, stalled_then}
+use Rattle.event_runner.proofs.Theorems.{course_then, so_far_then}
 use Rattle.tool_line.specs.Outside.{OutputTold}
 use Rattle.tool_line.specs.Put.{IsPut, PutsText}
 use Rattle.tool_line.specs.declared.ending.Exit.{Exit}
 use Rattle.tool_line.specs.declared.ending.Exit.TheVariants.{Failure, OutOfMemory, Stalled as HasStalled, Success, WaitFault as FailedWait}
 use Rattle.ahost_tool.specs.Ends.{AreGood, IsEndOf}
-use Rattle.ahost_tool.specs.Kinds.{has_servers, is_ruled, is_servers}
+use Rattle.ahost_tool.specs.Kinds.{has_servers, is_ruled}
 use Rattle.ahost_tool.specs.Page.{report_of, text_at}
 use Rattle.ahost_tool.specs.Promise.{IsComplete, IsGivenTime, IsPageEnd, IsRunEnd, IsTraffic, last_at}
 use Rattle.ahost_tool.specs.Session.{FallsIntoTurns, HasAccepted, SetsBehindFirst, ShowsEnd, longest_slice}
 use Rattle.ahost_tool.specs.declared.reporting.Report.{Report}
 use Rattle.ahost_tool.specs.declared.session.LoopEnd.{LoopEnd}
 use Rattle.ahost_tool.specs.declared.session.LoopEnd.TheVariants.{Completed, Stalled, WaitFault}
-use Rattle.ahost_tool.proofs.ListLemmas.{none_of}
 use Rattle.ahost_tool.proofs.MoveLemmas.{ruled_seats}
-use Rattle.ahost_tool.proofs.ProgressLemmas.{stalled_many}
+use Rattle.ahost_tool.proofs.ProgressLemmas.{stalled_few}
 use Rattle.ahost_tool.proofs.ThenLemmas.{behind_more}
 
 -- ---- ends
@@ -193,10 +189,10 @@ shown_wait turns made channel calls Completed is shows = absurd (cc is)
 shown_wait turns made channel calls WaitFault is shows = shows
 shown_wait turns made channel calls Stalled is shows = absurd (cc is)
 
-shown_stall : (turns made : ℕ) (channel : Owned) (calls : List WorldCall) (e : LoopEnd) → ok_of e ≡ ok_of Stalled → ShowsEnd turns e channel made calls → (made ≡ turns) × IsStalledBehind channel.setting 0 longest_slice turns channel.seen calls
+shown_stall : (turns made : ℕ) (channel : Owned) (calls : List WorldCall) (e : LoopEnd) → ok_of e ≡ ok_of Stalled → ShowsEnd turns e channel made calls → made ≡ turns
 shown_stall turns made channel calls Completed is shows = absurd (cc is)
 shown_stall turns made channel calls WaitFault is shows = absurd (cc is)
-shown_stall turns made channel calls Stalled is shows = shows
+shown_stall turns made channel calls Stalled is shows = shows.0
 
 -- the calls of a session, with what stands behind it
 pub traffic_of : (setting : Setting) (later : Option (List ServerAddr)) (turns : ℕ) (result : Result LoopEnd NoMemory) (answers : List Answer) (end : Exit) (mid : Owned) (more : List Entry) → mid.setting ≡ setting →
@@ -206,7 +202,7 @@ traffic_of setting later turns (Ok e) answers end mid more same none unset is ca
     (subst (λ s. IsCourse s 0 longest_slice mid.seen calls falls.0 0) same falls.2)
     (subst (λ s. SetsBehindFirst s later falls.0 mid.seen calls) same falls.3)
     (λ wait. shown_wait turns falls.0 mid calls e (wait_of (Ok e) answers end is wait) falls.4)
-    (λ stall. (shown_stall turns falls.0 mid calls e (stall_of (Ok e) answers end is stall) falls.4).0)
+    (λ stall. shown_stall turns falls.0 mid calls e (stall_of (Ok e) answers end is stall) falls.4)
 traffic_of setting later turns (Err e) answers end mid more same none unset is calls falls =
     traffic_cut setting later turns falls.0 falls.1 mid.seen more none unset calls end (err_wanting is)
     (subst (λ s. IsCourseSoFar s 0 longest_slice mid.seen calls falls.0 0) same falls.2)
@@ -220,63 +216,32 @@ traffic_of setting later turns (Err e) answers end mid more same none unset is c
 
 -- ---- completeness
 
--- a test that fails of all items fails of the last
-none_last : {A : Type 0} (test : A → Bool) (front : List A) (last : A) → test last ≡ true → list_any test (front ++ last ∷ []) ≡ true
-none_last test [] last is = rw is refl
-none_last test (x ∷ front) last is = either (test x) (none_last test front last is)
-  where
-    either : (b : Bool) → list_any test (front ++ last ∷ []) ≡ true → (b || list_any test (front ++ last ∷ [])) ≡ true
-    either true h = refl
-    either false h = h
+-- a run that was given time comes to its page's end, or wants memory
+module _ (setting : Setting) (later : Option (List ServerAddr)) (turns : ℕ) (result : Result LoopEnd NoMemory) (answers : List Answer) (end : Exit) (mid : Owned) (more : List Entry) (same : mid.setting ≡ setting)
+    (servers : 1 ≤ length setting.options.servers) (tries : 1 ≤ setting.options.tries) (lawful : IsLawful setting mid.seen) (ruled : list_all is_ruled mid.seen ≡ true)
+    (calls : List WorldCall) (falls : FallsIntoTurns later turns result mid calls) (time : IsGivenTime setting turns (mid.seen ++ more) calls) where
+  plain : IsPlainRun setting 0 mid.seen calls
+  plain = record {
+    lawful = lawful;
+    alone = ruled_seats mid.seen ruled;
+    some_server = servers;
+    some_try = tries;
+    waited = time.waited;
+    wakes = time.wakes;
+  }
 
--- where no wait failed, the last didn't
-not_failed : (calls : List WorldCall) → NoWaitFailed calls → LastWaitFailed calls → ⊥
-not_failed calls none last =
-    let is : list_any is_not_waited (filter_map waited_by calls) ≡ true = ap (list_any is_not_waited) last.failed ∙ none_last is_not_waited last.earlier NotWaited refl in
-    absurd (let h : true ≡ false = sym is ∙ none in cc)
+  -- its turns aren't used up
+  not_stalled : (stalled : IsStalledBehind mid.setting 0 longest_slice turns mid.seen calls) → unprompted_in mid.setting stalled.course.rounds ≡ 0 → ⊥
+  not_stalled stalled none =
+      let stalls = subst (λ s. (stalls : IsStalledBehind s 0 longest_slice turns mid.seen calls) × (unprompted_in s stalls.course.rounds ≡ 0)) same (stalled, none) in
+      omega (arith, stalled_few setting turns mid.seen more calls plain stalls.0 stalls.1, time.enough)
 
--- an event that sets no servers
-unset_what : (what : What) → is_servers what ≡ false → servers_set_by what ≡ None
-unset_what (Accept number spec script) h = refl
-unset_what Cancel h = refl
-unset_what Destroy h = refl
-unset_what (Take number) h = refl
-unset_what (Start number leg server link id mix moment) h = refl
-unset_what (Arrive server link bytes) h = refl
-unset_what (Expire number leg moment) h = refl
-unset_what (Fault server link moment) h = refl
-unset_what (Servers list) h = absurd (cc h)
-
-unset_all : (es : List Entry) → has_servers es ≡ false → AllByRecursion (λ entry. servers_set_by entry.what ≡ None) es
-unset_all [] h = tt
-unset_all (e ∷ es) h =
-    let parts = none_of (is_servers e.what) (has_servers es) h in
-    (unset_what e.what parts.0, unset_all es parts.1)
-
--- a run without later servers that was given time comes to its page's end, or wants memory
-pub comes_to_end : (setting : Setting) (turns : ℕ) (result : Result LoopEnd NoMemory) (answers : List Answer) (end : Exit) (mid : Owned) (more : List Entry) → mid.setting ≡ setting →
-    has_no_turn more ≡ true → Came result answers end → 1 ≤ length setting.options.servers → 1 ≤ setting.options.tries → IsLawful setting (mid.seen ++ more) → list_all is_ruled (mid.seen ++ more) ≡ true →
-    has_servers (mid.seen ++ more) ≡ false → (calls : List WorldCall) → FallsIntoTurns None turns result mid calls → IsGivenTime setting turns (mid.seen ++ more) calls → IsPageEnd end ⊎ (end ≡ OutOfMemory)
-comes_to_end setting turns result answers end mid more same none (inl w) servers tries lawful ruled unset calls falls time = inl (inl w.1)
-comes_to_end setting turns result answers end mid more same none (inr (inl w)) servers tries lawful ruled unset calls falls time = inl (inr w.1)
-comes_to_end setting turns result answers end mid more same none (inr (inr (inr (inr w)))) servers tries lawful ruled unset calls falls time = inr w
-comes_to_end setting turns result answers end mid more same none (inr (inr (inl w))) servers tries lawful ruled unset calls falls time =
-    let ended : FallsIntoTurns None turns (Ok WaitFault) mid calls = subst (λ x. FallsIntoTurns None turns x mid calls) w.0 falls in
-    absurd (not_failed calls time.waited ended.4)
-comes_to_end setting turns result answers end mid more same none (inr (inr (inr (inl w)))) servers tries lawful ruled unset calls falls time =
-    let ended : FallsIntoTurns None turns (Ok Stalled) mid calls = subst (λ x. FallsIntoTurns None turns x mid calls) w.0 falls in
-    let stalled : IsStalledBehind setting 0 longest_slice turns mid.seen calls = subst (λ s. IsStalledBehind s 0 longest_slice turns mid.seen calls) same ended.4.1 in
-    let plain : IsPlainRun setting 0 (mid.seen ++ more) calls = record {
-      lawful = lawful;
-      alone = ruled_seats (mid.seen ++ more) ruled;
-      unset = unset_all (mid.seen ++ more) unset;
-      some_server = servers;
-      some_try = tries;
-      waited = time.waited;
-      wakes = time.wakes;
-    } in
-    let few = stalled_many setting 0 turns (mid.seen ++ more) calls plain (stalled_then setting 0 longest_slice mid.seen more calls turns none stalled) in
-    absurd (omega (arith, few, time.enough))
+  pub comes_to_end : Came result answers end → IsPageEnd end ⊎ (end ≡ OutOfMemory)
+  comes_to_end (inl w) = inl (inl w.1)
+  comes_to_end (inr (inl w)) = inl (inr w.1)
+  comes_to_end (inr (inr (inl w))) = let ended : FallsIntoTurns later turns (Ok WaitFault) mid calls = subst (λ x. FallsIntoTurns later turns x mid calls) w.0 falls in absurd (not_failed calls time.waited ended.4)
+  comes_to_end (inr (inr (inr (inl w)))) = let ended : FallsIntoTurns later turns (Ok Stalled) mid calls = subst (λ x. FallsIntoTurns later turns x mid calls) w.0 falls in absurd (not_stalled ended.4.1 ended.4.2)
+  comes_to_end (inr (inr (inr (inr w)))) = inr w
 
 -- and then its report is put, where the output doesn't fail
 pub complete_of : (report : Report) (calls : List Answer) (journal : List Entry) (end : Exit) (status : ℕ) (old new : OutputTold) → IsPut (text_at report journal calls end) end status old new → ¬ Rose old.faults new.faults →

@@ -19,7 +19,7 @@ use Rattle.ahost_tool.specs.declared.caller.Caller.{Caller}
 use Rattle.ahost_tool.proofs.ClosingLemmas.{closing}
 use Rattle.ahost_tool.proofs.ListLemmas.{denies, first_passes, take_front}
 use Rattle.ahost_tool.proofs.MoveLemmas.{same_none}
-use Rattle.ahost_tool.proofs.OwnerLemmas.{owner_called}
+use Rattle.owner_laws.proofs.Owner.{owner_called}
 
 -- ---- the closing position
 

@@ -1,11 +1,11 @@
 pub mod ListLemmas
-pub mod OwnerLemmas
 pub mod PerformLemmas
 pub mod WeightLemmas
 pub mod ObeyLemmas
 pub mod DeliveryLemmas
 pub mod KeptLemmas
 pub mod MoveLemmas
+pub mod PromptLemmas
 pub mod ThenLemmas
 pub mod LoopLemmas
 pub mod RoundLemmas

@@ -13,9 +13,10 @@ use Rattle.channel_model.specs.Commands.{accepted_for}
 use Rattle.channel_model.specs.Completion.{pending, ready}
 use Rattle.channel_model.specs.Course.{IsCourse, has_no_turn}
 use Rattle.channel_model.specs.Endings.{IsStalledBehind, LastWaitFailed}
-use Rattle.channel_model.specs.Journal.{past_of}
+use Rattle.channel_model.specs.Journal.{followed_by, past_of}
+use Rattle.channel_progress.specs.Prompted.{unprompted_in}
 use Rattle.channel_table.specs.Calling.{Owned, known_by_owner}
-use Rattle.event_runner.proofs.Theorems.{ran_at_most, ran_so_far, runs_behind, runs_cut, runs_delivered, runs_failed, runs_following, runs_paused, runs_turned, runs_unpaused, told_as, told_both, told_by, way_stalls}
+use Rattle.event_runner.proofs.Theorems.{RunsWith, WayWith, ran_at_most, ran_so_far, runs_cut, runs_failed, runs_paused, runs_unpaused, told_as, told_both, told_by, with_any, with_begun, with_behind, with_delivered, with_following, with_paused, with_stalls, with_turned}
 use Rattle.event_runner.specs.declared.answers.Paused.{Paused}
 use Rattle.event_runner.specs.declared.answers.Paused.TheVariants.{Skipped, WaitFault, Woken}
 use Rattle.event_runner.specs.declared.answers.Turned.{Turned}
@@ -30,13 +31,15 @@ use Rattle.ahost_tool.specs.declared.caller.Caller.{Caller}
 use Rattle.ahost_tool.specs.declared.session.LoopEnd.{LoopEnd}
 use Rattle.ahost_tool.specs.declared.session.LoopEnd.TheVariants.{Completed, Stalled, WaitFault as WaitFailed}
 use Rattle.ahost_tool.proofs.MoveLemmas.{Moves, accepted_parts, moves_go_on, moves_kept, moves_none, moves_trans, moves_turn, own_all, session_seats, turn_unset}
-use Rattle.ahost_tool.proofs.OwnerLemmas.{looked_same, paused_same, waited_pending}
+use Rattle.owner_laws.proofs.Owner.{looked_same, paused_same, waited_pending}
+use Rattle.ahost_tool.proofs.PromptLemmas.{IsPrompted, MovesBetween, none_unprompted, prompted_none, prompted_trans}
 use Rattle.ahost_tool.proofs.ThenLemmas.{Grows, Then, grows_none, sets_more, then_more, then_set}
 
--- so many turns were made, and what completed was delivered; behind the last turn the run has come so far
+-- so many turns were made, and what completed was delivered, so that requests were accepted between them because others had completed; behind the last turn the run has come so far
 pub record Made {B : Type 0} (reach : Reach) (turns : ℕ) (old new : Caller B) (before after : Running) (log_old log_new : Option (List WorldCall)) : Type 0 where
   pub moves : Moves old new
-  pub told : (log : Option (List WorldCall)) → RunsSince longest_slice 0 0 rested (known_by_owner old.alone) before log log_old → RunsSince longest_slice turns 0 reach (known_by_owner new.alone) after log log_new
+  pub told : (log : Option (List WorldCall)) → RunsSince longest_slice 0 0 rested (known_by_owner old.alone) before log log_old →
+      RunsWith (IsPrompted old.alone.setting) longest_slice turns 0 reach (known_by_owner new.alone) after log log_new
 
 -- a count of what is pending
 some_counted : (count : ℕ) (xs : List ℕ) → count ≡ length xs → count ≢ 0 → xs ≢ []
@@ -48,15 +51,19 @@ none_counted count (x ∷ xs) is none = let h : length (x ∷ xs) ≡ 0 = sym is
 
 -- no turn was made yet
 pub made_none : {B : Type 0} (a : Caller B) (r : Running) (l : Option (List WorldCall)) → Made rested 0 a a r r l l
-made_none a r l = record { moves = moves_none a; told = λ log since. since }
+made_none a r l = record { moves = moves_none a; told = λ log since. with_begun (IsPrompted a.alone.setting) longest_slice 0 rested (known_by_owner a.alone) r log l since }
 
 module _ {B : Type 0} (turns : ℕ) (a : Caller B) (before : Running) (l : Option (List WorldCall)) where
   -- a part without an entry of a turn
-  pub made_then : (reach : Reach) (b c : Caller B) (r : Running) (m : Option (List WorldCall)) → (p : Moves b c) × (has_no_turn p.since ≡ true) → Made reach turns a b before r l m → Made reach turns a c before r l m
+  pub made_then : (reach : Reach) (b c : Caller B) (r : Running) (m : Option (List WorldCall)) → MovesBetween b c → Made reach turns a b before r l m → Made reach turns a c before r l m
   made_then reach b c r m p x = record {
     moves = moves_trans a b c x.moves p.0;
     told = λ log since.
-        runs_behind longest_slice turns 0 log m reach (known_by_owner b.alone) (known_by_owner c.alone) r (moves_go_on b c p.0) (ap has_no_turn (own_all p.0.since (session_seats p.0.since p.0.of_session)) ∙ p.1) (x.told log since);
+        with_behind (IsPrompted a.alone.setting) longest_slice turns 0 log m reach (known_by_owner b.alone) (known_by_owner c.alone) r (moves_go_on b c p.0)
+        (ap has_no_turn (own_all p.0.since (session_seats p.0.since p.0.of_session)) ∙ p.1)
+        (λ past between is before. prompted_trans a.alone.setting past between p.0.since before
+        (subst (λ s. IsPrompted s (followed_by past between) p.0.since) x.moves.setting (subst (λ q. IsPrompted b.alone.setting q p.0.since) (sym is) p.2)))
+        (x.told log since);
   }
 
   module _ (b : Caller B) (r : Running) (m : Option (List WorldCall)) where
@@ -64,7 +71,7 @@ module _ {B : Type 0} (turns : ℕ) (a : Caller B) (before : Running) (l : Optio
     pub made_delivered : ready b.alone.setting (past_of b.alone.seen) ≡ [] → Made turned turns a b before r l m → Made delivered turns a b before r l m
     made_delivered none x = record {
       moves = x.moves;
-      told = λ log since. runs_delivered longest_slice turns 0 log m (known_by_owner b.alone) r none (x.told log since);
+      told = λ log since. with_delivered (IsPrompted a.alone.setting) longest_slice turns 0 log m (known_by_owner b.alone) r none (x.told log since);
     }
 
     -- a request is pending
@@ -73,7 +80,7 @@ module _ {B : Type 0} (turns : ℕ) (a : Caller B) (before : Running) (l : Optio
         subst (λ o. Made following turns a (record b { alone = o }) before r l m) (sym counts.same) (record {
           moves = x.moves;
           told = λ log since.
-              runs_following longest_slice turns 0 log m (known_by_owner b.alone) r (some_counted count (pending b.alone.setting (past_of b.alone.seen)) counts.count_is some) (x.told log since);
+              with_following (IsPrompted a.alone.setting) longest_slice turns 0 log m (known_by_owner b.alone) r (some_counted count (pending b.alone.setting (past_of b.alone.seen)) counts.count_is some) (x.told log since);
         })
 
     -- one turn more
@@ -81,7 +88,8 @@ module _ {B : Type 0} (turns : ℕ) (a : Caller B) (before : Running) (l : Optio
         Made following turns a b before r l m → Made turned (turns + 1) a (record b { alone = c }) before s l n
     made_turned c s n answer goes read x = record {
       moves = moves_trans a b (record b { alone = c }) x.moves (moves_turn b c goes.goes_on goes.made);
-      told = λ log since. runs_turned longest_slice turns 0 log m (known_by_owner b.alone) (known_by_owner c) r s n answer goes read (x.told log since);
+      told = λ log since.
+          with_turned (IsPrompted a.alone.setting) longest_slice turns 0 log m (prompted_none a.alone.setting) (known_by_owner b.alone) (known_by_owner c) r s n answer goes read (x.told log since);
     }
 
     -- a pause
@@ -90,8 +98,18 @@ module _ {B : Type 0} (turns : ℕ) (a : Caller B) (before : Running) (l : Optio
         Made delivered turns a b before r l m → Made rested turns a (record b { alone = c }) before s l n
     made_paused c s broken n answer some pauses is x = record {
       moves = subst (λ o. Moves a (record b { alone = o })) (sym (paused_same _ answer b.alone c m n pauses)) x.moves;
-      told = λ log since. runs_paused longest_slice turns 0 log m (known_by_owner b.alone) (known_by_owner c) r s broken n answer some pauses is (x.told log since);
+      told = λ log since.
+          let latest : ℕ = min (r.reading + longest_slice) (2 ^ 64 - 1) in
+          let same : c ≡ b.alone = paused_same latest answer b.alone c m n pauses in
+          subst (λ o. RunsWith (IsPrompted a.alone.setting) longest_slice turns 0 rested (known_by_owner o) s log n) (sym same)
+          (with_paused (IsPrompted a.alone.setting) longest_slice turns 0 log m (known_by_owner b.alone) r s broken n answer some
+          (subst (λ o. PausesBy latest answer (known_by_owner b.alone) (known_by_owner o) m n) same pauses) is (x.told log since));
     }
+
+    -- it is a run
+    pub made_runs : (reach : Reach) → Made reach turns a b before r l m → (log : Option (List WorldCall)) → RunsSince longest_slice 0 0 rested (known_by_owner a.alone) before log l →
+        RunsSince longest_slice turns 0 reach (known_by_owner b.alone) r log m
+    made_runs reach x log since = with_any (IsPrompted a.alone.setting) longest_slice turns 0 log m reach (known_by_owner b.alone) r (x.told log since)
 
     -- what a run of turns is, as a course
     pub made_course : (reach : Reach) → Made reach turns a b before r l m → (log : Option (List WorldCall)) → RunsSince longest_slice 0 0 rested (known_by_owner a.alone) before log l →
@@ -99,7 +117,7 @@ module _ {B : Type 0} (turns : ℕ) (a : Caller B) (before : Running) (l : Optio
     made_course reach x log since =
         told_as (λ calls. IsTurnOwner (known_by_owner b.alone) → IsUnderWay longest_slice turns 0 reach (known_by_owner b.alone) r calls)
         (λ calls. IsTurnOwner (known_by_owner b.alone) → IsCourse b.alone.setting 0 longest_slice b.alone.seen calls turns 0)
-        (λ calls way owner. (way owner).course) log m (x.told log since)
+        (λ calls way owner. (way owner).course) log m (made_runs reach x log since)
 
 -- ---- logs that go on, and the servers that are set
 
@@ -166,14 +184,14 @@ module _ {B : Type 0} (later : Option (List ServerAddr)) (most : ℕ) (result : 
 module _ {B : Type 0} (later left : Option (List ServerAddr)) (most turns : ℕ) (a b : Caller B) (before r : Running) (l m : Option (List WorldCall)) where
   -- the turns were made, and this shows how they ended
   ends_ok : (end : LoopEnd) → turns ≤ most → Made rested turns a b before r l m → Then later left turns a b before l m → LeavesPending b.alone.setting (Ok end) (past_of b.alone.seen) →
-      ((calls : List WorldCall) → IsUnderWay longest_slice turns 0 rested (known_by_owner b.alone) r calls → ShowsEnd most end b.alone turns calls) → MakesTurns later most (Ok end) a b before l m
+      ((calls : List WorldCall) → WayWith longest_slice turns 0 (IsPrompted a.alone.setting) rested (known_by_owner b.alone) r calls → ShowsEnd most end b.alone turns calls) → MakesTurns later most (Ok end) a b before l m
   ends_ok end few x t left_is shows = ends_by later most (Ok end) a b before l m x.moves left_is t.sets.at_most (λ log since unset.
       told_as
-      (λ calls. (IsTurnOwner (known_by_owner b.alone) → IsUnderWay longest_slice turns 0 rested (known_by_owner b.alone) r calls)
+      (λ calls. (IsTurnOwner (known_by_owner b.alone) → WayWith longest_slice turns 0 (IsPrompted a.alone.setting) rested (known_by_owner b.alone) r calls)
       × (IsTurnOwner (known_by_owner b.alone) → SetsBehindFirst b.alone.setting later turns b.alone.seen calls))
       (λ calls. IsTurnOwner (known_by_owner b.alone) → FallsIntoTurns later most (Ok end) b.alone calls)
-      (λ calls both owner. (turns, few, (both.0 owner).course, both.1 owner, shows calls (both.0 owner))) log m
-      (told_both (λ calls. IsTurnOwner (known_by_owner b.alone) → IsUnderWay longest_slice turns 0 rested (known_by_owner b.alone) r calls)
+      (λ calls both owner. (turns, few, (both.0 owner).0.course, both.1 owner, shows calls (both.0 owner))) log m
+      (told_both (λ calls. IsTurnOwner (known_by_owner b.alone) → WayWith longest_slice turns 0 (IsPrompted a.alone.setting) rested (known_by_owner b.alone) r calls)
       (λ calls. IsTurnOwner (known_by_owner b.alone) → SetsBehindFirst b.alone.setting later turns b.alone.seen calls) log m (x.told log since) (t.sets.told log since unset)))
 
   -- nothing is pending
@@ -190,7 +208,11 @@ module _ {B : Type 0} (later left : Option (List ServerAddr)) (most turns : ℕ)
       let some = some_counted count (pending b.alone.setting (past_of b.alone.seen)) counts.count_is counted in
       subst (λ o. MakesTurns later most (Ok Stalled) a (record b { alone = o }) before l m) (sym counts.same)
       (ends_ok Stalled (omega (arith, all)) x t (none, some)
-      (λ calls way. (all, subst (λ n. IsStalledBehind b.alone.setting 0 longest_slice n b.alone.seen calls) all (way_stalls longest_slice turns rested (known_by_owner b.alone) r calls some way))))
+      (λ calls way.
+      let stalls = with_stalls (IsPrompted a.alone.setting) longest_slice turns rested (known_by_owner b.alone) r calls some way in
+      let shown = subst (λ n. (stalled : IsStalledBehind b.alone.setting 0 longest_slice n b.alone.seen calls) × (unprompted_in b.alone.setting stalled.course.rounds ≡ 0)) all
+      (stalls.0, subst (λ s. unprompted_in s stalls.0.course.rounds ≡ 0) (sym x.moves.setting) (none_unprompted a.alone.setting stalls.0.course.rounds stalls.1)) in
+      (all, shown.0, shown.1)))
 
   -- a wait failed
   pub ends_failed : (c : Owned) (s : Running) (broken : Bool) (n : Option (List WorldCall)) → 1 ≤ turns → turns ≤ most → ready b.alone.setting (past_of b.alone.seen) ≡ [] →
@@ -204,8 +226,9 @@ module _ {B : Type 0} (later left : Option (List ServerAddr)) (most turns : ℕ)
       (subst (λ o. ready o.setting (past_of o.seen) ≡ []) (sym same) none, waited_pending latest NotWaited b.alone c m n waited)
       t.sets.at_most
       (λ log since unset.
-      let way = runs_paused longest_slice turns 0 log m (known_by_owner b.alone) (known_by_owner c) r s broken n WaitFault some waited is (x.told log since) in
-      let failed = runs_failed (λ calls. IsTurnOwner (known_by_owner b.alone) → IsUnderWay longest_slice turns 0 delivered (known_by_owner b.alone) r calls) latest (known_by_owner b.alone) (known_by_owner c) log m n (x.told log since) waited in
+      let runs = made_runs turns a before l b r m delivered x log since in
+      let way = runs_paused longest_slice turns 0 log m (known_by_owner b.alone) (known_by_owner c) r s broken n WaitFault some waited is runs in
+      let failed = runs_failed (λ calls. IsTurnOwner (known_by_owner b.alone) → IsUnderWay longest_slice turns 0 delivered (known_by_owner b.alone) r calls) latest (known_by_owner b.alone) (known_by_owner c) log m n runs waited in
       told_as
       (λ calls. ((IsTurnOwner (known_by_owner c) → IsUnderWay longest_slice turns 0 rested (known_by_owner c) s calls) × LastWaitFailed calls)
       × (IsTurnOwner (known_by_owner c) → SetsBehindFirst c.setting later turns c.seen calls))
@@ -225,7 +248,7 @@ module _ {B : Type 0} (later left : Option (List ServerAddr)) (most turns : ℕ)
   ends_cut (Err fault) c s n err few stops sets x =
       ends_by later most (Err fault) a (record b { alone = c }) before l n
       (moves_trans a b (record b { alone = c }) x.moves (moves_turn b c stops.goes_on stops.made)) tt sets
-      (λ log since unset. ran_at_most longest_slice (turns + 1) most 0 (known_by_owner c) log n few (runs_cut longest_slice turns 0 log m (known_by_owner b.alone) (known_by_owner c) r s n stops (x.told log since)))
+      (λ log since unset. ran_at_most longest_slice (turns + 1) most 0 (known_by_owner c) log n few (runs_cut longest_slice turns 0 log m (known_by_owner b.alone) (known_by_owner c) r s n stops (made_runs turns a before l b r m following x log since)))
 
   -- or it came where the later servers were to be set
   pub ends_unset : (result : Result LoopEnd NoMemory) (ls : Option (List ServerAddr)) (set_result : Result (Unit {0}) NoMemory) (c : Owned) → is_err result ≡ true → is_err set_result ≡ true → turns ≤ most → SetsLater ls set_result b.alone c → (has_servers a.alone.seen ≡ false → SetsAtMost b.alone.setting later b.alone.seen) →
@@ -234,7 +257,7 @@ module _ {B : Type 0} (later left : Option (List ServerAddr)) (most turns : ℕ)
   ends_unset (Err fault) ls set_result c err failed few set sets x =
       subst (λ o. MakesTurns later most (Err fault) a (record b { alone = o }) before l m) (sym (same ls set_result failed set))
       (ends_by later most (Err fault) a b before l m x.moves tt sets
-      (λ log since unset. ran_at_most longest_slice turns most 0 (known_by_owner b.alone) log m few (ran_so_far longest_slice turns 0 log m turned (known_by_owner b.alone) r (x.told log since))))
+      (λ log since unset. ran_at_most longest_slice turns most 0 (known_by_owner b.alone) log m few (ran_so_far longest_slice turns 0 log m turned (known_by_owner b.alone) r (made_runs turns a before l b r m turned x log since))))
     where
       same : (ls : Option (List ServerAddr)) (set_result : Result (Unit {0}) NoMemory) → is_err set_result ≡ true → SetsLater ls set_result b.alone c → c ≡ b.alone
       same None set_result failed set = set
@@ -250,4 +273,4 @@ module _ {B : Type 0} (later left : Option (List ServerAddr)) (most turns : ℕ)
       ends_by later most (Err fault) a (record b { alone = c }) before l n
       (subst (λ o. Moves a (record b { alone = o })) (sym same) x.moves) tt
       (λ unset. subst (λ o. SetsAtMost o.setting later o.seen) (sym same) (sets unset))
-      (λ log since unset. ran_at_most longest_slice turns most 0 (known_by_owner c) log n few (runs_unpaused longest_slice turns 0 log m (known_by_owner b.alone) (known_by_owner c) r n looked (x.told log since)))
+      (λ log since unset. ran_at_most longest_slice turns most 0 (known_by_owner c) log n few (runs_unpaused longest_slice turns 0 log m (known_by_owner b.alone) (known_by_owner c) r n looked (made_runs turns a before l b r m delivered x log since)))

@@ -34,7 +34,7 @@ use Rattle.ahost_tool.proofs.DeliveryLemmas.{command_takes, take_entry}
 use Rattle.ahost_tool.proofs.KeptLemmas.{commanded_of_session, kept_more, kept_one}
 use Rattle.ahost_tool.proofs.ListLemmas.{all_pass, any_of, denies, each_follows, each_passes, first_passes, none_any}
 use Rattle.ahost_tool.proofs.ObeyLemmas.{done_of, is_plain}
-use Rattle.ahost_tool.proofs.OwnerLemmas.{owned_same, owner_called, owner_went_on, seen_by}
+use Rattle.owner_laws.proofs.Owner.{owned_same, owner_called, owner_went_on, seen_by}
 use Rattle.ahost_tool.proofs.WeightLemmas.{entries_weigh, gives_less, take_weighs}
 
 -- a part of a session: the journal went on with entries of the one seat, none of which accepts a request on nobody's command

@@ -29,7 +29,7 @@ use Rattle.ahost_tool.specs.Delivering.{plan_of}
 use Rattle.ahost_tool.specs.Performing.{IsCommanded, IsOfCommand, Performs, lost_by, lost_for}
 use Rattle.ahost_tool.specs.Weight.{command_size, commands_size, script_size, scripts_size}
 use Rattle.ahost_tool.proofs.ListLemmas.{each_of, positions-append}
-use Rattle.ahost_tool.proofs.OwnerLemmas.{owner_called, seen_by}
+use Rattle.owner_laws.proofs.Owner.{owner_called, seen_by}
 
 -- what is added was commanded so, and stands where it was added
 added_by : (by : ℕ) (added : Option What) → IfSome added IsOfCommand → AllByRecursion (IsCommanded by) (entries_of 0 by added)

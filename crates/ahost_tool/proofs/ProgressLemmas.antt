@@ -1,74 +1,62 @@
--- How many turns a run makes at most that stalled, by the requests that were accepted.
-use Rattle.std.proofs.Common.{◌≡◌, ◌∙◌, ℕ, ◌+◌, ◌*◌, ◌-◌, ◌^◌, ◌≤◌, Bool, true, false, List, [], ◌∷◌, ◌++◌, Option, Some, None, refl, ap, sym, cond, arith, length, length-append, true≢false, ⊎_elim}
-use Rattle.std.proofs.lemmas.Bool.{or_cases}
-use Rattle.std.proofs.lemmas.List.Sums.{sum_by-cons}
-use Rattle.std.specs.Prelude.{flat_map, is_some, not, option_to_list, ◌&&◌, ◌==◌, ◌||◌}
+-- How many turns a run makes at most that stalled, by the attempts that its requests may spend.
+use Rattle.std.proofs.Common.{◌≡◌, ◌∙◌, ℕ, ◌+◌, ◌*◌, ◌≤◌, Bool, true, false, List, [], ◌∷◌, ◌++◌, ap, cond, arith, length, mul-le-mul_left, mul-le-mul_right}
+use Rattle.std.proofs.lemmas.List.Sums.{sum_by-append, sum_by-cons}
+use Rattle.std.specs.Prelude.{is_some, option_to_list, sum_by}
 use Rattle.chan_types.specs.declared.journal.Entry.{Entry}
-use Rattle.chan_types.specs.declared.journal.What.{What}
 use Rattle.net_world.specs.declared.log.WorldCall.{WorldCall}
-use Rattle.channel_model.proofs.Theorems.{followed_by-append}
-use Rattle.channel_model.specs.Completion.{ready}
-use Rattle.channel_model.specs.Course.{Round, entries_of}
+use Rattle.channel_model.specs.AtOnce.{at_once}
 use Rattle.channel_model.specs.Endings.{IsStalledBehind}
 use Rattle.channel_model.specs.Journal.{Accepted, Past, accepted, accepted_by, followed_by, past_of}
+use Rattle.channel_model.specs.Legs.{legs_of}
+use Rattle.channel_model.specs.Questions.{candidates_of}
 use Rattle.channel_model.specs.Setting.{Setting}
 use Rattle.channel_model.specs.Turn.{received_in}
-use Rattle.channel_progress.specs.Allowed.{attempts_allowed}
+use Rattle.channel_progress.specs.Allowed.{attempts_allowed, attempts_for, attempts_of_leg, attempts_of_request}
 use Rattle.channel_progress.specs.PlainRun.{IsPlainRun}
-use Rattle.channel_progress.specs.Prompted.{accepts_some, is_unprompted, unprompted_in}
-use Rattle.channel_progress.proofs.Theorems.{stalled_any}
+use Rattle.channel_progress.specs.Prompted.{unprompted_in}
+use Rattle.channel_progress.proofs.Theorems.{in_use_most-later, stalled_any, times_set-later}
+use Rattle.ahost_tool.specs.Session.{longest_slice}
+use Rattle.ahost_tool.proofs.ObeyLemmas.{past_on}
 
--- ---- how often a request is accepted unprompted
+-- ---- more entries
 
--- an entry accepts what it does
-accepted_one : (what : What) (past : Past) → length (accepted (what ∷ past)) ≡ length (accepted past) + length (option_to_list (accepted_by what))
-accepted_one what past = length-append (accepted past) (option_to_list (accepted_by what))
+-- of what each request counts, no more is counted where each counts no more
+sum_grows : (f g : Accepted → ℕ) → ((request : Accepted) → f request ≤ g request) → (xs : List Accepted) → sum_by f xs ≤ sum_by g xs
+sum_grows f g more [] = omega arith
+sum_grows f g more (x ∷ xs) = omega (arith, more x, sum_grows f g more xs, sum_by-cons f x xs, sum_by-cons g x xs)
 
--- what was accepted stays so
-accepted_grow : (past : Past) (entries : List Entry) → length (accepted past) ≤ length (accepted (followed_by past entries))
-accepted_grow past [] = omega arith
-accepted_grow past (entry ∷ entries) = omega (arith, accepted_one entry.what past, accepted_grow (entry.what ∷ past) entries)
-
--- and more is, where an entry accepts something
-accepts_grow : (past : Past) (entries : List Entry) → accepts_some entries ≡ true → length (accepted past) + 1 ≤ length (accepted (followed_by past entries))
-accepts_grow past [] some = absurd (true≢false (sym some))
-accepts_grow past (entry ∷ entries) some = ⊎_elim
-    (λ (here : is_some (accepted_by entry.what) ≡ true). omega (arith, accepted_one entry.what past, one (accepted_by entry.what) here, accepted_grow (entry.what ∷ past) entries))
-    (λ (later : accepts_some entries ≡ true). omega (arith, accepted_one entry.what past, accepts_grow (entry.what ∷ past) entries later))
-    (or_cases (is_some (accepted_by entry.what)) (accepts_some entries) some)
-  where
-    one : (o : Option Accepted) → is_some o ≡ true → length (option_to_list o) ≡ 1
-    one None e = absurd (true≢false (sym e))
-    one (Some request) e = refl
+-- nor before more requests are accepted
+asked_grow : (f : Accepted → ℕ) (past : Past) (entries : List Entry) → sum_by f (accepted past) ≤ sum_by f (accepted (followed_by past entries))
+asked_grow f past [] = omega arith
+asked_grow f past (entry ∷ entries) = omega (arith, sum_by-append f (accepted past) (option_to_list (accepted_by entry.what)), asked_grow f (entry.what ∷ past) entries)
 
 module _ (setting : Setting) where
-  -- a request is accepted where one is accepted unprompted
-  unprompted_one : (past : Past) (round : Round) → length (accepted past) + cond (is_unprompted setting round) 1 0 ≤ length (accepted (followed_by past round.between))
-  unprompted_one past round = by_test (accepts_some round.between) ((length (ready setting round.new.past) == 0) || not (length (ready setting (followed_by round.new.past round.between)) == 0)) refl
-    where
-      by_test : (b c : Bool) → accepts_some round.between ≡ b → length (accepted past) + cond (b && c) 1 0 ≤ length (accepted (followed_by past round.between))
-      by_test true true is = omega (arith, accepts_grow past round.between is)
-      by_test true false is = omega (arith, accepted_grow past round.between)
-      by_test false c is = omega (arith, accepted_grow past round.between)
+  -- a leg may spend as many attempts in a longer journal
+  leg_grows : (past : Past) (entries : List Entry) → attempts_of_leg setting past ≤ attempts_of_leg setting (followed_by past entries)
+  leg_grows past entries = omega (arith, mul-le-mul_right setting.options.tries (in_use_most-later setting past entries), times_set-later past entries)
 
-  -- no more often than requests are accepted
-  unprompted_few : (past : Past) (rounds : List Round) → unprompted_in setting rounds + length (accepted past) ≤ length (accepted (followed_by past (flat_map entries_of rounds)))
-  unprompted_few past [] = omega arith
-  unprompted_few past (round ∷ rounds) =
-      let parts : followed_by past (flat_map entries_of (round ∷ rounds)) ≡ followed_by (followed_by (followed_by past round.entries) round.between) (flat_map entries_of rounds) =
-      followed_by-append past (round.entries ++ round.between) (flat_map entries_of rounds) ∙ ap (λ p. followed_by p (flat_map entries_of rounds)) (followed_by-append past round.entries round.between) in
+  -- and a request
+  request_grows : (past : Past) (entries : List Entry) (request : Accepted) → attempts_of_request setting past request ≤ attempts_of_request setting (followed_by past entries) request
+  request_grows past entries request = by (is_some (at_once setting request.number request.spec))
+    where
+      by : (b : Bool) → cond b 0 (attempts_for setting past request.spec) ≤ cond b 0 (attempts_for setting (followed_by past entries) request.spec)
+      by true = omega arith
+      by false = mul-le-mul_left (length (candidates_of setting request.spec) * length (legs_of request.spec 0)) (leg_grows past entries)
+
+  -- and all requests
+  allowed_grows : (journal more : List Entry) → attempts_allowed setting journal ≤ attempts_allowed setting (journal ++ more)
+  allowed_grows journal more =
+      let longer : Past = followed_by (past_of journal) more in
       omega (
         arith,
-        ap (λ p. length (accepted p)) parts,
-        accepted_grow past round.entries,
-        unprompted_one (followed_by past round.entries) round,
-        unprompted_few (followed_by (followed_by past round.entries) round.between) rounds,
-        sum_by-cons (λ r. cond (is_unprompted setting r) 1 0) round rounds,
+        sum_grows (attempts_of_request setting (past_of journal)) (attempts_of_request setting longer) (request_grows (past_of journal) more) (accepted (past_of journal)),
+        asked_grow (attempts_of_request setting longer) (past_of journal) more,
+        ap (λ past. sum_by (attempts_of_request setting past) (accepted past)) (past_on journal more),
       )
 
--- two turns for each attempt that the requests may spend, two for each request, and one for each item that was received
-pub stalled_many : (setting : Setting) (seat turns : ℕ) (journal : List Entry) (log : List WorldCall) → IsPlainRun setting seat journal log → IsStalledBehind setting seat (2 ^ 64 - 1) turns journal log
-    → turns ≤ 2 * attempts_allowed setting journal + 2 * length (accepted (past_of journal)) + received_in log
-stalled_many setting seat turns journal log run stalled =
-    let parts : past_of journal ≡ followed_by (followed_by [] stalled.course.first) (flat_map entries_of stalled.course.rounds) = ap past_of stalled.course.journal_is ∙ followed_by-append [] stalled.course.first (flat_map entries_of stalled.course.rounds) in
-    omega (arith, stalled_any setting seat turns journal log run stalled, unprompted_few setting (followed_by [] stalled.course.first) stalled.course.rounds, ap (λ p. length (accepted p)) parts)
+-- ---- the turns
+
+-- two turns for each attempt that the requests may spend, and one for each item that was received
+pub stalled_few : (setting : Setting) (turns : ℕ) (journal more : List Entry) (log : List WorldCall) → IsPlainRun setting 0 journal log → (stalled : IsStalledBehind setting 0 longest_slice turns journal log) →
+    unprompted_in setting stalled.course.rounds ≡ 0 → turns ≤ 2 * attempts_allowed setting (journal ++ more) + received_in log
+stalled_few setting turns journal more log run stalled none = omega (arith, stalled_any setting 0 turns journal log run stalled, none, allowed_grows setting journal more)

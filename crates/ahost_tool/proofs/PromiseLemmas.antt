@@ -294,13 +294,12 @@ module _ {B : Type 0} (asked : Asked) (setting : Setting) (turns : ℕ) (result 
         traffic = told_as (FallsIntoTurns asked.later turns result mid.alone) (IsTraffic setting asked.later turns end fin.alone.seen)
             (λ cs falls. subst (λ j. IsTraffic setting asked.later turns end j cs) (sym fin_seen) (traffic_of setting asked.later turns result fin.calls end mid.alone more mid_setting none_turn unset c cs falls))
             log_old log_new s.told;
-        completes = λ none. told_as (FallsIntoTurns asked.later turns result mid.alone) (λ cs. IsGivenTime setting turns fin.alone.seen cs → ¬ Rose output_old.faults output_new.faults →
+        completes = told_as (FallsIntoTurns asked.later turns result mid.alone) (λ cs. IsGivenTime setting turns fin.alone.seen cs → ¬ Rose output_old.faults output_new.faults →
             IsComplete asked.report (record { status = status; journal = fin.alone.seen; calls = fin.calls }) output_old output_new)
             (λ cs falls time quiet. complete_of asked.report fin.calls fin.alone.seen end status output_old output_new put quiet
-            (comes_to_end setting turns result fin.calls end mid.alone more mid_setting none_turn c servers tries
-            (subst (IsLawful setting) fin_seen lawful) (subst (λ j. list_all is_ruled j ≡ true) fin_seen kept_fin.ruled)
-            (subst (λ j. has_servers j ≡ false) fin_seen (subst (λ ls. SetsAtMost setting ls fin.alone.seen) none sets_at_most))
-            cs (subst (λ ls. FallsIntoTurns ls turns result mid.alone cs) none falls) (subst (λ j. IsGivenTime setting turns j cs) fin_seen time)))
+            (comes_to_end setting asked.later turns result fin.calls end mid.alone more mid_setting servers tries
+            (subst (λ k. IsLawful k mid.alone.seen) mid_setting s.kept.1.lawful) s.kept.1.ruled
+            cs falls (subst (λ j. IsGivenTime setting turns j cs) fin_seen time) c))
             log_old log_new s.told;
         put = put;
       }
@@ -351,7 +350,7 @@ promise_early asked setting turns outside = record {
   stalled = λ is. absurd (cc is);
   sets = at_most_none setting asked.later [] refl;
   traffic = log_same (IsTraffic setting asked.later turns OutOfMemory []) (nothing_called setting asked.later turns) outside.network.log;
-  completes = λ none. log_same (λ calls. IsGivenTime setting turns [] calls → ¬ Rose outside.output.faults outside.output.faults → IsComplete asked.report (record { status = 5; journal = []; calls = [] }) outside.output outside.output)
+  completes = log_same (λ calls. IsGivenTime setting turns [] calls → ¬ Rose outside.output.faults outside.output.faults → IsComplete asked.report (record { status = 5; journal = []; calls = [] }) outside.output outside.output)
       (λ time quiet. inr refl) outside.network.log;
   put = record { told = (refl, refl); counted = omega arith };
 }

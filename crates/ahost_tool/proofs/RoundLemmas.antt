@@ -16,6 +16,7 @@ use Rattle.ahost_tool.specs.Session.{CountsPending, SetsLater}
 use Rattle.ahost_tool.specs.declared.caller.Caller.{Caller}
 use Rattle.ahost_tool.proofs.LoopLemmas.{Made, made_delivered, made_following, made_then, made_turned, then_counted, then_turned}
 use Rattle.ahost_tool.proofs.MoveLemmas.{MovesQuietly, moves_idle, quiet_all}
+use Rattle.ahost_tool.proofs.PromptLemmas.{prompted_all}
 use Rattle.ahost_tool.proofs.ThenLemmas.{Then, grows_none, moves_set, then_more}
 
 -- so many turns were made, and what completed was delivered; the servers that were left were set behind the first
@@ -52,6 +53,6 @@ module _ {B : Type 0} (later left : Option (List ServerAddr)) (turns count : ℕ
         let set_sets : Then later None (turns + 1) a b_set before l n = then_turned later left turns a b_counted before l m d e r u n answer done goes turned_made set counted_sets in
         let all : MovesQuietly b_set f = quiet_all b_set f (moves_idle a b_set set_made.moves idle) delivers in
         record {
-          made = made_delivered (turns + 1) a before l f u n none (made_then (turns + 1) a before l turned b_set f u n (all.0, all.1) set_made);
+          made = made_delivered (turns + 1) a before l f u n none (made_then (turns + 1) a before l turned b_set f u n (all.0, all.1, prompted_all b_set f delivers all.0 none) set_made);
           sets = then_more later a before l None (turns + 1) b_set f n n all.0 all.2 (grows_none n) set_sets;
         }

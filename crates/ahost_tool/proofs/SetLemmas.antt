@@ -12,7 +12,7 @@ use Rattle.channel_model.specs.declared.answers.SetFault.{SetFault}
 use Rattle.channel_model.specs.declared.answers.SetFault.TheVariants.{Closed}
 use Rattle.channel_table.specs.Calling.{Owned, known_by_owner}
 use Rattle.ahost_tool.specs.Session.{SetsLater, SetsThese, servers_entry}
-use Rattle.ahost_tool.proofs.OwnerLemmas.{owned_same, owner_called}
+use Rattle.owner_laws.proofs.Owner.{owned_same, owner_called}
 
 module _ (asked addresses : List ServerAddr) (same : asked ≡ addresses) (a b : Owned) where
   -- they were set

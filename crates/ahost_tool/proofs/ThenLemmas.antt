@@ -9,8 +9,10 @@ use Rattle.item_list.specs.declared.no_memory.NoMemory.{NoMemory}
 use Rattle.net_addr.specs.declared.addr.ServerAddr.{ServerAddr}
 use Rattle.net_world.specs.declared.log.WorldCall.{WorldCall}
 use Rattle.chan_types.specs.declared.journal.Entry.{Entry}
-use Rattle.channel_model.specs.Course.{IsCourse, has_no_turn, is_of_turn}
+use Rattle.channel_model.proofs.Theorems.{servers-ready}
+use Rattle.channel_model.specs.Course.{IsCourse, is_of_turn}
 use Rattle.channel_model.specs.Journal.{past_of}
+use Rattle.channel_model.specs.Servers.{keys_for}
 use Rattle.channel_model.specs.Setting.{Setting}
 use Rattle.channel_table.specs.Calling.{Owned, known_by_owner}
 use Rattle.event_runner.proofs.Theorems.{told_as, told_trans}
@@ -22,6 +24,7 @@ use Rattle.ahost_tool.specs.Session.{FirstTurn, SetsAtMost, SetsBehindFirst, Set
 use Rattle.ahost_tool.specs.declared.caller.Caller.{Caller}
 use Rattle.ahost_tool.proofs.ListLemmas.{any_of}
 use Rattle.ahost_tool.proofs.MoveLemmas.{Moves, moves_none, moves_plain}
+use Rattle.ahost_tool.proofs.PromptLemmas.{MovesBetween, prompted_none}
 
 -- ---- journals that go on without setting servers
 
@@ -251,11 +254,14 @@ module _ {B : Type 0} (later : Option (List ServerAddr)) (a : Caller B) (before 
 
 -- ---- setting them is a part without a turn
 
--- an entry that sets servers takes and accepts nothing, and is no turn's
-pub moves_set : {B : Type 0} (left : Option (List ServerAddr)) (result : Result (Unit {0}) NoMemory) (a : Caller B) (d : Owned) → SetsLater left result a.alone d → (m : Moves a (record a { alone = d })) × (has_no_turn m.since ≡ true)
-moves_set None result a d same = subst (λ o. (m : Moves a (record a { alone = o })) × (has_no_turn m.since ≡ true)) (sym same) (moves_none a, refl)
-moves_set (Some addresses) (Err e) a d same = subst (λ o. (m : Moves a (record a { alone = o })) × (has_no_turn m.since ≡ true)) (sym same) (moves_none a, refl)
-moves_set (Some addresses) (Ok done) a d (inr closed) = subst (λ o. (m : Moves a (record a { alone = o })) × (has_no_turn m.since ≡ true)) (sym closed.1) (moves_none a, refl)
+-- an entry that sets servers takes and accepts nothing, is no turn's, and leaves ready what is
+pub moves_set : {B : Type 0} (left : Option (List ServerAddr)) (result : Result (Unit {0}) NoMemory) (a : Caller B) (d : Owned) → SetsLater left result a.alone d → MovesBetween a (record a { alone = d })
+moves_set None result a d same = subst (λ o. MovesBetween a (record a { alone = o })) (sym same) (moves_none a, refl, prompted_none a.alone.setting (past_of a.alone.seen))
+moves_set (Some addresses) (Err e) a d same = subst (λ o. MovesBetween a (record a { alone = o })) (sym same) (moves_none a, refl, prompted_none a.alone.setting (past_of a.alone.seen))
+moves_set (Some addresses) (Ok done) a d (inr closed) = subst (λ o. MovesBetween a (record a { alone = o })) (sym closed.1) (moves_none a, refl, prompted_none a.alone.setting (past_of a.alone.seen))
 moves_set (Some addresses) (Ok done) a d (inl set) =
-    let seen : d.seen ≡ a.alone.seen ++ servers_entry a.alone.setting addresses (past_of a.alone.seen) ∷ [] = ap (λ o. o.seen) set.1 in
-    (moves_plain a d (servers_entry a.alone.setting addresses (past_of a.alone.seen) ∷ []) seen (ap (λ o. o.setting) set.1) (ap (λ o. o.voice) set.1) (λ was. set.2) refl refl refl, refl)
+    let seen : d.seen ≡ a.alone.seen ++ servers_entry a.alone.setting addresses (past_of a.alone.seen) ∷ [] = ap (λ o. o.seen) set.1 in (
+      moves_plain a d (servers_entry a.alone.setting addresses (past_of a.alone.seen) ∷ []) seen (ap (λ o. o.setting) set.1) (ap (λ o. o.voice) set.1) (λ was. set.2) refl refl refl,
+      refl,
+      inl (refl, servers-ready a.alone.setting (past_of a.alone.seen) (keys_for a.alone.setting addresses (past_of a.alone.seen))),
+    )

@@ -1,6 +1,6 @@
 -- What a run promises: one journal orders what happened in its channel, and what it asked, sent, called and put follows from that journal.
 use Rattle.std.specs.List.{AllByRecursion, list_all}
-use Rattle.std.specs.Prelude.{IsTrue, List, None, Option, Some, [], count_by, length, map, ℕ, ◌*◌, ◌+◌, ◌<◌, ◌≡◌, ◌≢◌, ◌≤◌, ◌⊎◌}
+use Rattle.std.specs.Prelude.{IsTrue, List, Option, Some, [], count_by, length, map, ℕ, ◌*◌, ◌+◌, ◌<◌, ◌≡◌, ◌≢◌, ◌≤◌, ◌⊎◌}
 use mathlib.Core.List.{IsPrefix}
 use Rattle.chan_types.specs.declared.journal.Entry.{Entry}
 use Rattle.net_world.specs.Cause.{Rose}
@@ -10,7 +10,7 @@ use Rattle.channel_model.specs.Completion.{fate, occurrences, pending, ready, re
 use Rattle.channel_model.specs.Course.{IsCourse, IsCourseSoFar}
 use Rattle.channel_model.specs.CutShort.{NearlyAgrees}
 use Rattle.channel_model.specs.Endings.{LastWaitFailed, turns_in}
-use Rattle.channel_model.specs.Journal.{Past, accepted, is_destroy, past_of}
+use Rattle.channel_model.specs.Journal.{Past, is_destroy, past_of}
 use Rattle.channel_model.specs.Lawful.{IsLawful}
 use Rattle.channel_model.specs.Setting.{Setting}
 use Rattle.channel_model.specs.Stretch.{beginning}
@@ -73,9 +73,9 @@ pub record IsTraffic (setting : Setting) (later : Option (List ServerAddr)) (tur
   pub last_wait : end ≡ WaitFault → LastWaitFailed calls
   pub all_turns : end ≡ Stalled → made ≡ turns
 
--- a run is given more turns than two for each attempt that its requests may spend, two for each request, and one for each item that was received, over a network that wakes in time and whose waits don't fail
+-- a run is given more turns than two for each attempt that its requests may spend and one for each item that was received, over a network that wakes in time and whose waits don't fail
 pub record IsGivenTime (setting : Setting) (turns : ℕ) (journal : List Entry) (calls : List WorldCall) : Type 0 where
-  pub enough : 2 * attempts_allowed setting journal + 2 * length (accepted (past_of journal)) + received_in calls < turns
+  pub enough : 2 * attempts_allowed setting journal + received_in calls < turns
   pub wakes : WakesInTime calls
   pub waited : NoWaitFailed calls
 
@@ -120,7 +120,7 @@ pub record Promise (asked : Asked) (setting : Setting) (turns : ℕ) (ended : En
   pub sets : SetsAtMost setting asked.later ended.journal
   -- Where the network tells its calls, those of this run are its servers, turns and waits, and the journal notes what they tell.
   pub traffic : LogGets (IsTraffic setting asked.later turns end ended.journal) before.network.log after.network.log
-  -- A run without later servers that is given time comes to its report, where the output doesn't fail in it, unless memory is wanting.
-  pub completes : asked.later ≡ None → LogGets (λ calls. IsGivenTime setting turns ended.journal calls → ¬ Rose before.output.faults after.output.faults → IsComplete asked.report ended before.output after.output) before.network.log after.network.log
+  -- A run that is given time comes to its report, where the output doesn't fail in it, unless memory is wanting.
+  pub completes : LogGets (λ calls. IsGivenTime setting turns ended.journal calls → ¬ Rose before.output.faults after.output.faults → IsComplete asked.report ended before.output after.output) before.network.log after.network.log
   -- The text was put, once, and the exit status is that of the end; 4 only where the output failed in this run, and 5 for want of memory.
   pub put : IsPut (text_at asked.report ended.journal ended.calls end) end ended.status before.output after.output

@@ -17,6 +17,7 @@ use Rattle.channel_model.specs.Journal.{Past, accepted_by, is_destroyed, past_of
 use Rattle.channel_model.specs.Lawful.{IsLawful}
 use Rattle.channel_model.specs.Servers.{keys_for}
 use Rattle.channel_model.specs.Setting.{Setting}
+use Rattle.channel_progress.specs.Prompted.{unprompted_in}
 use Rattle.channel_table.specs.Calling.{Owned, known_by_owner}
 use Rattle.event_runner.specs.Running.{Running}
 use Rattle.event_runner.specs.State.{IsTurnOwner}
@@ -136,11 +137,13 @@ abbrev pub LeavesPending : Setting → Result LoopEnd NoMemory → Past → Type
 LeavesPending setting (Ok end) past = (ready setting past ≡ []) × IsLeft end (pending setting past)
 LeavesPending setting (Err fault) past = ⊤
 
--- how the turns ended, as it shows: the last wait failed, or all turns were made with a request pending behind the last
+-- how the turns ended, as it shows: the last wait failed, or all turns were made with a request pending behind the last, and between turns no request was accepted unprompted
 abbrev pub ShowsEnd : ℕ → LoopEnd → Owned → ℕ → List WorldCall → Type 0
 ShowsEnd turns Completed channel made calls = ⊤
 ShowsEnd turns WaitFault channel made calls = LastWaitFailed calls
-ShowsEnd turns Stalled channel made calls = (made ≡ turns) × IsStalledBehind channel.setting 0 longest_slice turns channel.seen calls
+ShowsEnd turns Stalled channel made calls =
+    (made ≡ turns) × (stalled : IsStalledBehind channel.setting 0 longest_slice turns channel.seen calls)
+    × (unprompted_in channel.setting stalled.course.rounds ≡ 0)
 
 -- journal and calls fall into at most so many turns, with waits between them; where memory was wanting the last turn may have been cut short, or the telling of the servers
 abbrev pub FallsIntoTurns : Option (List ServerAddr) → ℕ → Result LoopEnd NoMemory → Owned → List WorldCall → Type 0

@@ -1,10 +1,11 @@
 -- How many attempts some requests may spend.
-use Rattle.std.proofs.Common.{◌≡◌, List, [], ◌∷◌, true, false, refl}
+use Rattle.std.proofs.Common.{◌≡◌, ℕ, ◌+◌, List, [], ◌∷◌, ◌++◌, true, false, refl}
 use Rattle.std.specs.Net.Reader as Reader
 use Rattle.std.specs.Prelude.{codes}
 use Rattle.chan_types.specs.Plans.{blank}
 use Rattle.chan_types.specs.declared.journal.Entry.{Entry}
-use Rattle.chan_types.specs.declared.journal.What.TheVariants.{Accept}
+use Rattle.chan_types.specs.declared.journal.What.TheVariants.{Accept, Servers}
+use Rattle.chan_types.specs.declared.server_key.ServerKey.{ServerKey}
 use Rattle.chan_types.specs.declared.spec.Spec.{Spec}
 use Rattle.chan_types.specs.declared.spec.Spec.TheVariants.{Address, Query, Reverse, Search}
 use Rattle.dns_message.specs.NameText as NameText
@@ -28,6 +29,14 @@ setting = record { options = options; hosts = [] }
 -- a journal in which this is asked first
 abbrev asks : Spec → List Entry
 asks spec = record { seat = 0; by = 0; what = Accept 1 spec (blank 0) } ∷ []
+
+-- the server with this key, at 192.0.2.53 plus the key
+abbrev server : ℕ → ServerKey
+server key = record { key = key; address = record { address = V4 (3221226037 + key); port = 53 } }
+
+-- here a list of servers is set
+abbrev sets : List ServerKey → Entry
+sets list = record { seat = 0; by = 0; what = Servers list }
 
 -- a query has one candidate with one leg
 pub for_a_query : attempts_allowed setting (asks (Query (codes "x.test.") kind_a class_in)) ≡ 6
@@ -63,3 +72,26 @@ for_no_name = refl
 pub for_two : attempts_allowed setting (record { seat = 0; by = 0; what = Accept 1 (Reverse (V4 1)) (blank 0) } ∷ record { seat = 0; by = 0; what = Accept 2 (Query (codes "x.test.") kind_a class_in) (blank 0) } ∷ []) ≡ 12
 unfolding NameText.units_of
 for_two = refl
+
+-- where a third server joins the two, three tries of each of three, and one for the list that is set
+pub for_a_third_server : attempts_allowed setting (asks (Query (codes "x.test.") kind_a class_in) ++ sets (server 0 ∷ server 1 ∷ server 2 ∷ []) ∷ []) ≡ 10
+unfolding NameText.units_of
+for_a_third_server = refl
+
+-- where one server is left, the two of the beginning count still
+pub for_one_left : attempts_allowed setting (asks (Query (codes "x.test.") kind_a class_in) ++ sets (server 0 ∷ []) ∷ []) ≡ 7
+unfolding NameText.units_of
+for_one_left = refl
+
+-- where lists are set twice, two more than for the longest of them
+pub for_two_lists : attempts_allowed setting (asks (Query (codes "x.test.") kind_a class_in) ++ sets (server 0 ∷ server 1 ∷ server 2 ∷ []) ∷ sets (server 2 ∷ []) ∷ []) ≡ 11
+unfolding NameText.units_of
+for_two_lists = refl
+
+-- each request may spend so many, though it is accepted later
+pub for_two_and_a_list :
+    attempts_allowed setting
+    (asks (Query (codes "x.test.") kind_a class_in) ++ sets (server 0 ∷ server 1 ∷ server 2 ∷ []) ∷ record { seat = 0; by = 0; what = Accept 2 (Reverse (V4 1)) (blank 0) } ∷ [])
+    ≡ 20
+unfolding NameText.units_of
+for_two_and_a_list = refl

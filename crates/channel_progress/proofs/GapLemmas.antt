@@ -1,5 +1,5 @@
 -- What stands between two turns: where no request is accepted there, the attempts left fall, or only what was ready is taken.
-use Rattle.std.proofs.Common.{◌≡◌, ◌∙◌, ℕ, ◌≤◌, Bool, true, false, List, [], ◌∷◌, Option, Some, None, refl, ap, sym, subst, length, inl, inr, ◌⊎◌, ⊎_elim, eqb-true, true≢false}
+use Rattle.std.proofs.Common.{◌≡◌, ◌∙◌, ℕ, Bool, true, false, List, [], ◌∷◌, Option, Some, None, refl, ap, sym, subst, length, inl, inr, ◌⊎◌, ⊎_elim, eqb-true, true≢false}
 use Rattle.std.proofs.lemmas.Bool.{and_parts, or_cases, or_parts}
 use Rattle.std.specs.List.{AllByRecursion}
 use Rattle.std.specs.Prelude.{is_none, is_some, not, option_map, ◌==◌}
@@ -15,13 +15,13 @@ use Rattle.channel_model.specs.Course.{has_no_turn, is_of_turn}
 use Rattle.channel_model.specs.Journal.{Past, accepted_by, followed_by}
 use Rattle.channel_model.specs.Lawful.{first}
 use Rattle.channel_model.specs.Merge.{bare}
-use Rattle.channel_model.specs.Servers.{attempts, servers_set_by}
 use Rattle.channel_model.specs.Setting.{Setting}
 use Rattle.channel_model.specs.Turn.{parts_of_entry, somewhere}
 use Rattle.channel_progress.specs.Prompted.{accepts_some}
 use Rattle.channel_progress.proofs.AskingLemmas.{pending_says}
-use Rattle.channel_progress.proofs.EntryLemmas.{completes_falls, entries_keep, entry_keeps}
-use Rattle.channel_progress.proofs.FitLemmas.{Falls, IsFit, falls_then, fit_before, fit_one, then_falls}
+use Rattle.channel_progress.proofs.EntryLemmas.{completes_falls, entries_keep, entry_keeps, set_falls}
+use Rattle.channel_progress.proofs.FallLemmas.{Falls, falls_then, then_falls}
+use Rattle.channel_progress.proofs.FitLemmas.{IsFit, fit_before, fit_one}
 use Rattle.channel_progress.proofs.ListLemmas.{Has, has-filter, length-none}
 
 -- the entries take ready requests alone
@@ -73,64 +73,63 @@ module _ (setting : Setting) where
       none_some : ◌≡◌ {A = Option ℕ} None (Some number) → ⊥
       none_some e = absurd cc
 
+module _ (setting : Setting) (end : Past) where
   -- what a Take takes is ready
-  take_lawful : (past : Past) (what : What) (number : ℕ) → what ≡ Take number → IsFit setting (what ∷ past) → first (ready setting past) ≡ Some number
-  take_lawful past what number is fit = (subst (λ w. IsFit setting (w ∷ past)) is fit).lawful.0
+  take_lawful : (past : Past) (what : What) (number : ℕ) → what ≡ Take number → IsFit setting end (what ∷ past) → first (ready setting past) ≡ Some number
+  take_lawful past what number is fit = (subst (λ w. IsFit setting end (w ∷ past)) is fit).lawful.0
 
   -- where nothing is ready, nothing is taken
-  pub takes_none : (past : Past) (entries : List Entry) → ready setting past ≡ [] → AreTakes entries → IsFit setting (followed_by past entries) → entries ≡ []
+  pub takes_none : (past : Past) (entries : List Entry) → ready setting past ≡ [] → AreTakes entries → IsFit setting end (followed_by past entries) → entries ≡ []
   takes_none past [] none takes fit = refl
   takes_none past (entry ∷ entries) none takes fit =
-      absurd (no_take past takes.0.0 none (take_lawful past entry.what takes.0.0 takes.0.1 (fit_before setting (entry.what ∷ past) entries fit)))
+      absurd (no_take setting past takes.0.0 none (take_lawful past entry.what takes.0.0 takes.0.1 (fit_before setting end (entry.what ∷ past) entries fit)))
 
   -- where all that was ready is taken, nothing is then
-  pub takes_all : (past : Past) (entries : List Entry) → AreTakes entries → IsFit setting (followed_by past entries) → somewhere is_none_ready past entries ≡ true → ready setting (followed_by past entries) ≡ []
+  pub takes_all : (past : Past) (entries : List Entry) → AreTakes entries → IsFit setting end (followed_by past entries) → somewhere (is_none_ready setting) past entries ≡ true → ready setting (followed_by past entries) ≡ []
   takes_all past [] takes fit e = length-none (ready setting past) (eqb-true (length (ready setting past)) 0 e)
   takes_all past (entry ∷ entries) takes fit e = ⊎_elim
-      (λ (here : is_none_ready past ≡ true).
-      absurd (no_take past takes.0.0 (length-none (ready setting past) (eqb-true (length (ready setting past)) 0 here)) (take_lawful past entry.what takes.0.0 takes.0.1 (fit_before setting (entry.what ∷ past) entries fit))))
-      (λ (later : somewhere is_none_ready (entry.what ∷ past) entries ≡ true). takes_all (entry.what ∷ past) entries takes.1 fit later)
-      (or_cases (is_none_ready past) (somewhere is_none_ready (entry.what ∷ past) entries) e)
+      (λ (here : is_none_ready setting past ≡ true).
+      absurd (no_take setting past takes.0.0 (length-none (ready setting past) (eqb-true (length (ready setting past)) 0 here)) (take_lawful past entry.what takes.0.0 takes.0.1 (fit_before setting end (entry.what ∷ past) entries fit))))
+      (λ (later : somewhere (is_none_ready setting) (entry.what ∷ past) entries ≡ true). takes_all (entry.what ∷ past) entries takes.1 fit later)
+      (or_cases (is_none_ready setting past) (somewhere (is_none_ready setting) (entry.what ∷ past) entries) e)
 
-module _ (setting : Setting) (some : 1 ≤ attempts setting []) where
   -- a Cancel or a Destroy lets the attempts left fall where a request is pending
-  ends_falls : (what : What) (past : Past) (request : ℕ) (status : Status) → accepted_by what ≡ None → completed_by setting request what past ≡ bare_if_accepted request status past → IsFit setting past → Has request (pending setting past)
-      → Falls setting past (what ∷ past)
+  ends_falls : (what : What) (past : Past) (request : ℕ) (status : Status) → accepted_by what ≡ None → completed_by setting request what past ≡ bare_if_accepted request status past → IsFit setting end past → Has request (pending setting past)
+      → Falls setting end past (what ∷ past)
   ends_falls what past request status accepts is fit pends =
       let says = pending_says setting past request pends in
-      completes_falls setting some what past request accepts fit pends
+      completes_falls setting end what past request accepts fit pends
       (ap is_none (is ∙ ap (option_map (λ (spec : Spec). bare request status [])) says.1))
 
   -- where no request is accepted between two turns, and one is pending, the attempts left fall there, or requests are taken and nothing else is done
-  pub takes_or_falls : (past : Past) (entries : List Entry) (request : ℕ) → has_no_turn entries ≡ true → accepts_some entries ≡ false → IsFit setting (followed_by past entries) → Has request (pending setting past)
-      → Falls setting past (followed_by past entries) ⊎ AreTakes entries
+  pub takes_or_falls : (past : Past) (entries : List Entry) (request : ℕ) → has_no_turn entries ≡ true → accepts_some entries ≡ false → IsFit setting end (followed_by past entries) → Has request (pending setting past)
+      → Falls setting end past (followed_by past entries) ⊎ AreTakes entries
   takes_or_falls past [] request no_turn none fit pends = inr tt
   takes_or_falls past (entry ∷ entries) request no_turn none fit pends =
       let kind = and_parts (not (is_of_turn entry)) (has_no_turn entries) no_turn in
       let accepts = or_parts (is_some (accepted_by entry.what)) (accepts_some entries) none in
       by_what entry.what refl kind.0 accepts.0 fit (takes_or_falls (entry.what ∷ past) entries request kind.1 accepts.1 fit)
     where
-      ends : (what : What) (status : Status) → accepted_by what ≡ None → completed_by setting request what past ≡ bare_if_accepted request status past → IsFit setting (followed_by (what ∷ past) entries)
-          → Falls setting past (followed_by (what ∷ past) entries) ⊎ AreTakes (entry ∷ entries)
+      ends : (what : What) (status : Status) → accepted_by what ≡ None → completed_by setting request what past ≡ bare_if_accepted request status past → IsFit setting end (followed_by (what ∷ past) entries)
+          → Falls setting end past (followed_by (what ∷ past) entries) ⊎ AreTakes (entry ∷ entries)
       ends what status accepts is fit =
-          inl (falls_then setting past (what ∷ past) (followed_by (what ∷ past) entries)
-          (ends_falls what past request status accepts is (fit_one setting what past (fit_before setting (what ∷ past) entries fit)) pends) (entries_keep setting (what ∷ past) entries fit))
+          inl (falls_then setting end past (what ∷ past) (followed_by (what ∷ past) entries)
+          (ends_falls what past request status accepts is (fit_one setting end what past (fit_before setting end (what ∷ past) entries fit)) pends) (entries_keep setting end (what ∷ past) entries fit))
 
-      by_what : (what : What) → entry.what ≡ what → not (not (length (parts_of_entry what) == 0)) ≡ true → is_some (accepted_by what) ≡ false → IsFit setting (followed_by (what ∷ past) entries)
-          → (Has request (pending setting (what ∷ past)) → Falls setting (what ∷ past) (followed_by (what ∷ past) entries) ⊎ AreTakes entries) → Falls setting past (followed_by (what ∷ past) entries) ⊎ AreTakes (entry ∷ entries)
+      by_what : (what : What) → entry.what ≡ what → not (not (length (parts_of_entry what) == 0)) ≡ true → is_some (accepted_by what) ≡ false → IsFit setting end (followed_by (what ∷ past) entries)
+          → (Has request (pending setting (what ∷ past)) → Falls setting end (what ∷ past) (followed_by (what ∷ past) entries) ⊎ AreTakes entries) → Falls setting end past (followed_by (what ∷ past) entries) ⊎ AreTakes (entry ∷ entries)
       by_what (Accept number spec script) is kind accepts fit rest = absurd (true≢false accepts)
       by_what Cancel is kind accepts fit rest = ends Cancel Cancelled refl refl fit
       by_what Destroy is kind accepts fit rest = ends Destroy Destruction refl refl fit
       by_what (Take number) is kind accepts fit rest = ⊎_elim
-          (λ (falls : Falls setting (Take number ∷ past) (followed_by (Take number ∷ past) entries)).
-          inl (then_falls setting past (Take number ∷ past) (followed_by (Take number ∷ past) entries) (entry_keeps setting (Take number) past (fit_before setting (Take number ∷ past) entries fit)) falls))
+          (λ (falls : Falls setting end (Take number ∷ past) (followed_by (Take number ∷ past) entries)).
+          inl (then_falls setting end past (Take number ∷ past) (followed_by (Take number ∷ past) entries) (entry_keeps setting end (Take number) past (fit_before setting end (Take number ∷ past) entries fit)) falls))
           (λ (takes : AreTakes entries). inr ((number, is), takes))
           (rest (subst (Has request) (sym (take-pending setting past number)) pends))
       by_what (Start number leg server link id mix moment) is kind accepts fit rest = absurd (true≢false (sym kind))
       by_what (Arrive server link bytes) is kind accepts fit rest = absurd (true≢false (sym kind))
       by_what (Expire number leg moment) is kind accepts fit rest = absurd (true≢false (sym kind))
       by_what (Fault server link moment) is kind accepts fit rest = absurd (true≢false (sym kind))
-      by_what (Servers list) is kind accepts fit rest = absurd (set_none (fit_before setting (Servers list ∷ past) entries fit).unset.0)
-        where
-          set_none : servers_set_by (Servers list) ≡ None → ⊥
-          set_none e = absurd cc
+      by_what (Servers list) is kind accepts fit rest =
+          inl (falls_then setting end past (Servers list ∷ past) (followed_by (Servers list ∷ past) entries)
+          (set_falls setting end list past request (fit_one setting end (Servers list) past (fit_before setting end (Servers list ∷ past) entries fit)) pends) (entries_keep setting end (Servers list ∷ past) entries fit))

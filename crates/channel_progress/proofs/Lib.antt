@@ -1,10 +1,12 @@
 mod ListLemmas
+pub mod MostLemmas
+mod FitLemmas
 mod LeftLemmas
+mod FallLemmas
 mod CandidateLemmas
 mod StandLemmas
 mod AskingLemmas
 mod FlyingLemmas
-mod FitLemmas
 mod EntryLemmas
 mod ViewLemmas
 mod OfPartLemmas
@@ -15,7 +17,9 @@ mod WaitLemmas
 mod WakeLemmas
 mod RoundLemmas
 mod CourseLemmas
+pub mod FailedLemmas
 pub mod ScriptLemmas
+pub mod PromptedLemmas
 pub mod StalledLemmas
 pub mod Theorems
 pub mod WakingExamples
@@ -23,3 +27,4 @@ pub mod AllowedExamples
 pub mod ExampleWords
 pub mod StalledExample
 pub mod EarlyExample
+pub mod SetExample

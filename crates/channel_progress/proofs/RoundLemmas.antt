@@ -13,18 +13,17 @@ use Rattle.channel_model.specs.Endings.{waited_by}
 use Rattle.channel_model.specs.Flight.{in_flight}
 use Rattle.channel_model.specs.Journal.{Past, followed_by}
 use Rattle.channel_model.specs.Lawful.{Due, first_due}
-use Rattle.channel_model.specs.Servers.{attempts}
 use Rattle.channel_model.specs.Setting.{Setting}
 use Rattle.channel_model.specs.Stretch.{behind}
 use Rattle.channel_model.specs.Turn.{IsTurn, NoneDue, most_entries, received_in, somewhere}
-use Rattle.channel_progress.specs.Allowed.{attempts_so_far}
 use Rattle.channel_progress.specs.Prompted.{accepts_some, is_unprompted}
 use Rattle.channel_progress.specs.Waking.{wakes_in_time}
 use Rattle.channel_progress.proofs.EntryLemmas.{entries_keep}
-use Rattle.channel_progress.proofs.FitLemmas.{Falls, IsFit, Keeps, fit_before}
+use Rattle.channel_progress.proofs.FallLemmas.{Falls, Keeps}
+use Rattle.channel_progress.proofs.FitLemmas.{IsFit, fit_before}
 use Rattle.channel_progress.proofs.GapLemmas.{AreTakes, is_none_ready, is_some_pending, pends_before, takes_all, takes_none, takes_or_falls}
 use Rattle.channel_progress.proofs.WaitLemmas.{Waits, waits}
-use Rattle.channel_progress.proofs.LeftLemmas.{left_in}
+use Rattle.channel_progress.proofs.LeftLemmas.{attempts_so_far, left_in}
 use Rattle.channel_progress.proofs.ListLemmas.{Has, length-none}
 use Rattle.channel_progress.proofs.OfPartLemmas.{AreOfSeat}
 use Rattle.channel_progress.proofs.TurnLemmas.{IsCalm, IsQuiet, turn_says}
@@ -69,15 +68,16 @@ module _ (setting : Setting) where
   settled_rests : (past : Past) → ready setting past ≡ [] → IsCalm setting past → restless past ≡ 0
   settled_rests past none calm = ap (λ b. cond b 0 1) (and_from (length (ready setting past) == 0) _ (ap (λ l. length l == 0) none) (is_calm past calm))
 
+module _ (setting : Setting) (end : Past) where
   -- a turn's number of steps, against what it received and the attempts left
   pub record Counts (round next : Round) : Type 0 where
-    pub few : 1 + restless next.new.past + 2 * left_in setting next.new.past + 2 * attempts_so_far setting round.new.past
-        ≤ received_in next.calls + 2 * left_in setting round.new.past + 2 * attempts_so_far setting next.new.past + restless round.new.past + 2 * cond (is_unprompted setting round) 1 0
+    pub few : 1 + restless setting next.new.past + 2 * left_in setting end next.new.past + 2 * attempts_so_far setting end round.new.past
+        ≤ received_in next.calls + 2 * left_in setting end round.new.past + 2 * attempts_so_far setting end next.new.past + restless setting round.new.past + 2 * cond (is_unprompted setting round) 1 0
 
-module _ (setting : Setting) (some : 1 ≤ attempts setting []) (seat : ℕ) (round next : Round) (later : List WorldCall)
+module _ (setting : Setting) (end : Past) (seat : ℕ) (round next : Round) (later : List WorldCall)
     (turn : IsTurn setting seat next.reading (behind round.new round.between) next.entries next.calls next.new)
     (no_turn : has_no_turn round.between ≡ true) (timely : is_timely setting (2 ^ 64 - 1) round ≡ true) (goes : goes_on setting round ≡ true)
-    (own : AreOfSeat seat next.entries) (fit : IsFit setting next.new.past)
+    (own : AreOfSeat seat next.entries) (fit : IsFit setting end next.new.past)
     (wakes : wakes_in_time (calls_of_rest round.rest ++ (next.calls ++ later)) ≡ true)
     (failed : list_any is_not_waited (filter_map waited_by (calls_of_rest round.rest ++ (next.calls ++ later))) ≡ false) where
   -- the past behind the next turn
@@ -85,24 +85,24 @@ module _ (setting : Setting) (some : 1 ≤ attempts setting []) (seat : ℕ) (ro
   turned = (turn_agrees setting seat next.reading (behind round.new round.between) next.entries next.calls next.new turn).past_is
 
   -- is lawful
-  fit_turned : IsFit setting (followed_by (followed_by round.new.past round.between) next.entries)
-  fit_turned = subst (IsFit setting) turned fit
+  fit_turned : IsFit setting end (followed_by (followed_by round.new.past round.between) next.entries)
+  fit_turned = subst (IsFit setting end) turned fit
 
   -- and so is the one before that turn
-  fit_here : IsFit setting (followed_by round.new.past round.between)
-  fit_here = fit_before setting (followed_by round.new.past round.between) next.entries fit_turned
+  fit_here : IsFit setting end (followed_by round.new.past round.between)
+  fit_here = fit_before setting end (followed_by round.new.past round.between) next.entries fit_turned
 
   -- and the one behind this turn
-  fit_last : IsFit setting round.new.past
-  fit_last = fit_before setting round.new.past round.between fit_here
+  fit_last : IsFit setting end round.new.past
+  fit_last = fit_before setting end round.new.past round.between fit_here
 
   -- between the two turns the attempts left grew by no more than what was accepted
-  gap_keeps : Keeps setting round.new.past (followed_by round.new.past round.between)
-  gap_keeps = entries_keep setting round.new.past round.between fit_here
+  gap_keeps : Keeps setting end round.new.past (followed_by round.new.past round.between)
+  gap_keeps = entries_keep setting end round.new.past round.between fit_here
 
   -- and in the next one too
-  turn_keeps : Keeps setting (followed_by round.new.past round.between) next.new.past
-  turn_keeps = subst (Keeps setting (followed_by round.new.past round.between)) (sym turned) (entries_keep setting (followed_by round.new.past round.between) next.entries fit_turned)
+  turn_keeps : Keeps setting end (followed_by round.new.past round.between) next.new.past
+  turn_keeps = subst (Keeps setting end (followed_by round.new.past round.between)) (sym turned) (entries_keep setting end (followed_by round.new.past round.between) next.entries fit_turned)
 
   -- between them there is a position at which nothing is ready, and one at which a request is pending
   ready_and_pending : (somewhere (is_none_ready setting) round.new.past round.between ≡ true) × (somewhere (is_some_pending setting) round.new.past round.between ≡ true)
@@ -131,13 +131,13 @@ module _ (setting : Setting) (some : 1 ≤ attempts setting []) (seat : ℕ) (ro
   quiet_rests : IsQuiet setting next.reading next.calls (followed_by round.new.past round.between) next.new.past → ready setting (followed_by round.new.past round.between) ≡ [] → restless setting next.new.past ≡ 0
   quiet_rests quiet none = settled_rests setting next.new.past (quiet.settles.ready_same ∙ none) quiet.settles.calm
 
-  by_accepts : IsQuiet setting next.reading next.calls (followed_by round.new.past round.between) next.new.past → accepts_some round.between ≡ true → Counts setting round next
+  by_accepts : IsQuiet setting next.reading next.calls (followed_by round.new.past round.between) next.new.past → accepts_some round.between ≡ true → Counts setting end round next
   by_accepts quiet accepts = by_test (length (ready setting round.new.past) == 0) (length (ready setting (followed_by round.new.past round.between)) == 0) refl refl
     where
       unprompted : (b c : Bool) → (length (ready setting round.new.past) == 0) ≡ b → (length (ready setting (followed_by round.new.past round.between)) == 0) ≡ c → ◌≡◌ {A = ℕ} (cond (is_unprompted setting round) 1 0) (cond (b || not c) 1 0)
       unprompted b c is also = λ k. cond (accepts k && (is k || not (also k))) 1 0
 
-      by_test : (b c : Bool) → (length (ready setting round.new.past) == 0) ≡ b → (length (ready setting (followed_by round.new.past round.between)) == 0) ≡ c → Counts setting round next
+      by_test : (b c : Bool) → (length (ready setting round.new.past) == 0) ≡ b → (length (ready setting (followed_by round.new.past round.between)) == 0) ≡ c → Counts setting end round next
       by_test true c is also = record { few = omega (arith, gap_keeps.less, turn_keeps.less, restless_few setting next.new.past, unprompted true c is also) }
       by_test false false is also = record { few = omega (arith, gap_keeps.less, turn_keeps.less, restless_few setting next.new.past, unprompted false false is also) }
       by_test false true is also =
@@ -145,33 +145,33 @@ module _ (setting : Setting) (some : 1 ≤ attempts setting []) (seat : ℕ) (ro
           let none = length-none (ready setting (followed_by round.new.past round.between)) (eqb-true (length (ready setting (followed_by round.new.past round.between))) 0 also) in
           record { few = omega (arith, gap_keeps.less, turn_keeps.less, restless_here, quiet_rests quiet none) }
 
-  by_takes : IsQuiet setting next.reading next.calls (followed_by round.new.past round.between) next.new.past → (request : ℕ) → Has request (pending setting round.new.past) → AreTakes round.between → Counts setting round next
+  by_takes : IsQuiet setting next.reading next.calls (followed_by round.new.past round.between) next.new.past → (request : ℕ) → Has request (pending setting round.new.past) → AreTakes round.between → Counts setting end round next
   by_takes quiet request pends takes = by_test (is_settled setting round.new.past) refl
     where
       rests : restless setting next.new.past ≡ 0
-      rests = quiet_rests quiet (takes_all setting round.new.past round.between takes fit_here ready_and_pending.0)
+      rests = quiet_rests quiet (takes_all setting end round.new.past round.between takes fit_here ready_and_pending.0)
 
-      by_test : (b : Bool) → is_settled setting round.new.past ≡ b → Counts setting round next
+      by_test : (b : Bool) → is_settled setting round.new.past ≡ b → Counts setting end round next
       by_test true is =
           let says = settled_says setting round.new.past is in
-          let alone = takes_none setting round.new.past round.between says.0 takes fit_here in
-          let received = some_received (waited quiet alone (waits setting round request fit_last pends says.0 says.1 alone goes timely)) in
+          let alone = takes_none setting end round.new.past round.between says.0 takes fit_here in
+          let received = some_received (waited quiet alone (waits setting round request fit_last.lawful pends says.0 says.1 alone goes timely)) in
           record { few = omega (arith, gap_keeps.less, turn_keeps.less, rests, received) }
       by_test false is =
           let restless_here : restless setting round.new.past ≡ 1 = ap (λ b. cond b 0 1) is in
           record { few = omega (arith, gap_keeps.less, turn_keeps.less, rests, restless_here) }
 
-  by_gap : IsQuiet setting next.reading next.calls (followed_by round.new.past round.between) next.new.past → accepts_some round.between ≡ false → Counts setting round next
+  by_gap : IsQuiet setting next.reading next.calls (followed_by round.new.past round.between) next.new.past → accepts_some round.between ≡ false → Counts setting end round next
   by_gap quiet none =
       let pends = pends_before setting round.new.past round.between none ready_and_pending.1 in
       ⊎_elim
-      (λ (falls : Falls setting round.new.past (followed_by round.new.past round.between)). record { few = omega (arith, falls.less, turn_keeps.less, restless_few setting next.new.past) })
+      (λ (falls : Falls setting end round.new.past (followed_by round.new.past round.between)). record { few = omega (arith, falls.less, turn_keeps.less, restless_few setting next.new.past) })
       (λ (takes : AreTakes round.between). by_takes quiet pends.0 pends.1 takes)
-      (takes_or_falls setting some round.new.past round.between pends.0 no_turn none fit_here pends.1)
+      (takes_or_falls setting end round.new.past round.between pends.0 no_turn none fit_here pends.1)
 
   -- each turn but the first is counted
-  pub turn_counts : Counts setting round next
+  pub turn_counts : Counts setting end round next
   turn_counts = ⊎_elim
-      (λ (falls : Falls setting (followed_by round.new.past round.between) next.new.past). record { few = omega (arith, gap_keeps.less, falls.less, restless_few setting next.new.past) })
+      (λ (falls : Falls setting end (followed_by round.new.past round.between) next.new.past). record { few = omega (arith, gap_keeps.less, falls.less, restless_few setting next.new.past) })
       (λ (quiet : IsQuiet setting next.reading next.calls (followed_by round.new.past round.between) next.new.past). ⊎_elim (by_accepts quiet) (by_gap quiet) (cases_Bool (accepts_some round.between)))
-      (turn_says setting some seat next.reading (behind round.new round.between) next.new next.entries next.calls turn own fit)
+      (turn_says setting end seat next.reading (behind round.new round.between) next.new next.entries next.calls turn own fit)

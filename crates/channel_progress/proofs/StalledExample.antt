@@ -143,7 +143,6 @@ plain = record {
     );
   };
   alone = refl;
-  unset = (refl, (refl, (refl, (refl, tt))));
   some_server = omega arith;
   some_try = omega arith;
   waited = refl;

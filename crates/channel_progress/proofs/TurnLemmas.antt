@@ -7,12 +7,12 @@ use Rattle.channel_model.proofs.Theorems.{all_used_many, parts_agree}
 use Rattle.channel_model.specs.Completion.{ready, waiting}
 use Rattle.channel_model.specs.Flight.{begun_by, in_flight}
 use Rattle.channel_model.specs.Journal.{Past, followed_by}
-use Rattle.channel_model.specs.Servers.{attempts}
 use Rattle.channel_model.specs.Setting.{Setting}
 use Rattle.channel_model.specs.Stretch.{Standing}
 use Rattle.channel_model.specs.Turn.{HaveMade, IsTurn, NoneDue, NoneStarts, closing, expired_in, expiring, most_entries, received_in, receiving, started_in, starting, writing}
 use Rattle.channel_progress.proofs.EntryLemmas.{entries_keep}
-use Rattle.channel_progress.proofs.FitLemmas.{Falls, IsFit, Keeps, falls_then, fit_before, then_falls}
+use Rattle.channel_progress.proofs.FallLemmas.{Falls, Keeps, falls_then, then_falls}
+use Rattle.channel_progress.proofs.FitLemmas.{IsFit, fit_before}
 use Rattle.channel_progress.proofs.PartLemmas.{closes_alone, expires, receives, starts, writes}
 use Rattle.channel_progress.proofs.OfPartLemmas.{AreOfSeat, are_of_part, begun_in-followed, of_seat-append, own_all, received_in-append, receives_nothing}
 use Rattle.channel_progress.proofs.ViewLemmas.{BeginsAll, SameView, begun_in}
@@ -46,7 +46,7 @@ module _ (setting : Setting) where
   settles_behind : (old middle new : Past) → ready setting middle ≡ ready setting old → Settles middle new → Settles old new
   settles_behind old middle new same settles = record { ready_same = settles.ready_same ∙ same; calm = settles.calm }
 
-module _ (setting : Setting) (some : 1 ≤ attempts setting []) (seat reading : ℕ) where
+module _ (setting : Setting) (end : Past) (seat reading : ℕ) where
   -- the last part makes no entry
   closing_says : (old new : Standing) (entries : List Entry) (calls : List WorldCall) → HaveMade setting seat reading (closing ∷ []) old entries calls new → AreOfSeat seat entries → new.past ≡ old.past
   closing_says old new entries calls j own =
@@ -55,35 +55,35 @@ module _ (setting : Setting) (some : 1 ≤ attempts setting []) (seat reading : 
       ap (λ (s : Standing). s.past) j.two.same ∙ j.one.agrees.past_is ∙ ap (followed_by old.past) none
 
   -- the last two parts: the attempts left fall, or all is the same
-  writing_says : (old new : Standing) (entries : List Entry) (calls : List WorldCall) → HaveMade setting seat reading (writing ∷ closing ∷ []) old entries calls new → AreOfSeat seat entries → IsFit setting new.past
-      → Falls setting old.past new.past ⊎ SameView setting old.past new.past
+  writing_says : (old new : Standing) (entries : List Entry) (calls : List WorldCall) → HaveMade setting seat reading (writing ∷ closing ∷ []) old entries calls new → AreOfSeat seat entries → IsFit setting end new.past
+      → Falls setting end old.past new.past ⊎ SameView setting old.past new.past
   writing_says old new entries calls j own fit =
       let parts = of_seat-append seat j.entries_first j.entries_then (subst (AreOfSeat seat) j.entries_are own) in
       let here : new.past ≡ followed_by old.past j.entries_first = closing_says j.middle new j.entries_then j.calls_then j.two parts.1 ∙ j.one.agrees.past_is in
-      subst (λ p. Falls setting old.past p ⊎ SameView setting old.past p) (sym here)
-      (writes setting some old.past j.entries_first (are_of_part writing seat reading j.entries_first j.calls_first parts.0 j.one.alone) (subst (IsFit setting) here fit))
+      subst (λ p. Falls setting end old.past p ⊎ SameView setting old.past p) (sym here)
+      (writes setting end old.past j.entries_first (are_of_part writing seat reading j.entries_first j.calls_first parts.0 j.one.alone) (subst (IsFit setting end) here fit))
 
   -- the last three: or no attempt can start behind them
-  starting_says : (old new : Standing) (entries : List Entry) (calls : List WorldCall) → HaveMade setting seat reading (starting ∷ writing ∷ closing ∷ []) old entries calls new → AreOfSeat seat entries → IsFit setting new.past
-      → Falls setting old.past new.past ⊎ Settles setting old.past new.past
+  starting_says : (old new : Standing) (entries : List Entry) (calls : List WorldCall) → HaveMade setting seat reading (starting ∷ writing ∷ closing ∷ []) old entries calls new → AreOfSeat seat entries → IsFit setting end new.past
+      → Falls setting end old.past new.past ⊎ Settles setting old.past new.past
   starting_says old new entries calls j own fit =
       let parts = of_seat-append seat j.entries_first j.entries_then (subst (AreOfSeat seat) j.entries_are own) in
       let first : j.middle.past ≡ followed_by old.past j.entries_first = j.one.agrees.past_is in
       let last : new.past ≡ followed_by j.middle.past j.entries_then = (parts_agree setting seat reading (writing ∷ closing ∷ []) j.middle j.entries_then j.calls_then new j.two).past_is in
-      let fit_last : IsFit setting (followed_by j.middle.past j.entries_then) = subst (IsFit setting) last fit in
-      let fit_first : IsFit setting (followed_by old.past j.entries_first) = subst (IsFit setting) first (fit_before setting j.middle.past j.entries_then fit_last) in
-      let keeps_first : Keeps setting old.past j.middle.past = subst (Keeps setting old.past) (sym first) (entries_keep setting old.past j.entries_first fit_first) in
-      let keeps_last : Keeps setting j.middle.past new.past = subst (Keeps setting j.middle.past) (sym last) (entries_keep setting j.middle.past j.entries_then fit_last) in
+      let fit_last : IsFit setting end (followed_by j.middle.past j.entries_then) = subst (IsFit setting end) last fit in
+      let fit_first : IsFit setting end (followed_by old.past j.entries_first) = subst (IsFit setting end) first (fit_before setting end j.middle.past j.entries_then fit_last) in
+      let keeps_first : Keeps setting end old.past j.middle.past = subst (Keeps setting end old.past) (sym first) (entries_keep setting end old.past j.entries_first fit_first) in
+      let keeps_last : Keeps setting end j.middle.past new.past = subst (Keeps setting end j.middle.past) (sym last) (entries_keep setting end j.middle.past j.entries_then fit_last) in
       let begun : begun_in j.middle.past ≡ begun_in old.past + length (filter_map (λ (e : Entry). begun_by e.what) j.entries_first) = ap begun_in first ∙ begun_in-followed old.past j.entries_first in
       let all_own : started_in seat j.entries_first ≡ length (filter_map (λ (e : Entry). begun_by e.what) j.entries_first) = ap (λ l. length (filter_map (λ (e : Entry). begun_by e.what) l)) (own_all seat j.entries_first parts.0) in
       ⊎_elim
-      (λ (falls : Falls setting old.past j.middle.past). inl (falls_then setting old.past j.middle.past new.past falls keeps_last))
+      (λ (falls : Falls setting end old.past j.middle.past). inl (falls_then setting end old.past j.middle.past new.past falls keeps_last))
       (λ (begins : BeginsAll setting old.past j.middle.past). ⊎_elim
-      (λ falls. inl (then_falls setting old.past j.middle.past new.past keeps_first falls))
+      (λ falls. inl (then_falls setting end old.past j.middle.past new.past keeps_first falls))
       (λ (same : SameView setting j.middle.past new.past). inr (settles_behind setting old.past j.middle.past new.past begins.ready_same (record { ready_same = same.ready_same; calm = same_calm setting j.middle.past new.past same (calm j.middle begins begun all_own j.one.all) })))
       (writing_says j.middle new j.entries_then j.calls_then j.two parts.1 fit))
-      (subst (λ p. Falls setting old.past p ⊎ BeginsAll setting old.past p) (sym first)
-      (starts setting some old.past j.entries_first (are_of_part starting seat reading j.entries_first j.calls_first parts.0 j.one.alone) fit_first))
+      (subst (λ p. Falls setting end old.past p ⊎ BeginsAll setting old.past p) (sym first)
+      (starts setting end old.past j.entries_first (are_of_part starting seat reading j.entries_first j.calls_first parts.0 j.one.alone) fit_first))
     where
       calm : (middle : Standing) → BeginsAll setting old.past middle.past → {n : ℕ} → begun_in middle.past ≡ begun_in old.past + n → {m : ℕ} → m ≡ n → NoneStarts setting middle.past ⊎ (m ≡ most_entries) → IsCalm setting middle.past
       calm middle begins begun all_own (inl (inl none)) = inl none
@@ -91,46 +91,46 @@ module _ (setting : Setting) (some : 1 ≤ attempts setting []) (seat reading : 
       calm middle begins begun all_own (inr count) = inr (omega (arith, begins.flies, begun, all_own, count))
 
   -- the last four: or nothing was due either
-  expiring_says : (old new : Standing) (entries : List Entry) (calls : List WorldCall) → HaveMade setting seat reading (expiring ∷ starting ∷ writing ∷ closing ∷ []) old entries calls new → AreOfSeat seat entries → IsFit setting new.past
-      → Falls setting old.past new.past ⊎ Rests setting reading old.past new.past
+  expiring_says : (old new : Standing) (entries : List Entry) (calls : List WorldCall) → HaveMade setting seat reading (expiring ∷ starting ∷ writing ∷ closing ∷ []) old entries calls new → AreOfSeat seat entries → IsFit setting end new.past
+      → Falls setting end old.past new.past ⊎ Rests setting reading old.past new.past
   expiring_says old new entries calls j own fit =
       let parts = of_seat-append seat j.entries_first j.entries_then (subst (AreOfSeat seat) j.entries_are own) in
       let first : j.middle.past ≡ followed_by old.past j.entries_first = j.one.agrees.past_is in
       let last : new.past ≡ followed_by j.middle.past j.entries_then = (parts_agree setting seat reading (starting ∷ writing ∷ closing ∷ []) j.middle j.entries_then j.calls_then new j.two).past_is in
-      let fit_last : IsFit setting (followed_by j.middle.past j.entries_then) = subst (IsFit setting) last fit in
-      let fit_first : IsFit setting (followed_by old.past j.entries_first) = subst (IsFit setting) first (fit_before setting j.middle.past j.entries_then fit_last) in
-      let keeps_last : Keeps setting j.middle.past new.past = subst (Keeps setting j.middle.past) (sym last) (entries_keep setting j.middle.past j.entries_then fit_last) in
+      let fit_last : IsFit setting end (followed_by j.middle.past j.entries_then) = subst (IsFit setting end) last fit in
+      let fit_first : IsFit setting end (followed_by old.past j.entries_first) = subst (IsFit setting end) first (fit_before setting end j.middle.past j.entries_then fit_last) in
+      let keeps_last : Keeps setting end j.middle.past new.past = subst (Keeps setting end j.middle.past) (sym last) (entries_keep setting end j.middle.past j.entries_then fit_last) in
       ⊎_elim
-      (λ falls. inl (falls_then setting old.past j.middle.past new.past (subst (Falls setting old.past) (sym first) falls) keeps_last))
+      (λ falls. inl (falls_then setting end old.past j.middle.past new.past (subst (Falls setting end old.past) (sym first) falls) keeps_last))
       (λ (none : j.entries_first ≡ []). let same : j.middle.past ≡ old.past = first ∙ ap (followed_by old.past) none in
-      subst (λ p. Falls setting p new.past ⊎ Rests setting reading p new.past) same
+      subst (λ p. Falls setting end p new.past ⊎ Rests setting reading p new.past) same
       (⊎_elim
       (λ falls. inl falls)
       (λ (settles : Settles setting j.middle.past new.past). inr (record { settles = settles; none_due = none_due j.middle j.entries_first none j.one.all }))
       (starting_says j.middle new j.entries_then j.calls_then j.two parts.1 fit)))
-      (expires setting some old.past j.entries_first (are_of_part expiring seat reading j.entries_first j.calls_first parts.0 j.one.alone) fit_first)
+      (expires setting end old.past j.entries_first (are_of_part expiring seat reading j.entries_first j.calls_first parts.0 j.one.alone) fit_first)
     where
       none_due : (middle : Standing) (expired : List Entry) → expired ≡ [] → NoneDue setting reading middle.past ⊎ (expired_in seat expired ≡ most_entries) → NoneDue setting reading middle.past
       none_due middle expired none (inl due) = due
       none_due middle expired none (inr many) = let is : expired_in seat expired ≡ 0 = ap (expired_in seat) none in absurd (omega (arith, is, many))
 
   -- a whole turn
-  pub turn_says : (old new : Standing) (entries : List Entry) (calls : List WorldCall) → IsTurn setting seat reading old entries calls new → AreOfSeat seat entries → IsFit setting new.past
-      → Falls setting old.past new.past ⊎ IsQuiet setting reading calls old.past new.past
+  pub turn_says : (old new : Standing) (entries : List Entry) (calls : List WorldCall) → IsTurn setting seat reading old entries calls new → AreOfSeat seat entries → IsFit setting end new.past
+      → Falls setting end old.past new.past ⊎ IsQuiet setting reading calls old.past new.past
   turn_says old new entries calls turn own fit =
       let j = turn.parts in
       let parts = of_seat-append seat j.entries_first j.entries_then (subst (AreOfSeat seat) j.entries_are own) in
       let first : j.middle.past ≡ followed_by old.past j.entries_first = j.one.agrees.past_is in
       let last : new.past ≡ followed_by j.middle.past j.entries_then = (parts_agree setting seat reading (expiring ∷ starting ∷ writing ∷ closing ∷ []) j.middle j.entries_then j.calls_then new j.two).past_is in
-      let fit_last : IsFit setting (followed_by j.middle.past j.entries_then) = subst (IsFit setting) last fit in
-      let fit_first : IsFit setting (followed_by old.past j.entries_first) = subst (IsFit setting) first (fit_before setting j.middle.past j.entries_then fit_last) in
-      let keeps_first : Keeps setting old.past j.middle.past = subst (Keeps setting old.past) (sym first) (entries_keep setting old.past j.entries_first fit_first) in
-      let keeps_last : Keeps setting j.middle.past new.past = subst (Keeps setting j.middle.past) (sym last) (entries_keep setting j.middle.past j.entries_then fit_last) in
+      let fit_last : IsFit setting end (followed_by j.middle.past j.entries_then) = subst (IsFit setting end) last fit in
+      let fit_first : IsFit setting end (followed_by old.past j.entries_first) = subst (IsFit setting end) first (fit_before setting end j.middle.past j.entries_then fit_last) in
+      let keeps_first : Keeps setting end old.past j.middle.past = subst (Keeps setting end old.past) (sym first) (entries_keep setting end old.past j.entries_first fit_first) in
+      let keeps_last : Keeps setting end j.middle.past new.past = subst (Keeps setting end j.middle.past) (sym last) (entries_keep setting end j.middle.past j.entries_then fit_last) in
       let split : received_in calls ≡ received_in j.calls_first + received_in j.calls_then = ap received_in turn.calls_are ∙ ap received_in j.calls_are ∙ received_in-append j.calls_first j.calls_then in
       ⊎_elim
-      (λ falls. inl (falls_then setting old.past j.middle.past new.past (subst (Falls setting old.past) (sym first) falls) keeps_last))
+      (λ falls. inl (falls_then setting end old.past j.middle.past new.past (subst (Falls setting end old.past) (sym first) falls) keeps_last))
       (λ (same : ready setting (followed_by old.past j.entries_first) ≡ ready setting old.past). ⊎_elim
-      (λ falls. inl (then_falls setting old.past j.middle.past new.past keeps_first falls))
+      (λ falls. inl (then_falls setting end old.past j.middle.past new.past keeps_first falls))
       (λ (rests : Rests setting reading j.middle.past new.past). inr (record {
         settles = settles_behind setting old.past j.middle.past new.past (ap (ready setting) first ∙ same) rests.settles;
         none_due = λ nothing.
@@ -138,4 +138,4 @@ module _ (setting : Setting) (some : 1 ≤ attempts setting []) (seat reading : 
             subst (NoneDue setting reading) (first ∙ ap (followed_by old.past) none) rests.none_due;
       }))
       (expiring_says j.middle new j.entries_then j.calls_then j.two parts.1 fit))
-      (receives setting some old.past j.entries_first (are_of_part receiving seat reading j.entries_first j.calls_first parts.0 j.one.alone) fit_first)
+      (receives setting end old.past j.entries_first (are_of_part receiving seat reading j.entries_first j.calls_first parts.0 j.one.alone) fit_first)

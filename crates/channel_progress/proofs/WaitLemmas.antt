@@ -9,12 +9,11 @@ use Rattle.channel_model.specs.Completion.{pending, ready, waiting}
 use Rattle.channel_model.specs.Course.{Rest, Round, goes_on, is_timely, skips, wakes_at}
 use Rattle.channel_model.specs.Flight.{Attempt, begun_by, in_flight, is_of_leg}
 use Rattle.channel_model.specs.Journal.{Past}
-use Rattle.channel_model.specs.Lawful.{Due, due_of, first_due, least, least_due}
+use Rattle.channel_model.specs.Lawful.{Due, IsLawfulPast, due_of, first_due, least, least_due}
 use Rattle.channel_model.specs.Legs.{Leg}
 use Rattle.channel_model.specs.Setting.{Setting}
 use Rattle.channel_model.specs.Turn.{most_entries, somewhere}
 use Rattle.channel_progress.proofs.EntryLemmas.{least-has}
-use Rattle.channel_progress.proofs.FitLemmas.{IsFit}
 use Rattle.channel_progress.proofs.FlyingLemmas.{some_flies}
 use Rattle.channel_progress.proofs.ListLemmas.{Has, map-has}
 use Rattle.channel_progress.proofs.TurnLemmas.{IsCalm}
@@ -50,9 +49,9 @@ module _ (setting : Setting) where
       by_list (a ∷ more) is = (least_due (due_of setting past a) (map (due_of setting past) more), ap (λ l. least (map (due_of setting past) l)) is)
 
   -- where a request is pending and no attempt can start, one is in flight
-  calm_flies : (past : Past) (request : ℕ) → IsFit setting past → Has request (pending setting past) → IsCalm setting past → in_flight setting past ≡ [] → ⊥
-  calm_flies past request fit pends (inl none) idle = some_flies setting past request fit.lawful pends none idle
-  calm_flies past request fit pends (inr many) idle = let is : length (in_flight setting past) ≡ 0 = ap length idle in absurd (omega (arith, is, many))
+  calm_flies : (past : Past) (request : ℕ) → IsLawfulPast setting past → Has request (pending setting past) → IsCalm setting past → in_flight setting past ≡ [] → ⊥
+  calm_flies past request lawful pends (inl none) idle = some_flies setting past request lawful pends none idle
+  calm_flies past request lawful pends (inr many) idle = let is : length (in_flight setting past) ≡ 0 = ap length idle in absurd (omega (arith, is, many))
 
   -- the test whether one can start says so
   calm_none : (past : Past) → IsCalm setting past → (not (length (waiting setting past) == 0) && nat_lt (length (in_flight setting past)) most_entries) ≡ false
@@ -82,7 +81,7 @@ module _ (setting : Setting) where
     pub first : first_due setting round.new.past ≡ Some due
     pub until : due.at ≤ rest.until
 
-  module _ (round : Round) (request : ℕ) (fit : IsFit setting round.new.past) (pends : Has request (pending setting round.new.past)) (none : ready setting round.new.past ≡ []) (calm : IsCalm setting round.new.past)
+  module _ (round : Round) (request : ℕ) (lawful : IsLawfulPast setting round.new.past) (pends : Has request (pending setting round.new.past)) (none : ready setting round.new.past ≡ []) (calm : IsCalm setting round.new.past)
       (alone : round.between ≡ []) where
     -- so that there is a wait
     rested : goes_on setting round ≡ true → is_some round.rest ≡ true
@@ -108,6 +107,6 @@ module _ (setting : Setting) where
         by_rest : (o : Option Rest) → round.rest ≡ o → is_some o ≡ true → option_map_or (λ (rest : Rest). somewhere (λ past. rest.until == wakes_at setting round.reading (2 ^ 64 - 1) past) round.new.past round.between) o true ≡ true → Waits round
         by_rest None is some timely = absurd (true≢false (sym some))
         by_rest (Some rest) is some timely =
-            let due = some_due round.new.past (calm_flies round.new.past request fit pends calm) in
+            let due = some_due round.new.past (calm_flies round.new.past request lawful pends calm) in
             let here = subst (λ l. somewhere (λ past. rest.until == wakes_at setting round.reading (2 ^ 64 - 1) past) round.new.past l ≡ true) alone timely in
             record { rest = rest; rests = is; due = due.0; first = due.1; until = by_due rest due.0 due.1 (eqb-true rest.until (wakes_at setting round.reading (2 ^ 64 - 1) round.new.past) here) }

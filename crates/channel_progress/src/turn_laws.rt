@@ -14,7 +14,7 @@ ghost use Rattle.channel_progress.specs.Prompted.{accepts_some, unprompted_in};
 /// The law that a run in which a request is pending behind the last turn made at most two turns for each attempt that its
 /// requests may spend, one for each item that it received, and two for each time that requests were accepted between turns
 /// unprompted: never, where all are accepted before the first turn, and at most once, where there is one request.
-/// So a run that is given more turns comes to its end.
+/// So a run that is given more turns comes to its end, whether servers are set in it or not.
 pub fn a_course_comes_to_its_end()
     ensures any { (setting : Setting) (seat turns : ℕ) (journal : List Entry) (log : List WorldCall)
         → IsPlainRun setting seat journal log

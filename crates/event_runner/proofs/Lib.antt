@@ -24,4 +24,5 @@ pub mod RoundLemmas
 pub mod CourseLemmas
 pub mod UnderWayLemmas
 pub mod RunLemmas
+pub mod BetweenLemmas
 pub mod Theorems

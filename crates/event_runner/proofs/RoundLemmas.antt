@@ -1,7 +1,7 @@
 -- Turns with what stands behind them, where one more comes or the last one changes.
 use Rattle.std.proofs.Common.{◌≡◌, ◌∙◌, ℕ, ◌==◌, ◌&&◌, ◌||◌, Bool, true, false, List, [], ◌∷◌, ◌++◌, length, map, not, refl, ap, sym}
-use Rattle.std.specs.Prelude.{Option, Some, None, flat_map, is_none, is_some}
-use Rattle.std.specs.List.{list_all}
+use Rattle.std.specs.Prelude.{Option, Some, None, flat_map, is_none, is_some, ⊤}
+use Rattle.std.specs.List.{AllByRecursion, list_all}
 use Rattle.std.specs.Option.{option_map_or}
 use Rattle.std.proofs.lemmas.Bool.{and_from, and_parts}
 use Rattle.std.proofs.lemmas.List.{append_assoc, flat_map_more}
@@ -72,6 +72,21 @@ somewhere-end test past (e ∷ es) h = either_second (test past) (somewhere test
 -- entries that no turn makes, and more of them
 pub no_turn-append : (es more : List Entry) → has_no_turn es ≡ true → has_no_turn more ≡ true → has_no_turn (es ++ more) ≡ true
 no_turn-append es more p q = list_all-append (λ entry. not (is_of_turn entry)) es more ∙ and_from (has_no_turn es) (has_no_turn more) p q
+
+-- the relation holds behind each turn, of the past there and what stands behind it
+abbrev pub AreBetween : (Past → List Entry → Type 0) → List Round → Type 0
+AreBetween holds rounds = AllByRecursion (λ round. holds round.new.past round.between) rounds
+
+-- so it does where the last turn changes, if it does behind that
+pub between_last : (holds : Past → List Entry → Type 0) (before : List Round) (old new : Round) → (holds old.new.past old.between → holds new.new.past new.between) →
+    AreBetween holds (before ++ old ∷ []) → AreBetween holds (before ++ new ∷ [])
+between_last holds [] old new change all = (change all.0, tt)
+between_last holds (x ∷ before) old new change all = (all.0, between_last holds before old new change all.1)
+
+-- one that says nothing holds
+pub between_any : (rounds : List Round) → AreBetween (λ past es. ⊤) rounds
+between_any [] = tt
+between_any (x ∷ rounds) = (tt, between_any rounds)
 
 -- the turn with more entries behind it
 abbrev pub with_more : List Entry → Round → Round

@@ -1,6 +1,6 @@
 -- Calls of a runner and of its desk, one behind the other, and what journal and log have come to behind them.
 use Rattle.std.proofs.Common.{◌≡◌, ◌≢◌, ◌∙◌, ℕ, ◌+◌, ◌-◌, ◌≤◌, ◌==◌, ◌||◌, Bool, true, false, List, [], ◌∷◌, ◌++◌, map, not, cond, refl, ap, sym, subst, inl, inr, ⊎_elim, arith}
-use Rattle.std.specs.Prelude.{IsTrue, Option, Some, None, filter_map, option_map, min, ◌^◌}
+use Rattle.std.specs.Prelude.{IsTrue, Option, Some, None, filter_map, option_map, min, ◌^◌, ⊤}
 use Rattle.std.specs.List.{list_all}
 use Rattle.std.proofs.lemmas.Bool.{and_from, and_parts}
 use Rattle.std.proofs.lemmas.List.{append-nil, append_cancel_left}
@@ -14,7 +14,7 @@ use Rattle.net_world.specs.declared.log.WorldCall.TheVariants.{Wait}
 use Rattle.channel_model.specs.Completion.{pending, ready}
 use Rattle.channel_model.specs.Course.{IsCourse, IsCutCourse, Round, has_no_turn, is_of_turn, serves_from, skips, standing_after}
 use Rattle.channel_model.specs.Endings.{IsStalledBehind, LastWaitFailed, waited_by}
-use Rattle.channel_model.specs.Journal.{own_entries, past_of}
+use Rattle.channel_model.specs.Journal.{Past, followed_by, own_entries, past_of}
 use Rattle.channel_model.specs.Known.{GoesOn, Known}
 use Rattle.channel_model.specs.Servers.{keyed_from}
 use Rattle.channel_model.specs.Setting.{Setting}
@@ -31,10 +31,10 @@ use Rattle.event_runner.specs.UnderWay.{IsSoFar, IsUnderWay, LogGets, RanSince, 
 use Rattle.event_runner.proofs.CallLemmas.{owner_of}
 use Rattle.event_runner.proofs.CourseLemmas.{course_of, is_seats}
 use Rattle.event_runner.proofs.GoesLemmas.{owner_before, told_as, told_by, told_trans}
-use Rattle.event_runner.proofs.RoundLemmas.{all_go_on, by_last}
+use Rattle.event_runner.proofs.RoundLemmas.{AreBetween, all_go_on, between_any, between_last, by_last, with_more, with_rest}
 use Rattle.event_runner.proofs.SoundLemmas.{holds_of, sound_of, Sound}
 use Rattle.event_runner.proofs.TrailLemmas.{Trail, trail_of}
-use Rattle.event_runner.proofs.UnderWayLemmas.{Facts, facts_begun, facts_delivered, facts_first_more, facts_following, facts_last_more, facts_skipped, facts_turned, facts_waited, pending_behind}
+use Rattle.event_runner.proofs.UnderWayLemmas.{Facts, ends_here, facts_begun, facts_delivered, facts_first_more, facts_following, facts_last_more, facts_skipped, facts_turned, facts_waited, pending_behind}
 
 -- a seat that owns the turns and made none of these entries in one: no turn made them
 none_of_turn : (seat : ℕ) (es : List Entry) → list_all (is_seats seat) es ≡ true → has_no_turn (own_entries seat es) ≡ true → has_no_turn es ≡ true
@@ -79,7 +79,7 @@ module _ (slice turns asides : ℕ) where
     sound = sound_of (run_of known running None) (standing_after (behind beginning way.course.first) way.course.rounds) way.holds;
   }
 
-  pub way_of : (reach : Reach) (known : Known) (running : Running) (calls : List WorldCall) (first : List Entry) (first_asides : List ℕ) (rounds : List Round) → IsTurnOwner known →
+  abbrev pub way_of : (reach : Reach) (known : Known) (running : Running) (calls : List WorldCall) (first : List Entry) (first_asides : List ℕ) (rounds : List Round) → IsTurnOwner known →
       Facts known.setting known.seat slice turns asides reach known.seen running calls first first_asides rounds → IsUnderWay slice turns asides reach known running calls
   way_of reach known running calls first first_asides rounds owner f = record {
     course = course_of known.setting known.seat slice known.seen calls turns asides first first_asides rounds f.plain owner;
@@ -89,7 +89,7 @@ module _ (slice turns asides : ℕ) where
   }
 
   -- the same for a desk that went on
-  way_to : (reach : Reach) (old new : Known) (es : List Entry) (running : Running) (calls : List WorldCall) (first : List Entry) (first_asides : List ℕ) (rounds : List Round) → Trail old new es → IsTurnOwner new →
+  abbrev way_to : (reach : Reach) (old new : Known) (es : List Entry) (running : Running) (calls : List WorldCall) (first : List Entry) (first_asides : List ℕ) (rounds : List Round) → Trail old new es → IsTurnOwner new →
       Facts old.setting old.seat slice turns asides reach (old.seen ++ es) running calls first first_asides rounds → IsUnderWay slice turns asides reach new running calls
   way_to reach old new es running calls first first_asides rounds trail owner f =
       way_of reach new running calls first first_asides rounds owner
@@ -97,34 +97,55 @@ module _ (slice turns asides : ℕ) where
       (subst (λ seat. Facts new.setting seat slice turns asides reach (old.seen ++ es) running calls first first_asides rounds) (sym trail.desk.seat)
       (subst (λ setting. Facts setting old.seat slice turns asides reach (old.seen ++ es) running calls first first_asides rounds) (sym trail.desk.setting) f)))
 
+  -- the same, where a relation holds of what stands behind each turn
+  abbrev pub WayWith : (Past → List Entry → Type 0) → Reach → Known → Running → List WorldCall → Type 0
+  WayWith holds reach known running calls = (way : IsUnderWay slice turns asides reach known running calls) × AreBetween holds way.course.rounds
+
   -- entries that no turn made stand behind
+  pub way_behind : (holds : Past → List Entry → Type 0) (reach : Reach) (old new : Known) (es : List Entry) (running : Running) (calls : List WorldCall) → Trail old new es → IsTurnOwner new → has_no_turn (own_entries old.seat es) ≡ true →
+      ((past : Past) (between : List Entry) → followed_by past between ≡ past_of old.seen → holds past between → holds past (between ++ es)) → WayWith holds reach old running calls → WayWith holds reach new running calls
+  way_behind holds reach old new es running calls trail owner own grows way =
+      let none : has_no_turn es ≡ true = none_of_turn old.seat es (owner_of old new es trail owner) own in
+      let first = way.0.course.first in
+      let first_asides = way.0.course.first_asides in
+      by_last (λ rounds. Facts old.setting old.seat slice turns asides reach old.seen running calls first first_asides rounds → AreBetween holds rounds → WayWith holds reach new running calls)
+      (λ f all. (way_to reach old new es running calls (first ++ es) first_asides [] trail owner (facts_first_more old.setting old.seat slice turns asides first first_asides reach old.seen running calls es none f), tt))
+      (λ before round f all. (
+        way_to reach old new es running calls first first_asides (before ++ with_more es round ∷ []) trail owner
+            (facts_last_more old.setting old.seat slice turns asides first first_asides reach old.seen running calls es before round none f),
+        between_last holds before round (with_more es round)
+            (grows round.new.past round.between (ends_here old.setting old.seat slice turns asides first first_asides old.seen running calls reach before round f)) all,
+      ))
+      way.0.course.rounds (facts_of reach old running calls way.0) way.1
+
   pub way_more : (reach : Reach) (old new : Known) (es : List Entry) (running : Running) (calls : List WorldCall) → Trail old new es → IsTurnOwner new → has_no_turn (own_entries old.seat es) ≡ true →
       IsUnderWay slice turns asides reach old running calls → IsUnderWay slice turns asides reach new running calls
   way_more reach old new es running calls trail owner own way =
-      let none : has_no_turn es ≡ true = none_of_turn old.seat es (owner_of old new es trail owner) own in
-      let first = way.course.first in
-      let first_asides = way.course.first_asides in
-      by_last (λ rounds. Facts old.setting old.seat slice turns asides reach old.seen running calls first first_asides rounds → IsUnderWay slice turns asides reach new running calls)
-      (λ f. way_to reach old new es running calls (first ++ es) first_asides [] trail owner
-      (facts_first_more old.setting old.seat slice turns asides first first_asides reach old.seen running calls es none f))
-      (λ before round f. way_to reach old new es running calls first first_asides _ trail owner
-      (facts_last_more old.setting old.seat slice turns asides first first_asides reach old.seen running calls es before round none f))
-      way.course.rounds (facts_of reach old running calls way)
+      (way_behind (λ past es. ⊤) reach old new es running calls trail owner own (λ past between is any. tt) (way, between_any way.course.rounds)).0
 
   -- a wait stands behind the last turn
+  pub way_rested : (holds : Past → List Entry → Type 0) (known : Known) (running : Running) (calls : List WorldCall) (until : ℕ) (outcome : Waited) → 1 ≤ turns →
+      until ≡ wakes_by known.setting (min (running.reading + slice) (2 ^ 64 - 1)) (past_of known.seen) →
+      IsTurnOwner known → WayWith holds delivered known running calls → WayWith holds rested known running (calls ++ Wait until outcome ∷ [])
+  way_rested holds known running calls until outcome some wakes owner way =
+      let first = way.0.course.first in
+      let first_asides = way.0.course.first_asides in
+      by_last (λ rounds. Facts known.setting known.seat slice turns asides delivered known.seen running calls first first_asides rounds → AreBetween holds rounds → WayWith holds rested known running (calls ++ Wait until outcome ∷ []))
+      (λ f all. let none : 0 ≡ turns = f.plain.count in absurd (omega arith))
+      (λ before round f all. let rests : Round = with_rest (record { until = until; outcome = outcome }) round in (
+        way_of rested known running (calls ++ Wait until outcome ∷ []) first first_asides (before ++ rests ∷ []) owner
+            (facts_waited known.setting known.seat slice turns asides first first_asides known.seen running calls until outcome before round wakes f),
+        between_last holds before round rests (λ h. h) all,
+      ))
+      way.0.course.rounds (facts_of delivered known running calls way.0) way.1
+
   way_waited : (known : Known) (running : Running) (calls : List WorldCall) (until : ℕ) (outcome : Waited) → 1 ≤ turns → until ≡ wakes_by known.setting (min (running.reading + slice) (2 ^ 64 - 1)) (past_of known.seen) →
       IsTurnOwner known → IsUnderWay slice turns asides delivered known running calls → IsUnderWay slice turns asides rested known running (calls ++ Wait until outcome ∷ [])
   way_waited known running calls until outcome some wakes owner way =
-      let first = way.course.first in
-      let first_asides = way.course.first_asides in
-      by_last (λ rounds. Facts known.setting known.seat slice turns asides delivered known.seen running calls first first_asides rounds → IsUnderWay slice turns asides rested known running (calls ++ Wait until outcome ∷ []))
-      (λ f. let none : 0 ≡ turns = f.plain.count in absurd (omega arith))
-      (λ before round f. way_of rested known running (calls ++ Wait until outcome ∷ []) first first_asides _ owner
-      (facts_waited known.setting known.seat slice turns asides first first_asides known.seen running calls until outcome before round wakes f))
-      way.course.rounds (facts_of delivered known running calls way)
+      (way_rested (λ past es. ⊤) known running calls until outcome some wakes owner (way, between_any way.course.rounds)).0
 
   -- the runner met want of memory, or met it before
-  way_broken : (reach : Reach) (known : Known) (running : Running) (broken : Bool) (calls : List WorldCall) → IsUnderWay slice turns asides reach known running calls → IsUnderWay slice turns asides reach known (record running { broken = broken }) calls
+  abbrev pub way_broken : (reach : Reach) (known : Known) (running : Running) (broken : Bool) (calls : List WorldCall) → IsUnderWay slice turns asides reach known running calls → IsUnderWay slice turns asides reach known (record running { broken = broken }) calls
   way_broken reach known running broken calls way = record {
     course = way.course;
     come = way.come;
@@ -138,11 +159,11 @@ module _ (slice turns asides : ℕ) (old new : Known) (es : List Entry) (trail :
   abbrev end_of : Standing
   end_of = standing_after (behind beginning way.course.first) way.course.rounds
 
-  held : Holds (run_of old running log) end_of
+  pub held : Holds (run_of old running log) end_of
   held = record { fits = way.holds.fits; mixes = way.holds.mixes; told = way.holds.told }
 
   -- a turn was made
-  pub way_turned : (after : Running) (log_new : Option (List WorldCall)) (answer : Turned) → after.reading ≡ answer.reading →
+  abbrev pub way_turned : (after : Running) (log_new : Option (List WorldCall)) (answer : Turned) → after.reading ≡ answer.reading →
       Leads (MakesTurn answer) (run_of old running log) (run_of new after log_new) es cs → IsUnderWay slice (turns + 1) asides turned new after (calls ++ cs)
   way_turned after log_new answer read leads =
       let to = leads end_of held in

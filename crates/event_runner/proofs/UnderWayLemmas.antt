@@ -156,7 +156,7 @@ module _ (setting : Setting) (seat slice : ℕ) where
       last_come reach before round f = sym (last_or-snoc (has_come setting reach) true before round) ∙ f.come
 
       -- the journal's end is the last position behind the last turn
-      ends_here : (reach : Reach) (before : List Round) (round : Round) → Facts turns asides reach seen running calls first first_asides (before ++ round ∷ []) →
+      pub ends_here : (reach : Reach) (before : List Round) (round : Round) → Facts turns asides reach seen running calls first first_asides (before ++ round ∷ []) →
           followed_by round.new.past round.between ≡ past_of seen
       ends_here reach before round f = sym (ap (λ s. s.past) (standing_after-snoc (behind beginning first) before round)) ∙ f.past
 

@@ -6,7 +6,7 @@ use crate::closing::close_idle;
 use crate::kept::Kept;
 use crate::link::HeldLink;
 use crate::writing::write_all;
-use item_list::{Bytes, NoMemory};
+use item_list::NoMemory;
 use net_addr::{Addr, ServerAddr};
 use net_world::{ScriptWorld, Sent, WorldCall, Wrote};
 use std::alloc::Global;
@@ -17,50 +17,66 @@ const ADDRESS: ServerAddr = ServerAddr {
     port: 53,
 };
 
-/// A network that gives nothing, on which the calls of these numbers fail.
-fn network(alloc: Global, fails: &[u64]) -> Result<ScriptWorld, NoMemory> {
-    Ok(ScriptWorld::make(Vec::new(alloc), Vec::new(alloc), fails.to_vec(alloc)?))
+/// A desk, a network, and the links that are held between them.
+#[derive(Drop)]
+struct Scene {
+    desk: ClosedDesk,
+    world: ScriptWorld,
+    kept: Kept,
 }
 
-/// No link, and no server told.
-fn nothing(alloc: Global) -> Kept {
-    Kept {
+/// A network that gives nothing, on which the calls of these numbers fail.
+fn network(alloc: Global, fails: &[u64]) -> Result<ScriptWorld, NoMemory> {
+    let fails = fails.to_vec(alloc)?;
+    Ok(ScriptWorld::make(Vec::new(alloc), Vec::new(alloc), fails))
+}
+
+/// A scene with these links, where no server is told, and the calls of these numbers fail.
+fn scene_of(alloc: Global, links: Vec<HeldLink>, fails: &[u64]) -> Result<Scene, NoMemory> {
+    let world = network(alloc, fails)?;
+    let desk = ClosedDesk::make(alloc)?;
+    let kept = Kept {
         alloc,
-        links: Vec::new(alloc),
+        links,
         told: Vec::new(alloc),
         mix: false,
-    }
+    };
+    Ok(Scene { desk, world, kept })
 }
 
 /// Asks server 4 this over a link.
-fn asks(
-    desk: &mut ClosedDesk,
-    world: &mut ScriptWorld,
-    kept: &mut Kept,
-    link: u64,
-    message: &[u8],
-) -> Result<(), NoMemory> {
+fn asks(scene: &mut Scene, link: u64, message: &[u8]) -> Result<(), NoMemory> {
+    let Scene { desk, world, kept } = scene;
     ask(desk, world, kept, 4, &ADDRESS, link, message, 0)
 }
 
-/// The calls for a datagram and two queries over one link.
-fn three_queries(alloc: Global) -> Result<Vec<WorldCall>, NoMemory> {
-    let mut calls = Vec::new(alloc);
-    calls.push(WorldCall::Serve {
-        server: 4,
-        address: ADDRESS,
-    })?;
-    calls.push(WorldCall::Send {
-        server: 4,
-        bytes: Bytes::of(alloc, &[1, 2])?,
-        sent: Sent::Sent,
-    })?;
-    calls.push(WorldCall::Connect {
-        server: 4,
-        link: 3,
-        sent: Sent::Sent,
-    })?;
-    Ok(calls)
+/// A scene in which these messages were asked, each over its link.
+fn asked(alloc: Global, fails: &[u64], queries: &[(u64, &[u8])]) -> Result<Scene, NoMemory> {
+    let mut scene = scene_of(alloc, Vec::new(alloc), fails)?;
+    for (link, message) in queries {
+        asks(&mut scene, *link, message)?;
+    }
+    Ok(scene)
+}
+
+/// Whether these are the calls for a datagram and two queries over one link.
+fn ask_three(calls: &[WorldCall]) -> bool {
+    match calls {
+        [
+            WorldCall::Serve { server: 4, address },
+            WorldCall::Send {
+                server: 4,
+                bytes,
+                sent: Sent::Sent,
+            },
+            WorldCall::Connect {
+                server: 4,
+                link: 3,
+                sent: Sent::Sent,
+            },
+        ] => *address == ADDRESS && bytes.as_slice() == [1, 2].as_slice(),
+        _ => false,
+    }
 }
 
 /// Whether the first link has these bytes to write, and there is no other.
@@ -74,28 +90,19 @@ fn has_alone(kept: &Kept, bytes: &[u8]) -> bool {
 /// A server is told once; a query over UDP is sent at once, and those over a link wait in their frames.
 #[test]
 fn a_server_is_told_before_its_first_query(rt: HostRuntime) -> Result<(), Fail> {
-    let alloc = rt.alloc();
-    let mut desk = ClosedDesk::make(alloc)?;
-    let mut world = network(alloc, &[])?;
-    let mut kept = nothing(alloc);
-    asks(&mut desk, &mut world, &mut kept, 0, &[1, 2])?;
-    asks(&mut desk, &mut world, &mut kept, 3, &[5])?;
-    asks(&mut desk, &mut world, &mut kept, 3, &[6, 7])?;
-    assert!(rt; desk.count() == 0);
-    assert!(rt; has_alone(&kept, &[0, 1, 5, 0, 2, 6, 7]));
-    assert!(rt; world.log().calls() == three_queries(alloc)?.as_slice());
+    let queries: [(u64, &[u8]); 3] = [(0, &[1, 2]), (3, &[5]), (3, &[6, 7])];
+    let scene = asked(rt.alloc(), &[], &queries)?;
+    assert!(rt; scene.desk.count() == 0);
+    assert!(rt; has_alone(&scene.kept, &[0, 1, 5, 0, 2, 6, 7]));
+    assert!(rt; ask_three(scene.world.log().calls()));
     Ok(())
 }
 
 /// A send that fails and a link that can't be begun fail their attempts, and no link is held.
 #[test]
 fn a_failed_query_is_a_fault(rt: HostRuntime) -> Result<(), Fail> {
-    let alloc = rt.alloc();
-    let mut desk = ClosedDesk::make(alloc)?;
-    let mut world = network(alloc, &[1, 2])?;
-    let mut kept = nothing(alloc);
-    asks(&mut desk, &mut world, &mut kept, 0, &[1, 2])?;
-    asks(&mut desk, &mut world, &mut kept, 3, &[5])?;
+    let queries: [(u64, &[u8]); 2] = [(0, &[1, 2]), (3, &[5])];
+    let Scene { desk, kept, .. } = asked(rt.alloc(), &[1, 2], &queries)?;
     assert!(rt; kept.links.is_empty());
     assert!(rt; desk.count() == 2 && desk.failed(1, 4, 0) && desk.failed(2, 4, 3));
     Ok(())
@@ -109,28 +116,34 @@ fn link_of(alloc: Global, number: u64, server: u32) -> Result<HeldLink, NoMemory
 }
 
 /// Links 11, 12 and 13 to servers 1, 2 and 3, each with a byte to be written.
-fn three(alloc: Global) -> Result<Kept, NoMemory> {
-    let mut kept = nothing(alloc);
-    kept.links.push(link_of(alloc, 11, 1)?)?;
-    kept.links.push(link_of(alloc, 12, 2)?)?;
-    kept.links.push(link_of(alloc, 13, 3)?)?;
-    Ok(kept)
+fn three(alloc: Global) -> Result<Vec<HeldLink>, NoMemory> {
+    let mut links = Vec::new(alloc);
+    for server in 1..4 {
+        links.push(link_of(alloc, u64::from(10 + server), server)?)?;
+    }
+    Ok(links)
 }
 
-/// A write of that byte to a link.
-fn write_of(alloc: Global, link: u64, wrote: Wrote) -> Result<WorldCall, NoMemory> {
-    let bytes = Bytes::of(alloc, &[0, 1, 9])?;
-    Ok(WorldCall::Write { link, bytes, wrote })
+/// Whether a call is a write of that byte to this link, with this outcome.
+fn writes(call: &WorldCall, to: u64, outcome: Wrote) -> bool {
+    match call {
+        WorldCall::Write { link, bytes, wrote } => {
+            *link == to && bytes.as_slice() == [0, 1, 9].as_slice() && *wrote == outcome
+        }
+        _ => false,
+    }
 }
 
-/// The calls by which the three links are written to, where the second write fails.
-fn three_writes(alloc: Global) -> Result<Vec<WorldCall>, NoMemory> {
-    let mut calls = Vec::new(alloc);
-    calls.push(write_of(alloc, 11, Wrote::Count(3))?)?;
-    calls.push(write_of(alloc, 12, Wrote::Failed)?)?;
-    calls.push(WorldCall::Close { link: 12 })?;
-    calls.push(write_of(alloc, 13, Wrote::Count(3))?)?;
-    Ok(calls)
+/// Whether these are the calls by which the three links are written to, where the second write fails.
+fn write_three(calls: &[WorldCall]) -> bool {
+    match calls {
+        [first, second, WorldCall::Close { link: 12 }, third] => {
+            writes(first, 11, Wrote::Count(3))
+                && writes(second, 12, Wrote::Failed)
+                && writes(third, 13, Wrote::Count(3))
+        }
+        _ => false,
+    }
 }
 
 /// Whether nothing is left to be written to any link, and there are so many.
@@ -138,17 +151,21 @@ fn has_written(kept: &Kept, count: usize) -> bool {
     kept.links.len() == count && kept.links.iter().all(|link| link.unwritten().is_empty())
 }
 
+/// Writes to the three links, of which the second write fails.
+fn written(alloc: Global) -> Result<Scene, NoMemory> {
+    let mut scene = scene_of(alloc, three(alloc)?, &[1])?;
+    let Scene { desk, world, kept } = &mut scene;
+    write_all(desk, world, kept, 0)?;
+    Ok(scene)
+}
+
 /// A link on which a write fails is closed, and its attempts fail; the others are written to.
 #[test]
 fn a_failed_write_closes_its_link_alone(rt: HostRuntime) -> Result<(), Fail> {
-    let alloc = rt.alloc();
-    let mut desk = ClosedDesk::make(alloc)?;
-    let mut world = network(alloc, &[1])?;
-    let mut kept = three(alloc)?;
-    write_all(&mut desk, &mut world, &mut kept, 0)?;
-    assert!(rt; has_written(&kept, 2));
-    assert!(rt; desk.count() == 1 && desk.failed(1, 2, 12));
-    assert!(rt; world.log().calls() == three_writes(alloc)?.as_slice());
+    let scene = written(rt.alloc())?;
+    assert!(rt; has_written(&scene.kept, 2));
+    assert!(rt; scene.desk.count() == 1 && scene.desk.failed(1, 2, 12));
+    assert!(rt; write_three(scene.world.log().calls()));
     Ok(())
 }
 
@@ -163,24 +180,31 @@ fn a_write_goes_on_behind_what_was_taken(rt: HostRuntime) -> Result<(), Fail> {
     Ok(())
 }
 
-/// The closes of three links.
-fn three_closes(alloc: Global) -> Result<Vec<WorldCall>, NoMemory> {
-    let mut calls = Vec::new(alloc);
-    calls.push(WorldCall::Close { link: 11 })?;
-    calls.push(WorldCall::Close { link: 12 })?;
-    calls.push(WorldCall::Close { link: 13 })?;
-    Ok(calls)
+/// Whether these are the closes of the three links.
+fn close_three(calls: &[WorldCall]) -> bool {
+    matches!(
+        calls,
+        [
+            WorldCall::Close { link: 11 },
+            WorldCall::Close { link: 12 },
+            WorldCall::Close { link: 13 },
+        ]
+    )
+}
+
+/// Closes those of the three links on which nothing is in flight.
+fn closed(alloc: Global) -> Result<Scene, NoMemory> {
+    let mut scene = scene_of(alloc, three(alloc)?, &[])?;
+    let Scene { desk, world, kept } = &mut scene;
+    close_idle(desk, world, kept)?;
+    Ok(scene)
 }
 
 /// Where nothing is in flight, each link is closed, the first one first.
 #[test]
 fn links_without_attempts_are_closed(rt: HostRuntime) -> Result<(), Fail> {
-    let alloc = rt.alloc();
-    let mut desk = ClosedDesk::make(alloc)?;
-    let mut world = network(alloc, &[])?;
-    let mut kept = three(alloc)?;
-    close_idle(&mut desk, &mut world, &mut kept)?;
-    assert!(rt; kept.links.is_empty() && desk.count() == 0);
-    assert!(rt; world.log().calls() == three_closes(alloc)?.as_slice());
+    let scene = closed(rt.alloc())?;
+    assert!(rt; scene.kept.links.is_empty() && scene.desk.count() == 0);
+    assert!(rt; close_three(scene.world.log().calls()));
     Ok(())
 }

@@ -1,6 +1,6 @@
 use Rattle.std.proofs.Common.{arith}
 use Rattle.adig_tool.proofs.LoopLemmas.{ends_cut, ends_failed, ends_stalled, ends_unpaused, made_delivered, made_following, made_none, made_paused, made_then, made_turned}
-use Rattle.adig_tool.proofs.OwnerLemmas.{paused_ready}
+use Rattle.owner_laws.proofs.Owner.{paused_ready}
 use Rattle.adig_tool.proofs.session.make_turns.Goals as goal
 
 pub loop-init : goal.loop-init

@@ -2,7 +2,8 @@ use Rattle.std.proofs.Common.{ap, arith}
 use Rattle.std.specs.Prelude.{is_err}
 use Rattle.ahost_tool.proofs.LoopLemmas.{ends_completed, ends_cut, ends_failed, ends_stalled, ends_unpaused, ends_unset, made_none, made_paused, made_then, most_cut, most_turned, then_paused}
 use Rattle.ahost_tool.proofs.MoveLemmas.{quiet_all}
-use Rattle.ahost_tool.proofs.OwnerLemmas.{paused_ready}
+use Rattle.owner_laws.proofs.Owner.{paused_ready}
+use Rattle.ahost_tool.proofs.PromptLemmas.{prompted_all}
 use Rattle.ahost_tool.proofs.RoundLemmas.{counted_made, counted_sets, round, turned_made}
 use Rattle.ahost_tool.proofs.ThenLemmas.{then_begun}
 use Rattle.ahost_tool.proofs.session.make_turns.Goals as goal
@@ -11,7 +12,7 @@ pub loop-init : goal.loop-init
 loop-init g c =
     let all = quiet_all _ _ c.requires.idle c.deliver_all.ensures.delivers in
     record {
-      made = made_then _ _ _ _ _ _ _ _ _ (all.0, all.1) (made_none _ _ _);
+      made = made_then _ _ _ _ _ _ _ _ _ (all.0, all.1, prompted_all _ _ c.deliver_all.ensures.delivers all.0 c.deliver_all.ensures.none_ready) (made_none _ _ _);
       sets = then_begun _ _ _ _ _ all.0 all.2;
       delivered = c.deliver_all.ensures.none_ready;
       servers = c.requires.servers;
