@@ -84,12 +84,12 @@ module _ (flown : Flown) (xs ys : List Side) where
 -- ---- rows
 
 -- a side becomes another one, which has no attempt where it is forgotten, and else has the same
-record Changes (gone : Bool) (side other : Side) : Type 0 where
-  idle : gone ≡ true → flying_of other ≡ None
-  same : gone ≡ false → (entry_by_id side ≡ entry_by_id other) × (entry_by_leg side ≡ entry_by_leg other)
+pub record Changes (gone : Bool) (side other : Side) : Type 0 where
+  pub idle : gone ≡ true → flying_of other ≡ None
+  pub same : gone ≡ false → (entry_by_id side ≡ entry_by_id other) × (entry_by_leg side ≡ entry_by_leg other) × (flying_of other ≡ flying_of side)
 
 -- the same of a second side, if there is one
-abbrev ChangesSecond : Bool → Option Side → Option Side → Type 0
+abbrev pub ChangesSecond : Bool → Option Side → Option Side → Type 0
 ChangesSecond gone None None = ⊤
 ChangesSecond gone None (Some other) = ⊥
 ChangesSecond gone (Some side) None = ⊥
@@ -135,32 +135,32 @@ idle_phase judged most leg = by_status (ending_status (Some judged) (spent_with 
     by_status None = refl
     by_status (Some status) = refl
 
-side_ends : (concerned : Hits) (second : Bool) (judged : Judged) (reply : List ℕ) (most : ℕ) (side : Side) → Changes (hits concerned second side) side (side_behind concerned second judged reply most side)
+pub side_ends : (concerned : Hits) (second : Bool) (judged : Judged) (reply : List ℕ) (most : ℕ) (side : Side) → Changes (hits concerned second side) side (side_behind concerned second judged reply most side)
 side_ends concerned second judged reply most side = by_test (hits concerned second side)
   where
     by_test : (b : Bool) → Changes b side (if b then closed_side judged reply most side else side)
     by_test true = record { idle = λ e. idle_phase judged most side.leg; same = λ e. absurd (let f : true ≡ false = e in cc) }
-    by_test false = record { idle = λ e. absurd (let t : false ≡ true = e in cc); same = λ e. (refl, refl) }
+    by_test false = record { idle = λ e. absurd (let t : false ≡ true = e in cc); same = λ e. (refl, refl, refl) }
 
-second_ends : (concerned : Hits) (judged : Judged) (reply : List ℕ) (most : ℕ) (second : Option Side) → ChangesSecond (hits_second concerned second) second (option_map (side_behind concerned true judged reply most) second)
+pub second_ends : (concerned : Hits) (judged : Judged) (reply : List ℕ) (most : ℕ) (second : Option Side) → ChangesSecond (hits_second concerned second) second (option_map (side_behind concerned true judged reply most) second)
 second_ends concerned judged reply most None = tt
 second_ends concerned judged reply most (Some side) = side_ends concerned true judged reply most side
 
-next_idle : (leg : machine.Leg) (side : Side) → flying_in leg.phase ≡ None → Changes true side (next_side leg side)
+pub next_idle : (leg : machine.Leg) (side : Side) → flying_in leg.phase ≡ None → Changes true side (next_side leg side)
 next_idle leg side none = record { idle = λ e. none; same = λ e. absurd (let f : true ≡ false = e in cc) }
 
-second_idle : (leg : machine.Leg) (second : Option Side) → flying_in leg.phase ≡ None → ChangesSecond true second (option_map (next_side leg) second)
+pub second_idle : (leg : machine.Leg) (second : Option Side) → flying_in leg.phase ≡ None → ChangesSecond true second (option_map (next_side leg) second)
 second_idle leg None none = tt
 second_idle leg (Some side) none = next_idle leg side none
 
-side_sets : (list : List ServerKey) (side : Side) → Changes (has_left list side) side (side_set list side)
+pub side_sets : (list : List ServerKey) (side : Side) → Changes (has_left list side) side (side_set list side)
 side_sets list side = by_test (flying_left list (flying_of side))
   where
     by_test : (b : Bool) → Changes b side (record side { leg = if b then record side.leg { phase = phases.Waiting; forced = None } else record side.leg { forced = kept_in list side.leg.forced } })
     by_test true = record { idle = λ e. refl; same = λ e. absurd (let f : true ≡ false = e in cc) }
-    by_test false = record { idle = λ e. absurd (let t : false ≡ true = e in cc); same = λ e. (refl, refl) }
+    by_test false = record { idle = λ e. absurd (let t : false ≡ true = e in cc); same = λ e. (refl, refl, refl) }
 
-second_sets : (list : List ServerKey) (second : Option Side) → ChangesSecond (left_second list second) second (option_map (side_set list) second)
+pub second_sets : (list : List ServerKey) (second : Option Side) → ChangesSecond (left_second list second) second (option_map (side_set list) second)
 second_sets list None = tt
 second_sets list (Some side) = side_sets list side
 

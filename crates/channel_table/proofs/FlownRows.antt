@@ -199,7 +199,7 @@ module _ {T : Type 0} where
 
 -- ---- the begin of an attempt
 
-waiting_idle : (phase : Phase) → IsWaiting phase → flying_in phase ≡ None
+pub waiting_idle : (phase : Phase) → IsWaiting phase → flying_in phase ≡ None
 waiting_idle phases.Waiting waits = refl
 waiting_idle (phases.InFlight flying) waits = absurd waits
 waiting_idle (phases.Ended status) waits = absurd waits

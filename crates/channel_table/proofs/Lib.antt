@@ -42,4 +42,5 @@ mod LandingRow
 mod FirstDue
 mod DueSideLemmas
 mod TallyLemmas
+mod LinkedLemmas
 mod StrayLemmas

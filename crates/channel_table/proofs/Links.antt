@@ -17,10 +17,10 @@ use Rattle.channel_model.specs.Setting.{Setting}
 use Rattle.channel_model.specs.Verdict.{has_item}
 use Rattle.query_machine.specs.declared.leg.Flying.{Flying}
 use Rattle.channel_table.specs.Legs.{attempt_of, flown_by}
-use Rattle.channel_table.proofs.SideLists.{LegOf, all_legs_stand, flat_sides}
+use Rattle.channel_table.proofs.SideLists.{LegOf, all_legs_stand, any_sides, flat_sides}
 use Rattle.channel_table.proofs.Telling.{flying_sides}
-use Rattle.channel_table.specs.Rows.{TableStands, all_sides}
-use Rattle.channel_table.specs.Sides.{flown_side, flying_of, leg_of_side}
+use Rattle.channel_table.specs.Rows.{TableStands, all_sides, row_over}
+use Rattle.channel_table.specs.Sides.{flew_over, flown_side, flying_of, flying_over, leg_of_side}
 use Rattle.channel_table.specs.Starting.{link_on, link_with, links_on, row_links}
 use Rattle.channel_table.specs.declared.side.Side.{Side}
 use Rattle.channel_table.specs.declared.row.Row.{Row}
@@ -119,3 +119,49 @@ link_few plan setting past rows tickets table true server greatest greatest_is =
     by_first None e = omega arith
     by_first (Some link) e = let on = on_first setting past server link (all_sides rows) (all_legs_stand plan setting past rows table.each_row) (ap first (sym (links_are plan setting past server rows)) ∙ e) in omega (arith, on.over, link_within setting on.attempt.leg past on.attempt on.flies, greatest_is)
 link_few plan setting past rows tickets table false server greatest greatest_is = omega arith
+
+-- each attempt over TCP to a server is over the first one's link
+module _ {T : Type 0} (plan : T → Script) (setting : Setting) (past : Past) (rows : List (Row T)) (tickets : List (Ticket T)) (table : TableStands plan setting past rows tickets) (lawful : IsLawfulPast setting past) (server link : ℕ) (tcp : link ≢ 0) where
+  some_first : (ss : List Side) → AllByRecursion (LegOf setting past) ss → list_any (flew_over server link) ss ≡ true → IsOn setting past server link × (has_item (flat_map (links_on server) ss) ≡ true)
+  some_first [] each any = absurd cc
+  some_first (side ∷ ss) each any = by_flying (flying_of side) refl any (some_first ss each.1)
+    where
+      by_flying : (o : Option Flying) → flying_of side ≡ o → (flying_over server link o || list_any (flew_over server link) ss) ≡ true → (list_any (flew_over server link) ss ≡ true → IsOn setting past server link × (has_item (flat_map (links_on server) ss) ≡ true))
+          → IsOn setting past server link × (has_item (option_to_list (link_on server o) ++ flat_map (links_on server) ss) ≡ true)
+      by_flying None is any rest = rest any
+      by_flying (Some flying) is any rest = by_tests (flying.server == server) (flying.link == link) refl refl any
+        where
+          more : (c : Bool) → has_item (flat_map (links_on server) ss) ≡ true → has_item (option_to_list (if c then Some flying.link else None) ++ flat_map (links_on server) ss) ≡ true
+          more true e = refl
+          more false e = e
+
+          by_tests : (a b : Bool) → (flying.server == server) ≡ a → (flying.link == link) ≡ b → ((a && b) || list_any (flew_over server link) ss) ≡ true
+              → IsOn setting past server link × (has_item (option_to_list (if (flying.server == server) && not (flying.link == 0) then Some flying.link else None) ++ flat_map (links_on server) ss) ≡ true)
+          by_tests true true there over any =
+              let here : flying.link ≡ link = eqb-true flying.link link over in
+              let some : not (flying.link == 0) ≡ true = by_zero (flying.link == 0) refl in (
+                record { attempt = attempt_of (leg_of_side side) flying; flies = ap (λ (f : LegFacts). f.flies) each.0.facts ∙ ap (flown_by (leg_of_side side)) is; there = eqb-true flying.server server there; over = here; tcp = tcp },
+                ap₂ (λ a b. has_item (option_to_list (if a && b then Some flying.link else None) ++ flat_map (links_on server) ss)) there some,
+              )
+            where
+              by_zero : (b : Bool) → (flying.link == 0) ≡ b → not b ≡ true
+              by_zero true e = absurd (tcp (sym (eqb-true flying.link link over) ∙ eqb-true flying.link 0 e))
+              by_zero false e = refl
+          by_tests true false there over any = let found = rest any in (found.0, more ((flying.server == server) && not (flying.link == 0)) found.1)
+          by_tests false b there over any = let found = rest any in (found.0, more ((flying.server == server) && not (flying.link == 0)) found.1)
+
+  pub one_first : list_any (row_over server link) rows ≡ true → first (flat_map (row_links server) rows) ≡ Some link
+  one_first any = by_first (first (flat_map (links_on server) (all_sides rows))) refl
+    where
+      each : AllByRecursion (LegOf setting past) (all_sides rows)
+      each = all_legs_stand plan setting past rows table.each_row
+
+      found : IsOn setting past server link × (has_item (flat_map (links_on server) (all_sides rows)) ≡ true)
+      found = some_first (all_sides rows) each (sym (any_sides (flew_over server link) rows) ∙ any)
+
+      by_first : (o : Option ℕ) → first (flat_map (links_on server) (all_sides rows)) ≡ o → first (flat_map (row_links server) rows) ≡ Some link
+      by_first None e = absurd (true≢false (sym found.1 ∙ no_item (flat_map (links_on server) (all_sides rows)) (none_first (flat_map (links_on server) (all_sides rows)) e)))
+      by_first (Some other) e =
+          let on = on_first setting past server other (all_sides rows) each e in
+          let same = one_link setting past lawful on.attempt.leg found.0.attempt.leg on.attempt found.0.attempt on.flies found.0.flies (on.there ∙ sym found.0.there) (λ zero. on.tcp (sym on.over ∙ zero)) (λ zero. tcp (sym found.0.over ∙ zero)) in
+          ap first (links_are plan setting past server rows) ∙ e ∙ ap Some (sym on.over ∙ same ∙ found.0.over)

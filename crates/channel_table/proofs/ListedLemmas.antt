@@ -25,7 +25,7 @@ use Rattle.channel_table.specs.declared.side.Side.{Side}
 use Rattle.channel_table.specs.declared.table.starting.Idle.{Idle}
 
 -- sides of which none waits give no leg that does, and the other way round
-none_waits : (ss : List Side) → list_any waits ss ≡ false → flat_map waits_of ss ≡ []
+pub none_waits : (ss : List Side) → list_any waits ss ≡ false → flat_map waits_of ss ≡ []
 none_waits [] e = refl
 none_waits (side ∷ ss) e = by_test (waits side) e (none_waits ss)
   where

@@ -30,7 +30,7 @@ at_part (z ∷ xs) ys (suc i) x d inside = at_part xs ys i x d (omega (arith, in
 
 module _ {X : Type 0} (f : X → ℕ) (before behind : List X) (x : X) where
   -- a sum with another item in the place of one
-  replaced : (new : X) → sum_by f (before ++ new ∷ behind) + f x ≡ sum_by f (before ++ x ∷ behind) + f new
+  pub replaced : (new : X) → sum_by f (before ++ new ∷ behind) + f x ≡ sum_by f (before ++ x ∷ behind) + f new
   replaced new = omega (arith, sum_by-append f before (new ∷ behind), sum_by-cons f new behind, sum_by-append f before (x ∷ behind), sum_by-cons f x behind)
 
   -- an item is a part of it
@@ -38,16 +38,16 @@ module _ {X : Type 0} (f : X → ℕ) (before behind : List X) (x : X) where
   within = omega (arith, sum_by-append f before (x ∷ behind), sum_by-cons f x behind)
 
   -- and with none
-  removed : sum_by f (before ++ behind) + f x ≡ sum_by f (before ++ x ∷ behind) + 0
+  pub removed : sum_by f (before ++ behind) + f x ≡ sum_by f (before ++ x ∷ behind) + 0
   removed = omega (arith, sum_by-append f before behind, sum_by-append f before (x ∷ behind), sum_by-cons f x behind)
 
 -- a sum of numbers of which none is above two
-sum_few : {X : Type 0} (f : X → ℕ) → ((x : X) → f x ≤ 2) → (xs : List X) → sum_by f xs ≤ 2 * length xs
+pub sum_few : {X : Type 0} (f : X → ℕ) → ((x : X) → f x ≤ 2) → (xs : List X) → sum_by f xs ≤ 2 * length xs
 sum_few f few [] = omega arith
 sum_few f few (x ∷ xs) = omega (arith, sum_by-cons f x xs, few x, sum_few f few xs)
 
 -- a row has two sides at most
-two_sides : {T : Type 0} (p : Side → Bool) (row : Row T) → count_by p (sides row) ≤ 2
+pub two_sides : {T : Type 0} (p : Side → Bool) (row : Row T) → count_by p (sides row) ≤ 2
 two_sides p row = by_second row.second
   where
     by_test : (a : Bool) → 0 + cond a 1 0 ≤ 2

@@ -20,6 +20,7 @@ pub mod Flown
 pub mod Forgotten
 pub mod Strays
 pub mod Tally
+pub mod Linked
 pub mod Indexed
 pub mod Listing
 pub mod Sought

@@ -134,14 +134,31 @@ pub fn row_at<T: Token>(rows: &VecDeque<Held<T>>, index: usize) -> &Row<T>
     rows[index].row()
 }
 
-/// Takes the request at this index out of the list: those before it move, or those behind it, whichever are fewer.
+/// Takes the request at this index out of the list: those before it move, or those behind it, whichever are fewer. None
+/// moves where it is the first.
 pub fn take_at<T: Token>(rows: &mut VecDeque<Held<T>>, index: usize) -> Row<T>
     requires { index < deque_len rows.old }
     ensures value { result ≡ get_or rows.old.items index result }
     ensures items { rows.new.items ≡ remove rows.old.items index }
     ensures len { deque_len rows.new + 1 ≡ deque_len rows.old }
 {
+    if index == 0 {
+        return take_first(rows);
+    }
     match rows.remove(index) {
+        Some(held) => held.into_row(),
+        None => unreachable!(),
+    }
+}
+
+/// Takes the first request out of the list, which has some.
+fn take_first<T: Token>(rows: &mut VecDeque<Held<T>>) -> Row<T>
+    requires { 0 < deque_len rows.old }
+    ensures value { result ≡ get_or rows.old.items 0 result }
+    ensures items { rows.new.items ≡ remove rows.old.items 0 }
+    ensures len { deque_len rows.new + 1 ≡ deque_len rows.old }
+{
+    match rows.pop_front() {
         Some(held) => held.into_row(),
         None => unreachable!(),
     }

@@ -4,6 +4,7 @@
 mod aim;
 mod alone;
 mod held;
+mod held_side;
 mod row;
 mod side;
 mod table;

@@ -10,6 +10,7 @@ ghost use Rattle.channel_table.specs.Rows.{begun_row, side_at};
 
 use crate::aim::{Aim, answer_of, bare_answer};
 use crate::held::Held;
+use crate::held_side::HeldSide;
 use crate::side::{Hits, Side};
 use chan_types::{Answer, Bytes, Call, NoMemory, Status, Ticket, Token};
 use channel_model::Judged;
@@ -24,11 +25,11 @@ pub struct Row<T: Token> {
     pub number: u64,
     /// What its answer is made of.
     pub aim: Aim,
-    pub first: Side,
-    /// The question for AAAA records, beside that for A records.
-    pub second: Option<Side>,
     /// A candidate before the current one ended without data.
     pub empty: bool,
+    pub first: Side,
+    /// The question for AAAA records, beside that for A records.
+    pub second: Option<HeldSide>,
     pub token: T,
     pub call: Call,
 }
@@ -48,7 +49,7 @@ impl<T: Token> Row<T> {
         ensures { IfSome (side_at is_second self.now) (λ side. result.now ≡ side) }
     {
         match &self.second {
-            Some(side) if is_second => side,
+            Some(side) if is_second => side.side(),
             Some(_) | None => &self.first,
         }
     }
@@ -69,7 +70,7 @@ impl<T: Token> Row<T> {
     {
         if is_second {
             if let Some(side) = &mut self.second {
-                side.begin(server, link, id, mix, at, wait);
+                side.body.begin(server, link, id, mix, at, wait);
             }
         } else {
             self.first.begin(server, link, id, mix, at, wait);
@@ -100,7 +101,9 @@ impl<T: Token> Row<T> {
         };
         let right = match &self.second {
             None => None,
-            Some(side) => side.ended_behind(concerned, true, judged, brought, most),
+            Some(side) => side
+                .side()
+                .ended_behind(concerned, true, judged, brought, most),
         };
         answer_of(
             alloc,
@@ -125,7 +128,7 @@ impl<T: Token> Row<T> {
         };
         self.first.close(concerned, false, judged, one, most);
         if let Some(side) = &mut self.second {
-            side.close(concerned, true, judged, two, most);
+            side.body.close(concerned, true, judged, two, most);
         }
     }
 
@@ -160,7 +163,7 @@ impl<T: Token> Row<T> {
     {
         self.first.ask_next(alloc, leg);
         if let Some(side) = &mut self.second {
-            side.ask_next(alloc, leg);
+            side.body.ask_next(alloc, leg);
         }
         self.empty = self.empty || has_no_data(status);
     }

@@ -18,12 +18,12 @@ pub struct Side {
     pub number: u64,
     /// The number of its leg.
     pub leg_number: u8,
+    /// The leg has had an attempt.
+    pub begun: bool,
     pub question: Question,
     /// The candidates behind the current one.
     pub names: NameList,
     pub leg: Leg,
-    /// The leg has had an attempt.
-    pub begun: bool,
     /// The reply with which the leg's last attempt came to its end, or no byte.
     pub reply: Bytes,
 }

@@ -10,6 +10,7 @@ mod failing;
 mod finding;
 mod flown;
 mod landing;
+mod linked;
 mod listing;
 mod moving;
 mod rows;

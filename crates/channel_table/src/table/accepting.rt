@@ -14,6 +14,7 @@ ghost use Rattle.channel_model.specs.Seen.{Happens};
 use super::Table;
 use super::rows::Rows;
 use crate::aim::Aim;
+use crate::held_side::HeldSide;
 use crate::row::{Row, ticket_of, ticket_with};
 use crate::side::{Asked, Side};
 use addr_lookup::at_once;
@@ -179,12 +180,16 @@ fn place<T: Token>(
     let leg = Leg::new(options);
     match opening {
         Opening::Asks(first, second) => {
+            let second = match second_side(alloc, number, second, leg) {
+                Ok(second) => second,
+                Err(NoMemory) => return Err(token),
+            };
             let row = Row {
                 number,
                 aim,
-                first: Side::new(alloc, number, aim.first_number(), first, leg),
-                second: second_side(alloc, number, second, leg),
                 empty: false,
+                first: Side::new(alloc, number, aim.first_number(), first, leg),
+                second,
                 token,
                 call,
             };
@@ -212,12 +217,20 @@ fn place<T: Token>(
 }
 
 /// The second side of a new request, if it asks a second question.
-fn second_side(alloc: Global, number: u64, asked: Option<Asked>, leg: Leg) -> Option<Side>
-    ensures { result ≡ option_map (λ asked. new_side number 1 asked leg) asked }
+fn second_side(
+    alloc: Global,
+    number: u64,
+    asked: Option<Asked>,
+    leg: Leg,
+) -> Result<Option<HeldSide>, NoMemory>
+    ensures { IfOk result (λ side. side ≡ option_map (λ asked. new_side number 1 asked leg) asked) }
 {
     match asked {
-        Some(asked) => Some(Side::new(alloc, number, 1, asked, leg)),
-        None => None,
+        Some(asked) => {
+            let side = HeldSide::of(alloc, Side::new(alloc, number, 1, asked, leg))?;
+            Ok(Some(side))
+        }
+        None => Ok(None),
     }
 }
 

@@ -1,10 +1,11 @@
 //! How many requests and attempts there are.
 
-ghost use Rattle.std.specs.Prelude.{◌≡◌, ◌<◌, ◌≤◌, cond};
+ghost use Rattle.std.specs.Prelude.{◌≡◌, ◌<◌, ◌≤◌, cond, count_by, option_to_list};
 ghost use Rattle.std.specs.List.{sum_by};
 ghost use Rattle.channel_model.specs.Meanings.{TellsCounts};
 ghost use Rattle.channel_model.specs.Seen.{Happens};
 ghost use Rattle.channel_table.specs.Listing.{has_left};
+ghost use Rattle.channel_table.specs.Sides.{is_flying, waits};
 ghost use Rattle.channel_table.specs.Sought.{is_sought, sought_in};
 ghost use Rattle.channel_table.specs.Tally.{IsTally, IsTallyLeft, Moves, no_tally, tally_of};
 
@@ -55,8 +56,8 @@ impl Tally {
         ensures { result ≡ tally_of row.now }
     {
         Tally {
-            waiting: count_in(row, Sought::Waiting),
-            flying: count_in(row, Sought::Flying),
+            waiting: one_if(row.first.waits()) + one_if(second_waits(row)),
+            flying: one_if(row.first.is_flying()) + one_if(second_flies(row)),
         }
     }
 
@@ -157,10 +158,30 @@ fn count_in<T: Token>(row: &Row<T>, sought: Sought<'_>) -> u64
 {
     let first = sought.counts(&row.first);
     let second = match &row.second {
-        Some(side) => sought.counts(side),
+        Some(side) => sought.counts(side.side()),
         None => false,
     };
     one_if(first) + one_if(second)
+}
+
+/// The row has a second side, whose leg waits.
+fn second_waits<T: Token>(row: &Row<T>) -> bool
+    ensures { cond result 1 0 ≡ count_by waits (option_to_list row.now.second) }
+{
+    match &row.second {
+        Some(side) => side.side().waits(),
+        None => false,
+    }
+}
+
+/// The row has a second side, which has an attempt in flight.
+fn second_flies<T: Token>(row: &Row<T>) -> bool
+    ensures { cond result 1 0 ≡ count_by is_flying (option_to_list row.now.second) }
+{
+    match &row.second {
+        Some(side) => side.side().is_flying(),
+        None => false,
+    }
 }
 
 /// 1 where it is so, else 0.

@@ -2,7 +2,8 @@
 
 ghost use Rattle.std.specs.FinSet as set;
 ghost use Rattle.std.specs.List.{AllByRecursion};
-ghost use Rattle.std.specs.Prelude.{◌≡◌, ◌<◌, ◌≤◌, map, true, OnErr, OnOk};
+ghost use Rattle.std.specs.Prelude.{◌≡◌, ◌<◌, ◌≤◌, IfSome, Some, map, true, OnErr, OnOk};
+ghost use Rattle.std.specs.VecDeque.{deque_len};
 ghost use Rattle.channel_table.specs.Listed.{FindsIdleWith, FindsNumber, IsListed, IsRising, Keeps, key_of, some_waits, stays};
 ghost use Rattle.channel_table.specs.Rows.{number_of};
 ghost use Rattle.channel_table.specs.Starting.{FindsIdle};
@@ -15,8 +16,55 @@ use leg_index::Waiting;
 use std::collections::VecDeque;
 use timeout_queue::Key;
 
-/// The index of the request with this number, by halves.
+/// The index of the request with this number: at once where none has left the list between it and the first or between
+/// it and the last, else by halves.
 pub fn find_row<T: Token>(rows: &VecDeque<Held<T>>, number: u64) -> Option<usize>
+    requires { IsRising (map number_of rows.now.items) }
+    ensures { FindsNumber number rows.now.items result }
+{
+    if let Some(index) = count_from_first(rows, number) {
+        return Some(index);
+    }
+    if let Some(index) = count_from_last(rows, number) {
+        return Some(index);
+    }
+    find_by_halves(rows, number)
+}
+
+/// The index of the request with this number, if it is as far behind the first one as their numbers are apart.
+fn count_from_first<T: Token>(rows: &VecDeque<Held<T>>, number: u64) -> Option<usize>
+    ensures { IfSome result (λ index. FindsNumber number rows.now.items (Some index)) }
+{
+    if rows.is_empty() {
+        return None;
+    }
+    let distance = number.checked_sub(row_at(rows, 0).number)?;
+    index_if(rows, distance as usize, number)
+}
+
+/// The index of the request with this number, if it is as far before the last one as their numbers are apart.
+fn count_from_last<T: Token>(rows: &VecDeque<Held<T>>, number: u64) -> Option<usize>
+    ensures { IfSome result (λ index. FindsNumber number rows.now.items (Some index)) }
+{
+    let last = rows.len().checked_sub(1)?;
+    let distance = row_at(rows, last).number.checked_sub(number)?;
+    let index = last.checked_sub(distance as usize)?;
+    index_if(rows, index, number)
+}
+
+/// The index, if the request there has this number.
+fn index_if<T: Token>(rows: &VecDeque<Held<T>>, index: usize, number: u64) -> Option<usize>
+    ensures { IfSome result (λ index. FindsNumber number rows.now.items (Some index)) }
+{
+    if index < rows.len() && row_at(rows, index).number == number {
+        Some(index)
+    } else {
+        None
+    }
+}
+
+/// The index of the request with this number, by halves.
+fn find_by_halves<T: Token>(rows: &VecDeque<Held<T>>, number: u64) -> Option<usize>
     requires { IsRising (map number_of rows.now.items) }
     ensures { FindsNumber number rows.now.items result }
 {
@@ -60,6 +108,22 @@ pub fn first_idle<T: Token>(rows: &VecDeque<Held<T>>, waiting: &mut Waiting) -> 
         waiting.drop_first(first);
     }
     None
+}
+
+/// Takes the request at this index out of those that wait, where it comes first and none of its legs waits any longer.
+pub fn leave_waiting<T: Token>(rows: &VecDeque<Held<T>>, index: usize, waiting: &mut Waiting)
+    requires inside { index < deque_len rows.now }
+    requires rising { IsRising (map number_of rows.now.items) }
+    ensures { AllByRecursion (IsListed waiting.old) rows.now.items
+        → AllByRecursion (IsListed waiting.new) rows.now.items }
+{
+    let Some(first) = waiting.first() else {
+        return;
+    };
+    let row = row_at(rows, index);
+    if row.number == first.number && !some_waits(row) {
+        waiting.drop_first(first);
+    }
 }
 
 /// The first side that waits of the request with this number.
@@ -122,7 +186,7 @@ fn some_waits<T: Token>(row: &Row<T>) -> bool
 {
     row.first.waits()
         || match &row.second {
-            Some(side) => side.waits(),
+            Some(side) => side.side().waits(),
             None => false,
         }
 }

@@ -75,7 +75,7 @@ impl Flown {
         if let Some(side) = &row.second
             && second
         {
-            self.forget(side);
+            self.forget(side.side());
         }
     }
 
@@ -102,11 +102,11 @@ impl Flown {
 }
 
 /// The entry concerns the second side of the row, if there is one.
-fn concerns_second<T: Token>(row: &Row<T>, concerned: Hits) -> bool
+pub fn concerns_second<T: Token>(row: &Row<T>, concerned: Hits) -> bool
     ensures { result ≡ hits_second concerned row.now.second }
 {
     match &row.second {
-        Some(side) => concerned.concerns(side, true),
+        Some(side) => concerned.concerns(side.side(), true),
         None => false,
     }
 }
@@ -146,11 +146,11 @@ pub fn forget_left<T: Token>(flown: &mut Flown, rows: &VecDeque<Held<T>>, list: 
 }
 
 /// The attempt of the second side of the row is on a server that isn't in the list.
-fn second_left<T: Token>(row: &Row<T>, list: &[ServerKey]) -> bool
+pub fn second_left<T: Token>(row: &Row<T>, list: &[ServerKey]) -> bool
     ensures { result ≡ left_second list.now row.now.second }
 {
     match &row.second {
-        Some(side) => has_left(side, list),
+        Some(side) => has_left(side.side(), list),
         None => false,
     }
 }

@@ -41,9 +41,10 @@ pub fn row_landing<T: Token>(
     if let Some(judged) = judged_of(alloc, row.aim, &row.first, flags, server, link, bytes)? {
         return Ok(Some(landing_of(&row.first, index, false, judged)));
     }
-    let Some(side) = &row.second else {
+    let Some(second) = &row.second else {
         return Ok(None);
     };
+    let side = second.side();
     match judged_of(alloc, row.aim, side, flags, server, link, bytes)? {
         Some(judged) => Ok(Some(landing_of(side, index, true, judged))),
         None => Ok(None),

@@ -189,7 +189,7 @@ fn set_row<T: Token>(row: &mut Row<T>, list: &[ServerKey])
 {
     row.first.leg = set_leg(row.first.leg, list);
     if let Some(side) = &mut row.second {
-        side.leg = set_leg(side.leg, list);
+        side.body.leg = set_leg(side.body.leg, list);
     }
 }
 

@@ -10,6 +10,7 @@ ghost use Rattle.channel_table.specs.Apart.{IsApart};
 ghost use Rattle.channel_table.specs.Arriving.{Finds};
 ghost use Rattle.channel_table.specs.Ends.{EndsRow};
 ghost use Rattle.channel_table.specs.Failing.{answer_over, fails_at, kept_of, ticket_made};
+ghost use Rattle.channel_table.specs.Linked.{HasOneLink};
 ghost use Rattle.channel_table.specs.Listed.{key_of};
 ghost use Rattle.channel_table.specs.Listing.{left_in, row_set};
 ghost use Rattle.channel_table.specs.Rows.{ended_with, flying_in, number_of, sides, over_in, row_over, waiting_in};
@@ -21,18 +22,19 @@ ghost use Rattle.channel_table.specs.Strays.{IsNumbered, IsOnlyWith, id_of};
 use super::counting::{Sought, Tally, count_sides, tally_left};
 use super::ending::{complete_all, end_row};
 use super::failing::{answers_over, fail_all};
-use super::finding::{find_row, first_idle, key_of, list_all, list_staying};
+use super::finding::{find_row, first_idle, key_of, leave_waiting, list_all, list_staying};
 use super::flown::{Flown, forget_all, forget_left, forget_over, key_of_side};
 use super::landing::{Landing, id_of, row_landing};
+use super::linked::{add_attempt, end_attempts, end_left, end_over};
 use super::listing::set_rows;
-use super::seeking::{Soonest, any_over, find_soonest, side_due};
-use super::starting::{Idle, begin, find_idle, tcp_link};
+use super::seeking::{Soonest, find_soonest, side_due};
+use super::starting::{Idle, begin, find_idle};
 use crate::held::{Held, row_at};
 use crate::row::Row;
 use crate::side::Hits;
 use chan_types::{Answer, Bytes, NoMemory, ServerKey, Status, Ticket, Token};
 use channel_model::Judged;
-use leg_index::Waiting;
+use leg_index::{Links, Waiting};
 use resolv_options::{Flags, Options};
 use std::alloc::Global;
 use std::collections::VecDeque;
@@ -47,6 +49,8 @@ pub struct Rows<T: Token> {
     waiting: Waiting,
     /// What finds the attempts in flight.
     flown: Flown,
+    /// How many attempts are in flight on each link.
+    links: Links,
     /// Some of which a leg waits may not be among these: many legs may come back at once where no memory may be taken.
     unlisted: bool,
     /// How many legs wait, and how many attempts are in flight.
@@ -75,6 +79,7 @@ impl<T: Token> Rows<T> {
             list: VecDeque::new(alloc),
             waiting: Waiting::make(alloc),
             flown: Flown::make(alloc)?,
+            links: Links::make(alloc),
             unlisted: false,
             tally: Tally::none(),
         })
@@ -139,9 +144,10 @@ impl<T: Token> Rows<T> {
 
     /// A link over TCP to the server on which an attempt is in flight.
     pub fn tcp_link(&self, server: u32) -> Option<u64>
+        requires { HasOneLink server self.now }
         ensures { result ≡ first (flat_map (row_links server) self.now) }
     {
-        tcp_link(&self.list, server)
+        self.links.over_tcp(server)
     }
 
     /// Begins an attempt of this side of the row at this index, which is given so long.
@@ -168,7 +174,7 @@ impl<T: Token> Rows<T> {
         let leg = key_of_side(row_at(&self.list, index).side(is_second));
         let due = at.saturating_add(wait);
         let before = Tally::of_row(row_at(&self.list, index));
-        self.flown.add(leg, id, due)?;
+        add_attempt(&mut self.flown, &mut self.links, leg, server, link, id, due)?;
         begin(
             &mut self.list,
             index,
@@ -180,6 +186,7 @@ impl<T: Token> Rows<T> {
             at,
             wait,
         );
+        leave_waiting(&self.list, index, &mut self.waiting);
         let behind = Tally::of_row(row_at(&self.list, index));
         self.tally = self.tally.moved(before, behind);
         Ok(())
@@ -270,7 +277,7 @@ impl<T: Token> Rows<T> {
     pub fn any_over(&self, server: u32, link: u64) -> bool
         ensures { result ≡ list_any (row_over server link) self.now }
     {
-        any_over(&self.list, server, link)
+        self.links.is_busy(server, link)
     }
 
     /// How many legs wait.
@@ -344,6 +351,12 @@ impl<T: Token> Rows<T> {
         list_staying(row_at(&self.list, index), &answer, &mut self.waiting)?;
         self.flown
             .forget_ended(row_at(&self.list, index), concerned, &answer);
+        end_attempts(
+            &mut self.links,
+            row_at(&self.list, index),
+            concerned,
+            &answer,
+        );
         let len = self.list.len();
         let before = Tally::of_row(row_at(&self.list, index));
         end_row(
@@ -395,6 +408,13 @@ impl<T: Token> Rows<T> {
             server,
             link,
         );
+        end_over(
+            &mut self.links,
+            &self.list,
+            answers.as_slice(),
+            server,
+            link,
+        );
         fail_all(
             alloc,
             options,
@@ -418,6 +438,7 @@ impl<T: Token> Rows<T> {
     {
         self.unlisted = true;
         forget_left(&mut self.flown, &self.list, list);
+        end_left(&mut self.links, &self.list, list);
         set_rows(&mut self.list, list);
         self.tally = Tally::of_rows(&self.list);
     }
@@ -431,6 +452,7 @@ impl<T: Token> Rows<T> {
         ensures capacity { deque_capacity ready.new ≡ deque_capacity ready.old }
     {
         forget_all(&mut self.flown, &self.list);
+        self.links = Links::make(alloc);
         complete_all(alloc, &mut self.list, ready, status);
         self.waiting.clear();
         self.unlisted = false;

@@ -2,9 +2,7 @@
 
 ghost use Rattle.std.specs.Prelude.{◌≡◌, ◌<◌, IfSome};
 ghost use Rattle.channel_table.specs.DueSides.{IsDueOf, due_side, is_due};
-ghost use Rattle.std.specs.List.{list_any};
 ghost use Rattle.channel_model.specs.Meanings.{TellsBusy, TellsDue};
-ghost use Rattle.channel_table.specs.Rows.{row_over};
 ghost use Rattle.channel_model.specs.Seen.{Happens};
 ghost use Rattle.channel_table.specs.Soonest.{IsSoonest, is_sooner, sooner, sooner_row};
 
@@ -36,29 +34,6 @@ impl<T: Token> Table<T> {
     }
 }
 
-/// Whether a row has an attempt in flight on this server over this link.
-pub fn any_over<T: Token>(rows: &VecDeque<Held<T>>, server: u32, link: u64) -> bool
-    ensures { result ≡ list_any (row_over server link) rows.now.items }
-{
-    for index in 0..rows.len() {
-        if row_over(row_at(rows, index), server, link) {
-            return true;
-        }
-    }
-    false
-}
-
-/// Whether the row has an attempt in flight on this server over this link.
-fn row_over<T: Token>(row: &Row<T>, server: u32, link: u64) -> bool
-    ensures { result ≡ row_over server link row.now }
-{
-    row.first.flew_over(server, link)
-        || match &row.second {
-            Some(side) => side.flew_over(server, link),
-            None => false,
-        }
-}
-
 /// An attempt in flight: its row, which side of it, when it is due, its request, and its leg.
 #[derive(Clone, Copy, Debug, PartialEq, Eq)]
 pub struct Soonest {
@@ -86,7 +61,7 @@ fn sooner_row<T: Token>(best: Option<Soonest>, index: usize, row: &Row<T>) -> Op
 {
     let best = sooner(best, index, false, &row.first);
     match &row.second {
-        Some(side) => sooner(best, index, true, side),
+        Some(side) => sooner(best, index, true, side.side()),
         None => best,
     }
 }
@@ -135,7 +110,7 @@ pub fn side_due<T: Token>(row: &Row<T>, index: usize, leg: Key, due: u64) -> Opt
         return Some(due_side(index, false, leg, due));
     }
     match &row.second {
-        Some(side) if is_due(side, leg, due) => Some(due_side(index, true, leg, due)),
+        Some(side) if is_due(side.side(), leg, due) => Some(due_side(index, true, leg, due)),
         Some(_) | None => None,
     }
 }

@@ -1,17 +1,17 @@
 //! Starting the attempt of the first leg that waits: its server, its link and its identifier.
 
 ghost use Rattle.std.specs.Bool.{then_some};
-ghost use Rattle.std.specs.Prelude.{◌≡◌, ◌≢◌, ◌+◌, ◌<◌, ◌≤◌, ◌==◌, ◌&&◌, ◌^◌, if◌then◌else◌, IfOk, IsTrue, Some, None, cond, flat_map, length};
+ghost use Rattle.std.specs.Prelude.{◌≡◌, ◌≢◌, ◌+◌, ◌<◌, ◌≤◌, ◌==◌, ◌&&◌, ◌^◌, if◌then◌else◌, IfOk, IsTrue, Some, None, cond, length};
 ghost use Rattle.std.specs.VecDeque.{deque_len};
 ghost use Rattle.channel_model.specs.Flight.{asked_with};
-ghost use Rattle.channel_model.specs.Lawful.{first};
 ghost use Rattle.channel_model.specs.Meanings.{Starts};
 ghost use Rattle.channel_model.specs.Past.{query_for};
 ghost use Rattle.channel_model.specs.Seen.{Happens};
 ghost use Rattle.channel_model.specs.Servers.{address_of, has_key};
 ghost use Rattle.dns_message.specs.Spelling.{message_bytes};
-ghost use Rattle.query_machine.specs.Legs.{attempt_from, flying_in};
-ghost use Rattle.channel_table.specs.Starting.{BeginsRow, FindsIdle, FindsIdleSide, WaitsAt, first_place, idle_of, link_on, link_with, row_links, server_with, used_of};
+ghost use Rattle.query_machine.specs.Legs.{attempt_from};
+ghost use Rattle.channel_table.specs.Starting.{BeginsRow, FindsIdle, FindsIdleSide, WaitsAt, first_place, idle_of, link_with, server_with, used_of};
+ghost use Rattle.channel_table.specs.Linked.{HasOneLink};
 
 use super::Table;
 use super::moving::make_room;
@@ -123,7 +123,7 @@ pub fn idle_side<T: Token>(row: &Row<T>, index: usize) -> Option<Idle>
         return Some(idle_of(&row.first, index, false));
     }
     match &row.second {
-        Some(side) if side.waits() => Some(idle_of(side, index, true)),
+        Some(side) if side.side().waits() => Some(idle_of(side.side(), index, true)),
         Some(_) | None => None,
     }
 }
@@ -185,7 +185,8 @@ fn choose_server(servers: &Servers, forced: Option<u32>, used: u32, place: u32) 
 
 /// The link of an attempt to this server: 0 over UDP.
 fn choose_link<T: Token>(rows: &Rows<T>, over_tcp: bool, server: u32, greatest: u64) -> u64
-    requires { greatest + 1 < 2 ^ 64 }
+    requires fits { greatest + 1 < 2 ^ 64 }
+    requires one { HasOneLink server rows.now }
     ensures { result ≡ link_with rows.now over_tcp server greatest }
 {
     if !over_tcp {
@@ -194,41 +195,6 @@ fn choose_link<T: Token>(rows: &Rows<T>, over_tcp: bool, server: u32, greatest: 
     match rows.tcp_link(server) {
         Some(link) => link,
         None => greatest + 1,
-    }
-}
-
-/// A link over TCP to the server on which an attempt is in flight.
-pub fn tcp_link<T: Token>(rows: &VecDeque<Held<T>>, server: u32) -> Option<u64>
-    ensures { result ≡ first (flat_map (row_links server) rows.now.items) }
-{
-    for index in 0..rows.len() {
-        if let Some(link) = row_link(row_at(rows, index), server) {
-            return Some(link);
-        }
-    }
-    None
-}
-
-/// The link of an attempt of the row, where one went to the server over TCP.
-fn row_link<T: Token>(row: &Row<T>, server: u32) -> Option<u64>
-    ensures { result ≡ first (row_links server row.now) }
-{
-    if let Some(link) = link_on(&row.first, server) {
-        return Some(link);
-    }
-    match &row.second {
-        Some(side) => link_on(side, server),
-        None => None,
-    }
-}
-
-/// The link of the side's attempt, where it went to the server over TCP.
-fn link_on(side: &Side, server: u32) -> Option<u64>
-    ensures { result ≡ link_on server (flying_in side.now.leg.phase) }
-{
-    match side.leg.phase {
-        Phase::InFlight(flying) if flying.server == server && flying.link != 0 => Some(flying.link),
-        Phase::Waiting | Phase::InFlight(_) | Phase::Ended(_) => None,
     }
 }
 

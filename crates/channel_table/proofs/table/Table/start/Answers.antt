@@ -25,7 +25,7 @@ use Rattle.channel_table.proofs.Attempts.{list_few, list_some}
 use Rattle.channel_table.proofs.Begins.{all_used, chosen_there, counted_begun, counts_length, first_free, may_begin, query_told, server_taken, some_free, some_wait, started_few, starts_at, starts_failed, table_begun, used_is}
 use Rattle.channel_table.proofs.Finding.{waiting_says}
 use Rattle.channel_table.proofs.Keeping.{few_closed, happens_by, happens_nothing, happens_same, kept_grown, kept_more, no_more}
-use Rattle.channel_table.proofs.Links.{link_few}
+use Rattle.channel_table.proofs.Links.{link_few, one_first}
 use Rattle.channel_table.proofs.SideLists.{all_legs_stand}
 use Rattle.channel_table.proofs.Telling.{waiting_rows}
 use Rattle.channel_table.specs.Apart.{NoneFlies}
@@ -75,6 +75,11 @@ in_use-used-requires-clause-few g c =
 pub choose_server-server-requires-clause-there : goal.choose_server-server-requires-clause-there
 choose_server-server-requires-clause-there g c =
     omega (arith, c.in_use-used.ensures.few, counts_length (setting_of c.self.inside) (past_of c.self.inside.entries.items) c.self.inside.list c.self.inside.servers c.self.inside.greatest_key c.self.inside.greatest_link c.self.inside.started c.self.invariant.counted)
+
+pub choose_link-link-requires-clause-one : goal.choose_link-link-requires-clause-one
+choose_link-link-requires-clause-one g c =
+    let rows : List (Row g.row.T.Denot) = c.self.inside.rows in
+    rw c.find_idle.ensures.same (λ link tcp any. one_first g.T.Token.plan (setting_of c.self.inside) (past_of c.self.inside.entries.items) rows c.self.inside.ready.items c.self.invariant.stands c.self.invariant.lawful.allowed c.choose_server-server.result link tcp any)
 
 pub address_of-address-requires : goal.address_of-address-requires
 address_of-address-requires g c =

@@ -9,16 +9,16 @@ use Rattle.channel_table.proofs.table.accepting.place.Goals as goal
 
 pub push-requires-clause-idle : goal.push-requires-clause-idle
 push-requires-clause-idle g c =
-    rw (c.new.ensures, c.second_side.ensures) (new_idle c.args.number c.first_number.result c.in-Asks.first c.in-Asks.second c.new-leg.result (ap (λ (l : machine.Leg). flying_in l.phase) c.new-leg.ensures))
+    rw (c.new.ensures, c.in-Ok.ensures) (new_idle c.args.number c.first_number.result c.in-Asks.first c.in-Asks.second c.new-leg.result (ap (λ (l : machine.Leg). flying_in l.phase) c.new-leg.ensures))
 
-pub returns-in-Ok-clause-places : goal.returns-in-Ok-clause-places
-returns-in-Ok-clause-places g c =
+pub returns-in-Ok-push-clause-places : goal.returns-in-Ok-push-clause-places
+returns-in-Ok-push-clause-places g c =
     rw c.in-Asks.is (
       record {
         number = c.args.number;
         aim = c.args.aim;
         first = c.new.result;
-        second = c.second_side.result;
+        second = c.in-Ok.second;
         empty = false;
         token = c.args.token;
         call = c.args.call;
@@ -27,10 +27,10 @@ returns-in-Ok-clause-places g c =
         numbered = refl;
         aims = refl;
         first_side = c.new.ensures ∙ ap₂ (λ n l. new_side c.args.number n c.in-Asks.first l) c.first_number.ensures c.new-leg.ensures;
-        second_side = c.second_side.ensures ∙ ap (λ l. option_map (λ (a : Asked). new_side c.args.number 1 a l) c.in-Asks.second) c.new-leg.ensures;
+        second_side = c.in-Ok.ensures ∙ ap (λ l. option_map (λ (a : Asked). new_side c.args.number 1 a l) c.in-Asks.second) c.new-leg.ensures;
         unpassed = refl;
         for' = refl;
       },
-      c.in-Ok.ensures.ok,
+      c.in-Ok-push.ensures.ok,
       refl,
     )

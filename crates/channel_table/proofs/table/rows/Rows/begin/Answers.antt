@@ -7,6 +7,7 @@ use Rattle.query_machine.specs.declared.leg.Flying.{Flying}
 use Rattle.timeout_queue.specs.declared.key.Key.{Key}
 use Rattle.channel_table.proofs.FlownRows.{begin_found, leg_idle}
 use Rattle.channel_table.proofs.IndexLemmas.{begins_listed, begins_rising}
+use Rattle.channel_table.proofs.LinkedLemmas.{begins_linked, link_fits}
 use Rattle.channel_table.proofs.TallyLemmas.{begins_tally}
 use Rattle.channel_table.specs.Apart.{IsApart}
 use Rattle.channel_table.specs.Flown.{AreFlown}
@@ -18,14 +19,19 @@ use Rattle.channel_table.specs.declared.side.Side.{Side}
 use Rattle.channel_table.specs.declared.table.flown.Flown.{Flown}
 use Rattle.channel_table.proofs.table.rows.Rows.begin.Goals as goal
 
-pub add-requires : goal.add-requires
-add-requires g c =
+pub add_attempt-requires : goal.add_attempt-requires
+add_attempt-requires g c =
     let rows : List (Row g.row.T.Denot) = c.self.inside.list.items in
     let apart = subst (IsApart c.args.index c.args.is_second) (sym c.self.view_is) c.requires.apart in
     record {
       idle = subst (λ (k : Key). map.contains_key c.self.inside.flown.deadlines k ≡ false) (sym c.key_of_side-leg.ensures)
           (leg_idle c.self.inside.flown c.args.index c.args.is_second rows apart c.self.invariant.flown c.side.result.now c.row_at.result.now c.row_at.ensures c.side.ensures);
+      fits = link_fits c.self.inside.links rows c.self.invariant.linked (omega (arith, c.self.inside.list.ok.0, c.self.inside.list.small.0, c.self.inside.list.small.1)) c.args.server c.args.link;
     }
+
+pub leave_waiting-requires-clause-rising : goal.leave_waiting-requires-clause-rising
+leave_waiting-requires-clause-rising g c =
+    begins_rising (attempt_from c.args.server c.args.link c.args.id c.args.mix c.args.at c.args.wait) c.args.index c.args.is_second c.self.inside.list.items c.begin.new.rows.items c.begin.ensures.begins c.self.invariant.rising
 
 pub invariant_of-self-2 : goal.invariant_of-self-2
 invariant_of-self-2 g c =
@@ -40,9 +46,10 @@ invariant_of-self-2 g c =
     let told = subst (λ (r : Row g.row.T.Denot). IfSome (side_at c.args.is_second r) (λ (s : Side). c.side.result.now ≡ s)) (c.row_at.ensures ∙ begins.is c.row_at.result.now) c.side.ensures in
     record {
       rising = begins_rising flying c.args.index c.args.is_second rows new begins c.self.invariant.rising;
-      flown = subst (λ (f : Flown). AreFlown f (all_sides new)) (sym (c.in_ok-add.ensures.ok ∙ ap₂ (λ (k : Key) (due : ℕ). begun_flown k c.args.id due c.self.inside.flown) c.key_of_side-leg.ensures c.saturating_add-due.ensures))
+      flown = subst (λ (f : Flown). AreFlown f (all_sides new)) (sym (c.in_ok-add_attempt.ensures.flown ∙ ap₂ (λ (k : Key) (due : ℕ). begun_flown k c.args.id due c.self.inside.flown) c.key_of_side-leg.ensures c.saturating_add-due.ensures))
           (begin_found c.self.inside.flown c.args.index c.args.is_second rows apart c.self.invariant.flown c.side.result.now flying new begins waits free told);
-      listed = λ on. begins_listed flying c.args.index c.args.is_second rows new begins c.self.inside.waiting (c.self.invariant.listed on);
+      linked = begins_linked c.self.inside.links rows c.self.invariant.linked c.add_attempt.new.links flying c.args.index c.args.is_second new begins waits apart c.in_ok-add_attempt.ensures.linked;
+      listed = λ on. c.leave_waiting.ensures (begins_listed flying c.args.index c.args.is_second rows new begins c.self.inside.waiting (c.self.invariant.listed on));
       tally = begins_tally flying c.args.index c.args.is_second rows new begins inside (omega (arith, c.begin.new.rows.ok.0, c.begin.new.rows.small.0, c.begin.new.rows.small.1)) c.self.inside.tally c.of_row-before.result c.of_row-behind.result c.moved-self-inside.result c.row_at-2.result.now c.row_at-3.result.now
           c.of_row-before.ensures c.row_at-2.ensures c.of_row-behind.ensures c.row_at-3.ensures c.self.invariant.tally c.moved-self-inside.ensures.waiting c.moved-self-inside.ensures.flying;
     }

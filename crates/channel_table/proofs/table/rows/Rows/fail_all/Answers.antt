@@ -11,6 +11,7 @@ invariant_of-self g c = record {
   rising = rw c.fail_all.ensures.rows (kept_rising (fails_at c.args.options.now c.args.server c.args.link c.args.most)
       (λ row new is. after_number c.args.options.now.flags (Over c.args.server c.args.link) (Failed ConnRefused) [] c.args.most row new (answer_over c.args.options.now c.args.server c.args.link c.args.most row) is) c.self.inside.list.items c.self.invariant.rising);
   flown = rw c.fail_all.ensures.rows ((rw c.as_slice.ensures.value at c.forget_over.ensures) c.args.options.now c.args.most (c.requires.answers ∙ ap (map (answer_over c.args.options.now c.args.server c.args.link c.args.most)) (sym c.self.view_is)) c.self.invariant.flown);
+  linked = rw c.fail_all.ensures.rows ((rw c.as_slice-2.ensures.value at c.end_over.ensures) c.args.options.now c.args.most (c.requires.answers ∙ ap (map (answer_over c.args.options.now c.args.server c.args.link c.args.most)) (sym c.self.view_is)) c.self.invariant.linked);
   listed = λ on. absurd (let t : true ≡ false = on in cc);
   tally = c.of_rows-self-inside.ensures;
 }

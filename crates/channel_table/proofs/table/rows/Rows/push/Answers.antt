@@ -6,6 +6,7 @@ use Rattle.channel_model.proofs.Theorems.{each-append}
 use Rattle.channel_table.proofs.FlownRows.{push_flown}
 use Rattle.channel_table.proofs.IndexLemmas.{rising_push}
 use Rattle.channel_table.proofs.ListedLemmas.{listed_itself, listed_more}
+use Rattle.channel_table.proofs.LinkedLemmas.{push_linked}
 use Rattle.channel_table.proofs.TallyLemmas.{push_tally}
 use Rattle.channel_table.specs.Listed.{IsListed, key_of}
 use Rattle.channel_table.specs.Rows.{number_of}
@@ -21,6 +22,7 @@ invariant_of-self g c =
     record {
       rising = rw (c.push_back_reserved.ensures.items, c.make_room.ensures.items, c.in_ok-held.ensures.ok) (rising_push rows c.args.row c.self.invariant.rising newer);
       flown = rw (c.push_back_reserved.ensures.items, c.make_room.ensures.items, c.in_ok-held.ensures.ok) (push_flown c.self.inside.flown rows c.args.row c.requires.idle c.self.invariant.flown);
+      linked = rw (c.push_back_reserved.ensures.items, c.make_room.ensures.items, c.in_ok-held.ensures.ok) (push_linked c.self.inside.links rows c.self.invariant.linked c.args.row c.requires.idle);
       listed = λ on. rw (c.push_back_reserved.ensures.items, c.make_room.ensures.items, c.in-Ok.ensures.listed, c.in_ok-held.ensures.ok)
           (each-append (IsListed (set.insert legs key)) rows (c.args.row ∷ []) (listed_more legs key rows (c.self.invariant.listed on)) ((λ waiting. listed_itself legs c.args.row.number), tt));
       tally = rw (c.push_back_reserved.ensures.items, c.make_room.ensures.items, c.in_ok-held.ensures.ok)

@@ -1,0 +1,22 @@
+use Rattle.std.proofs.Common.{Bool, List, ap₂, arith, map, subst, ◌++◌, ◌∙◌, ◌-◌}
+use Rattle.std.proofs.lemmas.List.{append-nil, take_all}
+use Rattle.leg_index.specs.Links.{used}
+use Rattle.channel_table.proofs.FlownRows.{drop_none}
+use Rattle.channel_table.proofs.LinkedLemmas.{set_linked}
+use Rattle.channel_table.specs.Linked.{AreLinked, over_sides}
+use Rattle.channel_table.specs.Listing.{row_set}
+use Rattle.channel_table.specs.declared.row.Row.{Row}
+use Rattle.channel_table.proofs.table.linked.end_left.Goals as goal
+
+pub loop-index-preserved : goal.loop-index-preserved
+loop-index-preserved g c = λ are.
+    let row : Row g.row.T.Denot = c.row_at-row.result.now in
+    set_linked c.loop-index.links c.end_sides.new.links c.args.rows.now.items c.loop-index.index row (omega (arith, c.loop-index-test.true, c.len-index-end.ensures)) c.row_at-row.ensures c.args.list.now (c.loop-index.invariant are)
+    (λ server link. c.end_sides.ensures server link ∙ ap₂ (λ (a b : Bool). used server link c.loop-index.links - over_sides a b server link row) c.has_left.ensures c.second_left.ensures)
+
+pub returns : goal.returns
+returns g c = λ are.
+    let rows : List (Row g.row.T.Denot) = c.args.rows.now.items in
+    subst (AreLinked c.loop-index.links)
+    (ap₂ (λ (xs ys : List (Row g.row.T.Denot)). map (row_set c.args.list.now) xs ++ ys) (take_all c.loop-index.index rows (omega (arith, c.loop-index-test.false, c.len-index-end.ensures))) (drop_none rows c.loop-index.index (omega (arith, c.loop-index-test.false, c.len-index-end.ensures)))
+    ∙ append-nil (map (row_set c.args.list.now) rows)) (c.loop-index.invariant are)

@@ -1,0 +1,47 @@
+-- How many attempts are in flight on each link, and how that follows the rows.
+use Rattle.std.specs.List.{list_any, sum_by}
+use Rattle.std.specs.Prelude.{Bool, List, None, Option, Some, cond, false, flat_map, true, ◌+◌, ◌||◌, ◌≡◌, ◌≢◌, ℕ}
+use Rattle.channel_model.specs.Lawful.{first}
+use Rattle.leg_index.specs.Links.{used}
+use Rattle.leg_index.specs.declared.links.LinkUse.{LinkUse}
+use Rattle.query_machine.specs.declared.leg.Flying.{Flying}
+use Rattle.channel_table.specs.Forgotten.{hits_second}
+use Rattle.channel_table.specs.Rows.{over_in, row_over}
+use Rattle.channel_table.specs.Sides.{flying_of, flying_over, hits}
+use Rattle.channel_table.specs.Starting.{row_links}
+use Rattle.channel_table.specs.declared.row.Row.{Row}
+use Rattle.channel_table.specs.declared.side.Hits.{Hits}
+use Rattle.channel_table.specs.declared.side.Side.{Side}
+
+-- as many attempts are in flight on each link as the rows have over it
+abbrev pub AreLinked : {T : Type 0} → List LinkUse → List (Row T) → Type 0
+AreLinked links rows = (server link : ℕ) → used server link links ≡ sum_by (over_in server link) rows
+
+-- how many attempts went to this server over this link: one, if this one did, or none
+abbrev pub over_by : ℕ → ℕ → Option Flying → ℕ
+over_by server link flying = cond (flying_over server link flying) 1 0
+
+-- the same of a side's attempt
+abbrev pub over_of : ℕ → ℕ → Side → ℕ
+over_of server link side = over_by server link (flying_of side)
+
+-- the same, if this is so
+abbrev pub over_if : Bool → ℕ → ℕ → Side → ℕ
+over_if so server link side = cond so (over_of server link side) 0
+
+-- the same of a second side, if there is one
+abbrev pub over_second : Bool → ℕ → ℕ → Option Side → ℕ
+over_second so server link None = 0
+over_second so server link (Some side) = over_if so server link side
+
+-- how many went so of the sides of a row for which this is so
+abbrev pub over_sides : {T : Type 0} → Bool → Bool → ℕ → ℕ → Row T → ℕ
+over_sides first second server link row = over_if first server link row.first + over_second second server link row.second
+
+-- of those that an entry concerns, or of all of them
+abbrev pub over_ended : {T : Type 0} → Hits → Bool → ℕ → ℕ → Row T → ℕ
+over_ended concerned all server link row = over_sides (all || hits concerned false row.first) (all || hits_second concerned row.second) server link row
+
+-- each link over TCP to the server on which an attempt of the rows is in flight is that of the first one
+abbrev pub HasOneLink : {T : Type 0} → ℕ → List (Row T) → Type 0
+HasOneLink server rows = (link : ℕ) → link ≢ 0 → list_any (row_over server link) rows ≡ true → first (flat_map (row_links server) rows) ≡ Some link
