@@ -4,10 +4,10 @@ mod asks;
 mod pages;
 mod refusals;
 
-use tool_line::*;
 use net_addr::{Addr, Family};
 use std::alloc::Global;
 use std::test::Fail;
+use tool_line::*;
 
 /// The words of a command line: its parts between blanks. So an empty line is one empty word.
 fn words_of(alloc: Global, line: &str) -> Result<Vec<&str>, Fail> {

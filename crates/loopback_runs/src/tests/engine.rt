@@ -1,9 +1,9 @@
 //! The real forms over loopback, files that the test makes, and standard output.
 
-use sock_engine::*;
 use dns_message::{Bytes, NoMemory};
 use net_addr::{Addr, ServerAddr};
 use net_world::{FileRead, Files, Got, PutEnd, Sent, Sink, Waited, World, Wrote};
+use sock_engine::*;
 use std::alloc::Global;
 use std::net::{Ipv4Addr, SocketAddr};
 use std::test::*;

@@ -1,9 +1,9 @@
 //! The network in memory, and what it loses.
 
-use test_nameserver::*;
 use net_world::{Got, World, Wrote};
 use std::alloc::Global;
 use std::test::Fail;
+use test_nameserver::*;
 
 /// A query for the address of h0.load.test., without RD (RFC 1035, section 4.1), and its reply.
 const QUERY: &[u8; 30] = b"\x12\x34\0\0\0\x01\0\0\0\0\0\0\x02h0\x04load\x04test\0\0\x01\0\x01";

@@ -1,10 +1,10 @@
 //! Runs of the nameserver over a listener in memory.
 
-use test_nameserver::*;
 use net_world::{MemFiles, MemSink, Sent};
 use std::alloc::Global;
 use std::collections::BTreeMap;
 use std::test::Fail;
+use test_nameserver::*;
 
 /// A query for the address of h3.load.test. (RFC 1035, section 4.1), and the reply of a zone without that name.
 const QUERY: &[u8; 30] = b"\x12\x34\x01\0\0\x01\0\0\0\0\0\0\x02h3\x04load\x04test\0\0\x01\0\x01";

@@ -1,8 +1,8 @@
 //! Outside examples: zones, queries and replies, byte by byte.
 
-use test_nameserver::*;
 use std::alloc::Global;
 use std::test::Fail;
+use test_nameserver::*;
 
 /// A query for the address of a.test., with RD (RFC 1035, section 4.1).
 const QUERY_A: &[u8; 24] = b"\x12\x34\x01\0\0\x01\0\0\0\0\0\0\x01a\x04test\0\0\x01\0\x01";
