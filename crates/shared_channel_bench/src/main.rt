@@ -6,6 +6,7 @@
 
 mod alone;
 mod asking;
+mod backoff;
 mod place;
 mod threads;
 

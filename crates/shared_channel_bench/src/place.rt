@@ -4,13 +4,14 @@
 ghost use Rattle.shared_channel.specs.Staying.{StaysSettled};
 
 use crate::asking::{NONE, callback, query, reply_to};
+use crate::backoff::Backoff;
 use chan_types::{NoMemory, Spec};
 use channel_model::{Begun, Desk};
 use completion_ticket::{Callback, Scripted};
 use shared_channel::{Place, deliver_one};
 use std::alloc::Global;
 use std::sync::Wait;
-use std::thread::yield_now;
+use std::time::Clock;
 
 /// Asks a request with this callback.
 fn asked<R: Wait>(place: &mut Place<'_, Scripted, R>, spec: Spec, callback: Callback<Scripted>)
@@ -77,19 +78,19 @@ fn answered<R: Wait>(place: &mut Place<'_, Scripted, R>, attempt: Attempt, reply
     let _landed = place.arrive(attempt.server, attempt.link, reply).is_ok();
 }
 
-/// Begins an attempt and takes in the reply to it, or lets others go first where no leg waits. Answers how many those
-/// were.
+/// Begins an attempt and takes in the reply to it, or backs off where no leg is to be asked. Answers how many those were.
 #[tactic(auto, using(shared_channel::proofs::Theorems::stays_more))]
-fn reply<R: Wait>(place: &mut Place<'_, Scripted, R>) -> u64
+fn reply<R: Wait + Clock>(rt: &R, place: &mut Place<'_, Scripted, R>, backoff: &mut Backoff) -> u64
     ensures { StaysSettled place.old place.new }
 {
     match begun(place) {
         Some(attempt) => {
             answered(place, attempt, &reply_to(attempt.id));
+            backoff.reset();
             1
         }
         None => {
-            yield_now();
+            backoff.snooze(rt);
             0
         }
     }
@@ -97,15 +98,16 @@ fn reply<R: Wait>(place: &mut Place<'_, Scripted, R>) -> u64
 
 /// Replies to so many attempts.
 #[tactic(auto, using(shared_channel::proofs::Theorems::stays_more, shared_channel::proofs::Theorems::stays_none))]
-pub fn reply_all<R: Wait>(rt: &R, place: &mut Place<'_, Scripted, R>, count: u64)
+pub fn reply_all<R: Wait + Clock>(rt: &R, place: &mut Place<'_, Scripted, R>, count: u64)
     ensures { StaysSettled place.old place.new }
 {
+    let mut backoff = Backoff::new();
     let mut left = count;
     for _ in rt.forever() {
         if left == 0 {
             return;
         }
-        left = left.saturating_sub(reply(place));
+        left = left.saturating_sub(reply(rt, place, &mut backoff));
     }
     unreachable!()
 }
@@ -118,36 +120,42 @@ fn delivered<R: Wait>(place: &mut Place<'_, Scripted, R>) -> bool
     deliver_one(place, NONE).is_some()
 }
 
-/// Delivers the first ready request, or lets others go first where none is ready. Answers how many that were.
-fn deliver<R: Wait>(place: &mut Place<'_, Scripted, R>) -> u64
+/// Delivers the first ready request, or backs off where none is ready. Answers how many that were.
+fn deliver<R: Wait + Clock>(
+    rt: &R,
+    place: &mut Place<'_, Scripted, R>,
+    backoff: &mut Backoff,
+) -> u64
     ensures { StaysSettled place.old place.new }
 {
     if delivered(place) {
+        backoff.reset();
         1
     } else {
-        yield_now();
+        backoff.snooze(rt);
         0
     }
 }
 
 /// Delivers so many requests.
 #[tactic(auto, using(shared_channel::proofs::Theorems::stays_more, shared_channel::proofs::Theorems::stays_none))]
-fn deliver_all<R: Wait>(rt: &R, place: &mut Place<'_, Scripted, R>, count: u64)
+fn deliver_all<R: Wait + Clock>(rt: &R, place: &mut Place<'_, Scripted, R>, count: u64)
     ensures { StaysSettled place.old place.new }
 {
+    let mut backoff = Backoff::new();
     let mut left = count;
     for _ in rt.forever() {
         if left == 0 {
             return;
         }
-        left = left.saturating_sub(deliver(place));
+        left = left.saturating_sub(deliver(rt, place, &mut backoff));
     }
     unreachable!()
 }
 
 /// Asks ten requests, and delivers ten that others reply to.
 #[tactic(auto, using(shared_channel::proofs::Theorems::stays_more))]
-fn round<R: Wait>(rt: &R, place: &mut Place<'_, Scripted, R>, alloc: Global)
+fn round<R: Wait + Clock>(rt: &R, place: &mut Place<'_, Scripted, R>, alloc: Global)
     ensures { StaysSettled place.old place.new }
 {
     ask_some(place, alloc, 10);
@@ -156,7 +164,12 @@ fn round<R: Wait>(rt: &R, place: &mut Place<'_, Scripted, R>, alloc: Global)
 
 /// So many requests, in rounds of ten to which others reply.
 #[tactic(auto, using(shared_channel::proofs::Theorems::stays_more, shared_channel::proofs::Theorems::stays_none))]
-pub fn rounds<R: Wait>(rt: &R, place: &mut Place<'_, Scripted, R>, alloc: Global, count: u64)
+pub fn rounds<R: Wait + Clock>(
+    rt: &R,
+    place: &mut Place<'_, Scripted, R>,
+    alloc: Global,
+    count: u64,
+)
     ensures { StaysSettled place.old place.new }
 {
     for _ in 0..count / 10 {
@@ -166,7 +179,7 @@ pub fn rounds<R: Wait>(rt: &R, place: &mut Place<'_, Scripted, R>, alloc: Global
 
 /// Asks ten requests, replies to them, and delivers them.
 #[tactic(auto, using(shared_channel::proofs::Theorems::stays_more))]
-fn whole_round<R: Wait>(rt: &R, place: &mut Place<'_, Scripted, R>, alloc: Global)
+fn whole_round<R: Wait + Clock>(rt: &R, place: &mut Place<'_, Scripted, R>, alloc: Global)
     ensures { StaysSettled place.old place.new }
 {
     ask_some(place, alloc, 10);
@@ -176,7 +189,12 @@ fn whole_round<R: Wait>(rt: &R, place: &mut Place<'_, Scripted, R>, alloc: Globa
 
 /// So many requests, in rounds of ten.
 #[tactic(auto, using(shared_channel::proofs::Theorems::stays_more, shared_channel::proofs::Theorems::stays_none))]
-pub fn whole_rounds<R: Wait>(rt: &R, place: &mut Place<'_, Scripted, R>, alloc: Global, count: u64)
+pub fn whole_rounds<R: Wait + Clock>(
+    rt: &R,
+    place: &mut Place<'_, Scripted, R>,
+    alloc: Global,
+    count: u64,
+)
     ensures { StaysSettled place.old place.new }
 {
     for _ in 0..count / 10 {

@@ -15,6 +15,7 @@ use shared_channel::{Channel, Finished, Pass, finish};
 use std::alloc::Global;
 use std::sync::Wait;
 use std::thread::{Threads, join};
+use std::time::Clock;
 
 /// How many requests were accepted, and how many calls their callbacks had.
 #[derive(Drop)]
@@ -54,7 +55,7 @@ fn last_pass(channel: &Channel<Scripted>, passes: &mut Vec<Pass<Scripted>>) -> P
 }
 
 /// Replies to so many attempts through a pass.
-fn replied<R: Wait>(
+fn replied<R: Wait + Clock>(
     rt: &R,
     channel: &Channel<Scripted>,
     pass: Pass<Scripted>,
@@ -69,7 +70,7 @@ fn replied<R: Wait>(
 }
 
 /// So many requests through a pass, to which others reply.
-fn asked<R: Wait>(
+fn asked<R: Wait + Clock>(
     rt: &R,
     channel: &Channel<Scripted>,
     pass: Pass<Scripted>,
@@ -85,7 +86,7 @@ fn asked<R: Wait>(
 }
 
 /// The requests of two threads.
-fn asked_by_two<R: Threads + Wait + Sync>(
+fn asked_by_two<R: Threads + Wait + Sync + Clock>(
     rt: &R,
     channel: &Channel<Scripted>,
     left: Pass<Scripted>,
@@ -113,7 +114,7 @@ fn asked_by_two<R: Threads + Wait + Sync>(
 }
 
 /// The requests of four threads.
-fn asked_by_four<R: Threads + Wait + Sync>(
+fn asked_by_four<R: Threads + Wait + Sync + Clock>(
     rt: &R,
     channel: &Channel<Scripted>,
     left: (Pass<Scripted>, Pass<Scripted>),
@@ -146,7 +147,7 @@ fn asked_by_four<R: Threads + Wait + Sync>(
 }
 
 /// The requests of four threads, and a fifth that replies to all of them.
-fn asked_and_replied<R: Threads + Wait + Sync>(
+fn asked_and_replied<R: Threads + Wait + Sync + Clock>(
     rt: &R,
     channel: &Channel<Scripted>,
     left: (Pass<Scripted>, Pass<Scripted>),
@@ -202,7 +203,7 @@ fn shares(threads: u64, count: u64) -> [u64; 4] {
 }
 
 /// Requests of one, two or four threads, beside one that replies.
-pub fn run_shared<R: Threads + Wait + Sync>(
+pub fn run_shared<R: Threads + Wait + Sync + Clock>(
     rt: &R,
     alloc: Global,
     threads: u64,
@@ -242,7 +243,7 @@ fn end_of(finished: Finished) -> Ended {
 }
 
 /// Requests and replies of one thread through a pass.
-fn worked<R: Wait>(
+fn worked<R: Wait + Clock>(
     rt: &R,
     channel: &Channel<Scripted>,
     pass: Pass<Scripted>,
@@ -258,7 +259,7 @@ fn worked<R: Wait>(
 }
 
 /// Requests through the one pass of a channel, in one thread.
-pub fn run_one<R: Wait>(rt: &R, alloc: Global, count: u64) -> Result<Ended, NoMemory> {
+pub fn run_one<R: Wait + Clock>(rt: &R, alloc: Global, count: u64) -> Result<Ended, NoMemory> {
     let (channel, mut passes) = plain_channel(alloc, 1)?;
     let pass = last_pass(&channel, &mut passes);
     let pass = worked(rt, &channel, pass, alloc, count);
