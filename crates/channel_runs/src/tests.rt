@@ -56,13 +56,33 @@ struct Run {
     statuses: Vec<u8>,
 }
 
-/// A run over a network on which this comes, where the calls of these numbers fail, for a channel as resolv.conf says.
-fn begun(alloc: Global, resolv: &[u8], comings: &[Coming<'_>], fails: &[u64]) -> Result<Run, Fail> {
-    let options = read_resolv(alloc, resolv)?;
-    let mut world = world_of(alloc, comings, fails)?;
-    let runner = Runner::make(alloc, &mut world, &options)?;
+/// What a run is made of: its channel as resolv.conf says, what comes on its network, where the calls of these numbers
+/// fail, and how many turns there are.
+#[derive(Clone, Copy)]
+struct Scene<'a> {
+    resolv: &'a [u8],
+    comings: &'a [Coming<'a>],
+    fails: &'a [u64],
+    turns: u64,
+}
+
+/// What a run comes to.
+#[derive(Clone, Copy)]
+struct End<'a> {
+    /// The first status that is taken, or 100.
+    status: u8,
+    /// The lines of the journal.
+    journal: &'a str,
+    /// The lines of the calls of the network that connect, close and wait.
+    calls: &'a str,
+}
+
+/// A run before its first turn.
+fn begun(alloc: Global, scene: &Scene<'_>) -> Result<Run, Fail> {
+    let mut world = world_of(alloc, scene.comings, scene.fails)?;
+    let (desk, runner) = parties(alloc, scene.resolv, &mut world)?;
     Ok(Run {
-        desk: channel_of(alloc, options)?,
+        desk,
         runner,
         world,
         answers: Vec::new(alloc),
@@ -73,8 +93,20 @@ fn begun(alloc: Global, resolv: &[u8], comings: &[Coming<'_>], fails: &[u64]) ->
 /// A network on which this comes, where the calls of these numbers fail.
 fn world_of(alloc: Global, comings: &[Coming<'_>], fails: &[u64]) -> Result<ScriptWorld, Fail> {
     let words = Vec::from_elem(alloc, WORD, 64)?;
+    let fails = fails.to_vec(alloc)?;
     let items = items_of(alloc, comings)?;
-    Ok(ScriptWorld::make(words, items, fails.to_vec(alloc)?))
+    Ok(ScriptWorld::make(words, items, fails))
+}
+
+/// A channel as resolv.conf says, and its runner over a network.
+fn parties(
+    alloc: Global,
+    resolv: &[u8],
+    world: &mut ScriptWorld,
+) -> Result<(Alone<Quiet>, Runner), Fail> {
+    let options = read_resolv(alloc, resolv)?;
+    let runner = Runner::make(alloc, world, &options)?;
+    Ok((channel_of(alloc, options)?, runner))
 }
 
 /// Makes these calls of the channel, and keeps what it answers.
@@ -110,30 +142,12 @@ fn played(run: &mut Run, turns: u64) -> Result<(), Fail> {
     Ok(())
 }
 
-/// A run of these calls, and then so many turns over what this network gives.
-fn played_with(
-    alloc: Global,
-    resolv: &[u8],
-    comings: &[Coming<'_>],
-    fails: &[u64],
-    calls: &[Call<'_>],
-    turns: u64,
-) -> Result<Run, Fail> {
-    let mut run = begun(alloc, resolv, comings, fails)?;
+/// A run of these calls, and then of its turns.
+fn played_with(alloc: Global, scene: &Scene<'_>, calls: &[Call<'_>]) -> Result<Run, Fail> {
+    let mut run = begun(alloc, scene)?;
     make_calls(alloc, &mut run, calls)?;
-    played(&mut run, turns)?;
+    played(&mut run, scene.turns)?;
     Ok(run)
-}
-
-/// The same for one request, for the addresses of IPv4 that example.com has.
-fn played_alone(
-    alloc: Global,
-    resolv: &[u8],
-    comings: &[Coming<'_>],
-    fails: &[u64],
-    turns: u64,
-) -> Result<Run, Fail> {
-    played_with(alloc, resolv, comings, fails, &[ASK], turns)
 }
 
 /// The first status that was taken, or 100.
@@ -144,10 +158,38 @@ fn status_of(run: &Run) -> u8 {
     }
 }
 
-/// Whether the journal, and the calls of the network that connect, close and wait, are told by these lines.
-fn is_told(alloc: Global, run: Run, journal: &str, calls: &str) -> Result<bool, Fail> {
-    let Run { desk, world, .. } = run;
-    let told = journal_told(alloc, desk.close().entries())?;
-    let heard = calls_told(alloc, world.log().calls(), Shown::Links)?;
-    Ok(told.as_str() == journal && heard.as_str() == calls)
+/// The channel of a run.
+fn desk_of(run: Run) -> Alone<Quiet> {
+    let Run { desk, .. } = run;
+    desk
+}
+
+/// Whether the journal of a channel is told by these lines.
+fn has_journal(alloc: Global, desk: Alone<Quiet>, lines: &str) -> Result<bool, Fail> {
+    let journal = desk.close();
+    let told = journal_told(alloc, journal.entries())?;
+    Ok(told.as_str() == lines)
+}
+
+/// Whether the calls of the network that connect, close and wait are told by these lines.
+fn has_heard(alloc: Global, run: &Run, lines: &str) -> Result<bool, Fail> {
+    let told = calls_told(alloc, run.world.log().calls(), Shown::Links)?;
+    Ok(told.as_str() == lines)
+}
+
+/// Whether a run came to this.
+fn ended_so(alloc: Global, run: Run, end: &End<'_>) -> Result<bool, Fail> {
+    let heard = has_heard(alloc, &run, end.calls)?;
+    let taken = status_of(&run) == end.status;
+    Ok(has_journal(alloc, desk_of(run), end.journal)? && heard && taken)
+}
+
+/// A run of one request, for the addresses of IPv4 that example.com has.
+fn played_alone(alloc: Global, scene: &Scene<'_>) -> Result<Run, Fail> {
+    played_with(alloc, scene, &[ASK])
+}
+
+/// Whether a run of one request comes to this.
+fn ends_so(alloc: Global, scene: &Scene<'_>, end: &End<'_>) -> Result<bool, Fail> {
+    ended_so(alloc, played_alone(alloc, scene)?, end)
 }

@@ -66,8 +66,17 @@ pub fn is_answered(
     calls: &[Call<'_>],
     lines: &str,
 ) -> Result<bool, Fail> {
-    let mut desk = channel(alloc, resolv)?;
-    Ok(answers_told(alloc, &mut desk, calls)?.as_slice() == lines.as_bytes())
+    answers_so(alloc, &mut channel(alloc, resolv)?, calls, lines)
+}
+
+/// Whether a channel answers these calls by these lines.
+pub fn answers_so(
+    alloc: Global,
+    desk: &mut Alone<Quiet>,
+    calls: &[Call<'_>],
+    lines: &str,
+) -> Result<bool, Fail> {
+    Ok(answers_told(alloc, desk, calls)?.as_slice() == lines.as_bytes())
 }
 
 /// What a channel answers these calls, as lines.

@@ -1,6 +1,6 @@
 //! Runs over datagrams.
 
-use super::{ONE, REPLY, is_told, played_alone, status_of};
+use super::{End, ONE, REPLY, Scene, ends_so};
 use scenario::Coming;
 use std::test::Fail;
 
@@ -19,10 +19,15 @@ const FORMERR: &[u8] = b"\x12\x34\x81\x81\0\x01\0\0\0\0\0\0\x07example\x03com\0\
 /// Two servers are silent: each of four attempts waits for 2 seconds, and those of the second round for twice that.
 #[test]
 fn silence_goes_round_the_servers(rt: HostRuntime) -> Result<(), Fail> {
-    let alloc = rt.alloc();
-    let run = played_alone(alloc, TWO, &[], &[], 6)?;
-    assert_eq!(rt; status_of(&run), 12);
-    let journal = "accept 1
+    let scene = Scene {
+        resolv: TWO,
+        comings: &[],
+        fails: &[],
+        turns: 6,
+    };
+    let end = End {
+        status: 12,
+        journal: "accept 1
 start 1 on 0 over 0 at 0
 expire 1 at 2000
 start 1 on 1 over 0 at 2000
@@ -32,80 +37,109 @@ expire 1 at 8000
 start 1 on 1 over 0 at 8000
 expire 1 at 12000
 take 1
-";
-    let calls = "wait to 2000\nwait to 4000\nwait to 8000\nwait to 12000\n";
-    assert!(rt; is_told(alloc, run, journal, calls)?);
+",
+        calls: "wait to 2000\nwait to 4000\nwait to 8000\nwait to 12000\n",
+    };
+    assert!(rt; ends_so(rt.alloc(), &scene, &end)?);
     Ok(())
 }
 
 /// The reply can be received at the moment of the deadline: a turn receives before it lets expire.
 #[test]
 fn a_reply_at_the_deadline_counts(rt: HostRuntime) -> Result<(), Fail> {
-    let alloc = rt.alloc();
     let items = [Coming::datagram(2000, 0, REPLY)];
-    let run = played_alone(alloc, ONE, &items, &[], 3)?;
-    assert_eq!(rt; status_of(&run), 0);
-    let journal = "accept 1\nstart 1 on 0 over 0 at 0\narrive from 0 over 0\ntake 1\n";
-    assert!(rt; is_told(alloc, run, journal, "wait to 2000\n")?);
+    let scene = Scene {
+        resolv: ONE,
+        comings: &items,
+        fails: &[],
+        turns: 3,
+    };
+    let end = End {
+        status: 0,
+        journal: "accept 1\nstart 1 on 0 over 0 at 0\narrive from 0 over 0\ntake 1\n",
+        calls: "wait to 2000\n",
+    };
+    assert!(rt; ends_so(rt.alloc(), &scene, &end)?);
     Ok(())
 }
 
 /// A right reply from the server that wasn't asked is a stray.
 #[test]
 fn another_server_answers_nothing(rt: HostRuntime) -> Result<(), Fail> {
-    let alloc = rt.alloc();
     let items = [Coming::datagram(5, 1, REPLY)];
-    let run = played_alone(alloc, TWO, &items, &[], 3)?;
-    let journal = "accept 1
+    let scene = Scene {
+        resolv: TWO,
+        comings: &items,
+        fails: &[],
+        turns: 3,
+    };
+    let end = End {
+        status: 100,
+        journal: "accept 1
 start 1 on 0 over 0 at 0
 arrive from 1 over 0
 expire 1 at 2000
 start 1 on 1 over 0 at 2000
-";
-    let calls = "wait to 2000\nwait to 2000\nwait to 4000\n";
-    assert!(rt; is_told(alloc, run, journal, calls)?);
+",
+        calls: "wait to 2000\nwait to 2000\nwait to 4000\n",
+    };
+    assert!(rt; ends_so(rt.alloc(), &scene, &end)?);
     Ok(())
 }
 
 /// A server that refuses the OPT record is asked again without one, and no attempt is spent.
 #[test]
 fn a_server_is_asked_again_without_opt(rt: HostRuntime) -> Result<(), Fail> {
-    let alloc = rt.alloc();
     let items = [
         Coming::datagram(3, 0, FORMERR),
         Coming::datagram(4, 0, REPLY),
     ];
-    let run = played_alone(alloc, ONE, &items, &[], 4)?;
-    assert_eq!(rt; status_of(&run), 0);
-    let journal = "accept 1
+    let scene = Scene {
+        resolv: ONE,
+        comings: &items,
+        fails: &[],
+        turns: 4,
+    };
+    let end = End {
+        status: 0,
+        journal: "accept 1
 start 1 on 0 over 0 at 0
 arrive from 0 over 0
 start 1 on 0 over 0 at 3
 arrive from 0 over 0
 take 1
-";
-    assert!(rt; is_told(alloc, run, journal, "wait to 2000\nwait to 2003\n")?);
+",
+        calls: "wait to 2000\nwait to 2003\n",
+    };
+    assert!(rt; ends_so(rt.alloc(), &scene, &end)?);
     Ok(())
 }
 
 /// A server that failed is left for the other one in the same turn.
 #[test]
 fn the_next_server_is_asked_at_once(rt: HostRuntime) -> Result<(), Fail> {
-    let alloc = rt.alloc();
     let items = [
         Coming::datagram(1, 0, SERVFAIL),
         Coming::datagram(9, 1, REPLY),
     ];
-    let run = played_alone(alloc, TWO, &items, &[], 4)?;
-    assert_eq!(rt; status_of(&run), 0);
-    let journal = "accept 1
+    let scene = Scene {
+        resolv: TWO,
+        comings: &items,
+        fails: &[],
+        turns: 4,
+    };
+    let end = End {
+        status: 0,
+        journal: "accept 1
 start 1 on 0 over 0 at 0
 arrive from 0 over 0
 start 1 on 1 over 0 at 1
 arrive from 1 over 0
 take 1
-";
-    assert!(rt; is_told(alloc, run, journal, "wait to 2000\nwait to 2001\n")?);
+",
+        calls: "wait to 2000\nwait to 2001\n",
+    };
+    assert!(rt; ends_so(rt.alloc(), &scene, &end)?);
     Ok(())
 }
 
@@ -114,10 +148,15 @@ take 1
 /// send.
 #[test]
 fn sends_fail_in_one_turn(rt: HostRuntime) -> Result<(), Fail> {
-    let alloc = rt.alloc();
-    let run = played_alone(alloc, THRICE, &[], &[4, 6, 8], 1)?;
-    assert_eq!(rt; status_of(&run), 11);
-    let journal = "accept 1
+    let scene = Scene {
+        resolv: THRICE,
+        comings: &[],
+        fails: &[4, 6, 8],
+        turns: 1,
+    };
+    let end = End {
+        status: 11,
+        journal: "accept 1
 start 1 on 0 over 0 at 0
 fault of 0 over 0 at 0
 start 1 on 0 over 0 at 0
@@ -125,7 +164,9 @@ fault of 0 over 0 at 0
 start 1 on 0 over 0 at 0
 fault of 0 over 0 at 0
 take 1
-";
-    assert!(rt; is_told(alloc, run, journal, "")?);
+",
+        calls: "",
+    };
+    assert!(rt; ends_so(rt.alloc(), &scene, &end)?);
     Ok(())
 }

@@ -1,9 +1,8 @@
 //! Each call of the network fails in turn.
 
 use super::links::TRUNCATED_FIRST;
-use super::{PLAIN, Run, played_alone};
+use super::{PLAIN, Scene, desk_of, played_alone};
 use chan_types::{Entry, What};
-use channel_table::Alone;
 use net_world::{Got, Sent, WorldCall, Wrote};
 use std::alloc::Global;
 use std::test::Fail;
@@ -45,21 +44,26 @@ fn failures_in(calls: &[WorldCall]) -> u64 {
 /// How many faults the journal has, and how many calls failed, in a run whose call of this number fails: its first
 /// reply is truncated, and the whole one comes over TCP.
 fn failed_once(alloc: Global, number: u64) -> Result<(u64, u64), Fail> {
-    let run = played_alone(alloc, PLAIN, &TRUNCATED_FIRST, &[number], 6)?;
-    let Run { desk, world, .. } = run;
-    let failures = failures_in(world.log().calls());
-    Ok((faults_in(Alone::close(desk).entries()), failures))
+    let scene = Scene {
+        resolv: PLAIN,
+        comings: &TRUNCATED_FIRST,
+        fails: &[number],
+        turns: 6,
+    };
+    let run = played_alone(alloc, &scene)?;
+    let failures = failures_in(run.world.log().calls());
+    let journal = desk_of(run).close();
+    Ok((faults_in(journal.entries()), failures))
 }
 
 /// Each failure of a send, a connect, a write or a receive leaves one fault, and no other call does. Of the first forty
 /// calls at least ten are such.
 #[test]
 fn each_failure_is_one_fault(rt: HostRuntime) -> Result<(), Fail> {
-    let alloc = rt.alloc();
     let mut all = 0u64;
     for number in 0..40 {
-        let (faults, failures) = failed_once(alloc, number)?;
-        assert_eq!(rt; faults, failures);
+        let (faults, failures) = failed_once(rt.alloc(), number)?;
+        assert!(rt; faults == failures);
         all = all.saturating_add(failures);
     }
     assert!(rt; 10 <= all);

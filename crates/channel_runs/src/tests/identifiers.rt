@@ -2,7 +2,7 @@
 
 use super::PLAIN;
 use super::addresses::{ASKED_V4, RECORD_V4};
-use super::calls::{Call, Request, answers_told, channel, spec_of};
+use super::calls::{Call, Request, answers_so, channel, spec_of};
 use super::making::{Move, Moved, accepted, make_move};
 use chan_types::Quiet;
 use channel_model::Begun;
@@ -21,11 +21,17 @@ fn is_begun(desk: &mut Alone<Quiet>, word: u16) -> Result<bool, Fail> {
     })
 }
 
+/// Asks one request.
+fn ask(alloc: Global, desk: &mut Alone<Quiet>) -> Result<(), Fail> {
+    let spec = spec_of(alloc, Request::Query(b"a.test"))?;
+    let _number = accepted(desk, spec, Quiet::new(alloc))?.is_ok();
+    Ok(())
+}
+
 /// Accepts the requests, and begins attempts with the words 0, 1 and so on while they begin. Answers how many did.
 fn begun_in(alloc: Global, desk: &mut Alone<Quiet>) -> Result<u64, Fail> {
     for _ in 0..REQUESTS {
-        let spec = spec_of(alloc, Request::Query(b"a.test"))?;
-        let _number = accepted(desk, spec, Quiet::new(alloc))?.is_ok();
+        ask(alloc, desk)?;
     }
     for word in 0..REQUESTS {
         if !is_begun(desk, (word % 65_536) as u16)? {
@@ -44,20 +50,25 @@ const BEHIND: [Call<'static>; 5] = [
     Call::Cancel,
 ];
 
-/// The journal has an entry for each request, for each attempt, and for the reply and the cancel.
-#[test]
-fn an_identifier_comes_back_where_all_are_in_flight(rt: HostRuntime) -> Result<(), Fail> {
-    let alloc = rt.alloc();
-    let mut desk = channel(alloc, PLAIN)?;
-    assert_eq!(rt; begun_in(alloc, &mut desk)?, 65_536);
-    let lines = "no identifier
+/// What the channel answers then.
+const LINES: &str = "no identifier
 matched 1 leg 0
 start 65537 leg 0 on 0 over 0 as 0
 pending 65537 ready 1 waiting 1 flying 65536 due 2000 busy 1
 cancelled 65537
 ";
-    let told = answers_told(alloc, &mut desk, &BEHIND)?;
-    assert!(rt; told.as_slice() == lines.as_bytes());
-    assert_eq!(rt; desk.close().entries().len(), 65_538 + 65_537 + 2);
+
+/// How many attempts begin, whether the channel then answers so, and how many entries its journal has.
+fn in_flight_at_once(alloc: Global) -> Result<(u64, bool, usize), Fail> {
+    let mut desk = channel(alloc, PLAIN)?;
+    let begun = begun_in(alloc, &mut desk)?;
+    let answered = answers_so(alloc, &mut desk, &BEHIND, LINES)?;
+    Ok((begun, answered, desk.close().entries().len()))
+}
+
+/// The journal has an entry for each request, for each attempt, and for the reply and the cancel.
+#[test]
+fn an_identifier_comes_back_where_all_are_in_flight(rt: HostRuntime) -> Result<(), Fail> {
+    assert!(rt; in_flight_at_once(rt.alloc())? == (65_536, true, 65_538 + 65_537 + 2));
     Ok(())
 }

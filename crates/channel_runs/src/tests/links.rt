@@ -1,6 +1,6 @@
 //! Runs over links.
 
-use super::{ASK, OVER_TCP, PLAIN, is_told, played_alone, played_with, status_of};
+use super::{ASK, End, OVER_TCP, PLAIN, Scene, ended_so, ends_so, played_with};
 use scenario::Coming;
 use std::test::Fail;
 
@@ -34,36 +34,50 @@ pub const TRUNCATED_FIRST: [Coming<'static>; 3] = [
 /// A truncated reply is asked again over TCP. The link is closed in the turn in which its message answers.
 #[test]
 fn a_truncated_reply_is_asked_over_tcp(rt: HostRuntime) -> Result<(), Fail> {
-    let alloc = rt.alloc();
-    let run = played_alone(alloc, PLAIN, &TRUNCATED_FIRST, &[], 4)?;
-    assert_eq!(rt; status_of(&run), 0);
-    let journal = "accept 1
+    let scene = Scene {
+        resolv: PLAIN,
+        comings: &TRUNCATED_FIRST,
+        fails: &[],
+        turns: 4,
+    };
+    let end = End {
+        status: 0,
+        journal: "accept 1
 start 1 on 0 over 0 at 0
 arrive from 0 over 0
 start 1 on 0 over 1 at 1
 arrive from 0 over 1
 take 1
-";
-    let calls = "wait to 2000\nconnect 0 over 1\nwait to 2001\nwait to 2001\nclose 1\n";
-    assert!(rt; is_told(alloc, run, journal, calls)?);
+",
+        calls: "wait to 2000\nconnect 0 over 1\nwait to 2001\nwait to 2001\nclose 1\n",
+    };
+    assert!(rt; ends_so(rt.alloc(), &scene, &end)?);
     Ok(())
 }
 
 /// Two requests go over one link. Its peer ends it: both attempts fail by one fault, and both go over a new link.
 #[test]
 fn an_ended_link_fails_both_attempts(rt: HostRuntime) -> Result<(), Fail> {
-    let alloc = rt.alloc();
     let items = [Coming::End { from: 1, link: 1 }];
-    let run = played_with(alloc, OVER_TCP, &items, &[], &[ASK, ASK], 2)?;
-    let journal = "accept 1
+    let scene = Scene {
+        resolv: OVER_TCP,
+        comings: &items,
+        fails: &[],
+        turns: 2,
+    };
+    let end = End {
+        status: 100,
+        journal: "accept 1
 accept 2
 start 1 on 0 over 1 at 0
 start 2 on 0 over 1 at 0
 fault of 0 over 1 at 1
 start 1 on 0 over 2 at 1
 start 2 on 0 over 2 at 1
-";
-    let calls = "connect 0 over 1\nwait to 2000\nclose 1\nconnect 0 over 2\nwait to 4001\n";
-    assert!(rt; is_told(alloc, run, journal, calls)?);
+",
+        calls: "connect 0 over 1\nwait to 2000\nclose 1\nconnect 0 over 2\nwait to 4001\n",
+    };
+    let run = played_with(rt.alloc(), &scene, &[ASK, ASK])?;
+    assert!(rt; ended_so(rt.alloc(), run, &end)?);
     Ok(())
 }

@@ -1,7 +1,7 @@
 //! Servers that change while requests are pending.
 
 use super::calls::{Call, Request, is_answered};
-use super::{Run, is_told, make_calls, played, played_with, status_of};
+use super::{End, Run, Scene, ended_so, make_calls, played, played_with};
 use net_addr::{Addr, Family, ServerAddr};
 use std::alloc::Global;
 use std::test::Fail;
@@ -37,7 +37,13 @@ fn move_servers(alloc: Global, run: &mut Run) -> Result<(), Fail> {
 
 /// A run of a channel of the first two, whose list becomes the last two.
 fn moved(alloc: Global) -> Result<Run, Fail> {
-    let mut run = played_with(alloc, FIRST_TWO, &[], &[], &[ASK], 0)?;
+    let scene = Scene {
+        resolv: FIRST_TWO,
+        comings: &[],
+        fails: &[],
+        turns: 0,
+    };
+    let mut run = played_with(alloc, &scene, &[ASK])?;
     move_servers(alloc, &mut run)?;
     Ok(run)
 }
@@ -46,11 +52,11 @@ fn moved(alloc: Global) -> Result<Run, Fail> {
 /// new list, of which the first server keeps its key.
 #[test]
 fn servers_change_behind_the_first_turn(rt: HostRuntime) -> Result<(), Fail> {
-    let alloc = rt.alloc();
-    let run = moved(alloc)?;
+    let run = moved(rt.alloc())?;
     assert!(rt; run.answers.as_slice() == b"request 1\nservers closed 1\n".as_slice());
-    assert_eq!(rt; status_of(&run), 12);
-    let journal = "accept 1
+    let end = End {
+        status: 12,
+        journal: "accept 1
 start 1 on 0 over 0 at 0
 servers 1 2
 start 1 on 1 over 0 at 0
@@ -62,9 +68,10 @@ expire 1 at 8000
 start 1 on 2 over 0 at 8000
 expire 1 at 12000
 take 1
-";
-    let calls = "wait to 2000\nwait to 4000\nwait to 8000\nwait to 12000\n";
-    assert!(rt; is_told(alloc, run, journal, calls)?);
+",
+        calls: "wait to 2000\nwait to 4000\nwait to 8000\nwait to 12000\n",
+    };
+    assert!(rt; ended_so(rt.alloc(), run, &end)?);
     Ok(())
 }
 

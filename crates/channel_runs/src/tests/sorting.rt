@@ -1,9 +1,9 @@
 //! The order of the addresses that are answered (RFC 6724, section 6).
 
-use super::calls::{Call, Request, answers_told, channel_of, is_answered};
+use super::calls::{Call, Request, answers_so, channel_of, is_answered};
 use super::{ONE, PLAIN};
 use net_addr::{Addr, AddrList, Family};
-use resolv_options::read_resolv;
+use resolv_options::{Options, read_resolv};
 use std::alloc::Global;
 use std::test::Fail;
 
@@ -80,11 +80,12 @@ const SOURCES: [Addr; 3] = [
     Addr::V4(0xa9fe_0d4e),
 ];
 
-/// What a channel of that machine answers these calls.
-fn told_with_sources(alloc: Global, calls: &[Call<'_>]) -> Result<Vec<u8>, Fail> {
+/// The options of a channel of that machine.
+fn options_with_sources(alloc: Global) -> Result<Options, Fail> {
+    let sources = AddrList::of(alloc, &SOURCES)?;
     let mut options = read_resolv(alloc, PLAIN)?;
-    options.set_sources(AddrList::of(alloc, &SOURCES)?);
-    answers_told(alloc, &mut channel_of(alloc, options)?, calls)
+    options.set_sources(sources);
+    Ok(options)
 }
 
 /// The source of 198.51.100.121 has another scope (rule 2; the first example of section 10.2).
@@ -97,8 +98,8 @@ matched 1 leg 0
 matched 1 leg 1
 take 1 status 0 www.example.test. 2001:db8:1::1 198.51.100.121
 ";
-    let told = told_with_sources(rt.alloc(), &TWO)?;
-    assert!(rt; told.as_slice() == lines.as_bytes());
+    let mut desk = channel_of(rt.alloc(), options_with_sources(rt.alloc())?)?;
+    assert!(rt; answers_so(rt.alloc(), &mut desk, &TWO, lines)?);
     Ok(())
 }
 

@@ -3,9 +3,8 @@
 use super::calls::query;
 use super::moves::Move;
 use super::row::{Row, played_alone};
-use super::telling::{calls_told, journal_told};
+use super::telling::{End, Played, ended_so};
 use chan_types::{NoMemory, Script};
-use shared_channel::Finished;
 use std::alloc::Global;
 use std::sync::Wait;
 use std::test::*;
@@ -15,7 +14,7 @@ fn played_behind_a_query<R: Wait>(
     rt: &R,
     alloc: Global,
     moves: &[Move],
-) -> Result<(Vec<u64>, Finished), NoMemory> {
+) -> Result<Played, NoMemory> {
     let row = Row {
         spec: query(alloc)?,
         script: Script::blank(alloc, 1),
@@ -55,24 +54,17 @@ fn attempts_expire_and_fail(rt: HostRuntime) -> Result<(), Fail> {
         Move::Deliver,
         Move::Counts,
     ];
-    let (told, finished) = played_behind_a_query(&rt, alloc, &moves)?;
-    assert_eq!(rt;
-        told.as_slice(),
-        [
+    let played = played_behind_a_query(&rt, alloc, &moves)?;
+    let end = End {
+        told: &[
             1010, 0, 0, 1, 1001, 2100, 1, 0, 0, 1, 1010, 1, 7000, 0, 1, 0, 1, 12000, 1, 100, 0, 0,
-            1, 0
-        ]
-        .as_slice()
-    );
-    assert_eq!(rt;
-        journal_told(alloc, &finished)?.as_str(),
-        "accept 1\nstart 1\nexpire 1\nstart 1\nfault\nfault\nfault\n\
-        start 1\nexpire 1\ntake 1\ndestroy\n"
-    );
-    assert_eq!(rt;
-        calls_told(alloc, &finished)?.as_slice(),
-        [(1, 12)].as_slice()
-    );
+            1, 0,
+        ],
+        journal: "accept 1\nstart 1\nexpire 1\nstart 1\nfault\nfault\nfault\n\
+        start 1\nexpire 1\ntake 1\ndestroy\n",
+        calls: &[(1, 12)],
+    };
+    assert!(rt; ended_so(alloc, &played, &end)?);
     Ok(())
 }
 
@@ -98,20 +90,14 @@ fn servers_are_set(rt: HostRuntime) -> Result<(), Fail> {
         Move::Destroy,
         Move::Servers,
     ];
-    let (told, finished) = played_behind_a_query(&rt, alloc, &moves)?;
-    assert_eq!(rt;
-        told.as_slice(),
-        [1, 1, 1010, 1, 3000, 0, 1, 0, 1, 1, 1, 100, 1, 1, 21].as_slice()
-    );
-    assert_eq!(rt;
-        journal_told(alloc, &finished)?.as_str(),
-        "accept 1\nstart 1\nservers\nstart 1\nservers\nfault\n\
-        start 1\narrive\ntake 1\ndestroy\n"
-    );
-    assert_eq!(rt;
-        calls_told(alloc, &finished)?.as_slice(),
-        [(1, 0)].as_slice()
-    );
+    let played = played_behind_a_query(&rt, alloc, &moves)?;
+    let end = End {
+        told: &[1, 1, 1010, 1, 3000, 0, 1, 0, 1, 1, 1, 100, 1, 1, 21],
+        journal: "accept 1\nstart 1\nservers\nstart 1\nservers\nfault\n\
+        start 1\narrive\ntake 1\ndestroy\n",
+        calls: &[(1, 0)],
+    };
+    assert!(rt; ended_so(alloc, &played, &end)?);
     Ok(())
 }
 
@@ -129,16 +115,12 @@ fn no_call_is_refused(rt: HostRuntime) -> Result<(), Fail> {
         Move::Fault(1),
         Move::ReplyAddress,
     ];
-    let (told, finished) = played_behind_a_query(&rt, alloc, &moves)?;
-    assert_eq!(rt; told.as_slice(), [2, 1, 0, 1, 1, 1, 1].as_slice());
-    assert_eq!(rt;
-        journal_told(alloc, &finished)?.as_str(),
-        "accept 1\naccept 2\nstart 1\nservers\nstart 1\nfault\nstart 1\narrive\ndestroy\ntake 1\ntake 2\n"
-    );
-    assert_eq!(rt;
-        calls_told(alloc, &finished)?.as_slice(),
-        [(1, 0), (2, 16)].as_slice()
-    );
-    assert_eq!(rt; finished.lost, 0);
+    let played = played_behind_a_query(&rt, alloc, &moves)?;
+    let end = End {
+        told: &[2, 1, 0, 1, 1, 1, 1],
+        journal: "accept 1\naccept 2\nstart 1\nservers\nstart 1\nfault\nstart 1\narrive\ndestroy\ntake 1\ntake 2\n",
+        calls: &[(1, 0), (2, 16)],
+    };
+    assert!(rt; ended_so(alloc, &played, &end)?);
     Ok(())
 }

@@ -5,7 +5,7 @@ ghost use Rattle.shared_channel.specs.Staying.{StaysSettled};
 
 use super::calls::asked_query;
 use super::replies::{ADDRESS_REPLY, replied_address};
-use super::telling::{calls_told, journal_told};
+use super::telling::{has_calls, has_journal};
 use super::{FOLLOW, last_pass, plain_channel};
 use chan_types::NoMemory;
 use channel_model::Desk;
@@ -80,33 +80,38 @@ fn used_alone<R: Wait>(rt: &R, alloc: Global) -> Result<([u64; 4], Finished), No
     Ok((told, finish(rt, channel, passes, FOLLOW)))
 }
 
+/// Whether a channel of so many passes numbers them from 0, and nothing happens in it but its end.
+fn has_its_passes<R: Wait>(rt: &R, alloc: Global, seats: u64) -> Result<bool, Fail>
+    requires { (0 < seats) × (seats ≤ 64) }
+{
+    let ((numbers, lost), finished) = finished_at_once(rt, alloc, seats)?;
+    let numbered = numbers.iter().copied().eq(0..seats);
+    let ended = has_journal(alloc, &finished, "destroy\n")?;
+    Ok(numbered && ended && lost == 0 && finished.accepted == 0)
+}
+
 #[test]
 fn a_channel_has_its_passes(rt: HostRuntime) -> Result<(), Fail> {
-    let alloc = rt.alloc();
     for seats in [1, 3, 64] {
-        let ((numbers, lost), finished) = finished_at_once(&rt, alloc, seats)?;
-        assert!(rt; numbers.iter().copied().eq(0..seats), "{seats} passes");
-        assert_eq!(rt; lost, 0);
-        assert_eq!(rt; finished.accepted, 0);
-        assert_eq!(rt; journal_told(alloc, &finished)?.as_str(), "destroy\n");
+        assert!(rt; has_its_passes(&rt, rt.alloc(), seats)?, "{seats} passes");
     }
     Ok(())
 }
 
+/// Whether each callback was told the reply with identifier 9.
+fn was_told(finished: &Finished) -> bool {
+    finished.calls.iter().all(|answer| {
+        let message = answer.message.as_slice();
+        message.get(..2) == Some([0, 9].as_slice())
+            && message.get(2..) == ADDRESS_REPLY.as_slice().get(2..)
+    })
+}
+
 #[test]
 fn a_request_is_called_once(rt: HostRuntime) -> Result<(), Fail> {
-    let alloc = rt.alloc();
-    let (told, finished) = used_alone(&rt, alloc)?;
-    assert_eq!(rt; told, [0, 1, 1, 0]);
-    assert_eq!(rt; finished.accepted, 1);
-    assert_eq!(rt;
-        calls_told(alloc, &finished)?.as_slice(),
-        [(1, 0)].as_slice()
-    );
-    for answer in finished.calls.iter() {
-        let message = answer.message.as_slice();
-        assert_eq!(rt; message.get(..2), Some([0, 9].as_slice()));
-        assert_eq!(rt; message.get(2..), ADDRESS_REPLY.as_slice().get(2..));
-    }
+    let (told, finished) = used_alone(&rt, rt.alloc())?;
+    assert!(rt; told == [0, 1, 1, 0]);
+    assert!(rt; finished.accepted == 1 && was_told(&finished));
+    assert!(rt; has_calls(rt.alloc(), &finished, &[(1, 0)])?);
     Ok(())
 }

@@ -5,10 +5,11 @@ ghost use Rattle.shared_channel.specs.Staying.{StaysSettled};
 
 use super::calls::asked;
 use super::moves::{Move, play};
+use super::telling::Played;
 use super::{FOLLOW, last_pass, plain_channel};
 use chan_types::{NoMemory, Script, Spec};
 use completion_ticket::Scripted;
-use shared_channel::{Channel, Finished, Pass, Place, finish};
+use shared_channel::{Channel, Pass, Place, finish};
 use std::alloc::Global;
 use std::sync::Wait;
 
@@ -55,15 +56,14 @@ fn played_row<R: Wait>(
 }
 
 /// Plays a row through the one pass of a channel. Tells what each move answered, and what is left of the channel.
-pub fn played_alone<R: Wait>(
-    rt: &R,
-    alloc: Global,
-    row: Row<'_>,
-) -> Result<(Vec<u64>, Finished), NoMemory> {
+pub fn played_alone<R: Wait>(rt: &R, alloc: Global, row: Row<'_>) -> Result<Played, NoMemory> {
     let (channel, mut passes) = plain_channel(alloc, 1)?;
     let pass = last_pass(&channel, &mut passes);
     let (pass, told) = played_row(rt, &channel, pass, alloc, row);
     passes.push_reserved(pass);
     let finished = finish(rt, channel, passes, FOLLOW);
-    Ok((told?, finished))
+    Ok(Played {
+        told: told?,
+        finished,
+    })
 }

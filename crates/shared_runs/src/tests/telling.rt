@@ -30,7 +30,7 @@ fn line_of(alloc: Global, entry: &Entry) -> Result<String, Fail> {
 }
 
 /// The lines of the journal.
-pub fn journal_told(alloc: Global, finished: &Finished) -> Result<String, Fail> {
+fn journal_told(alloc: Global, finished: &Finished) -> Result<String, Fail> {
     let mut text = String::new(alloc);
     for entry in finished.journal.entries() {
         text.push_str(line_of(alloc, entry)?.as_str())?;
@@ -39,7 +39,7 @@ pub fn journal_told(alloc: Global, finished: &Finished) -> Result<String, Fail> 
 }
 
 /// The numbers of the requests whose callbacks were called, and the codes of their statuses, in order.
-pub fn calls_told(alloc: Global, finished: &Finished) -> Result<Vec<(u64, u8)>, NoMemory> {
+fn calls_told(alloc: Global, finished: &Finished) -> Result<Vec<(u64, u8)>, NoMemory> {
     let mut all = Vec::new(alloc);
     for answer in finished.calls.iter() {
         all.push((answer.number, answer.status.code()))?;
@@ -47,8 +47,58 @@ pub fn calls_told(alloc: Global, finished: &Finished) -> Result<Vec<(u64, u8)>, 
     Ok(all)
 }
 
+/// What moves answered, and what is left of the channel.
+#[derive(Drop)]
+pub struct Played {
+    pub told: Vec<u64>,
+    pub finished: Finished,
+}
+
+/// What moves come to.
+#[derive(Clone, Copy)]
+pub struct End<'a> {
+    /// What each move answers.
+    pub told: &'a [u64],
+    /// The lines of the journal.
+    pub journal: &'a str,
+    /// The numbers of the requests whose callbacks are called, and the codes of their statuses, in order.
+    pub calls: &'a [(u64, u8)],
+}
+
+/// Whether moves came to this, and no request was lost.
+pub fn ended_so(alloc: Global, played: &Played, end: &End<'_>) -> Result<bool, Fail> {
+    let told = played.told.as_slice() == end.told;
+    let kept = has_journal(alloc, &played.finished, end.journal)?;
+    let called = has_calls(alloc, &played.finished, end.calls)?;
+    Ok(told && kept && called && played.finished.lost == 0)
+}
+
+/// Whether these are the lines of the journal.
+pub fn has_journal(alloc: Global, finished: &Finished, lines: &str) -> Result<bool, Fail> {
+    Ok(journal_told(alloc, finished)?.as_str() == lines)
+}
+
+/// Whether these are the calls of the callbacks.
+pub fn has_calls(
+    alloc: Global,
+    finished: &Finished,
+    calls: &[(u64, u8)],
+) -> Result<bool, NoMemory> {
+    Ok(calls_told(alloc, finished)?.as_slice() == calls)
+}
+
+/// Whether so many requests were accepted, each of them was called once, and none was lost.
+pub fn has_called_each(
+    alloc: Global,
+    finished: &Finished,
+    accepted: u64,
+) -> Result<bool, NoMemory> {
+    let called = called_once(alloc, finished)? == (accepted, accepted);
+    Ok(called && finished.accepted == accepted && finished.lost == 0)
+}
+
 /// How many of the accepted requests were called once, and how many calls there were.
-pub fn called_once(alloc: Global, finished: &Finished) -> Result<(u64, u64), NoMemory> {
+fn called_once(alloc: Global, finished: &Finished) -> Result<(u64, u64), NoMemory> {
     let mut counts = Vec::from_elem(alloc, 0u8, finished.accepted.wrapping_add(1) as usize)?;
     let mut all: u64 = 0;
     for answer in finished.calls.iter() {
