@@ -17,6 +17,11 @@ pub use Rattle.dns_message.proofs.WrittenLemmas.{written_is_spelled, written_is_
 pub use Rattle.dns_message.proofs.RunGrammarLemmas.{name_is_read}
 pub use Rattle.dns_message.proofs.WrittenLemmas.{name_written}
 pub use Rattle.dns_message.proofs.PartLemmas.{stands_from}
+-- how a name is read run by run, and how items are read one by one
+pub use Rattle.dns_message.proofs.RunLemmas.{name_from, name_whole, name_stops, name_root, name_bad, name_on, ending, ending_none, ending_some, after_fits}
+pub use Rattle.dns_message.proofs.WireLemmas.{labels_back, run_none, run_short}
+pub use Rattle.dns_message.proofs.ItemLemmas.{items_more, items_stop, items_end, prefixed}
+pub use Rattle.dns_message.proofs.StepLemmas.{bind_first, bind_stops, bind_ok, bind_err, part_is, part_cut}
 -- the same of texts
 pub use Rattle.dns_message.proofs.AgreementLemmas.{readings_agree, labels_readings_agree}
 pub use Rattle.dns_message.proofs.TextFaultLemmas.{text_ends, labels_end}

@@ -10,7 +10,7 @@ use crate::numbers::{
 
 /// What rdata is made of.
 #[derive(Clone, Copy)]
-pub(crate) enum Shape {
+pub enum Shape {
     Any,
     /// So many bytes.
     Bytes(usize),
@@ -24,7 +24,7 @@ pub(crate) enum Shape {
 
 /// How many bytes stand before the names, how many names there are, and how many bytes stand behind them.
 #[derive(Clone, Copy)]
-pub(crate) struct NamesShape {
+pub struct NamesShape {
     pub front: usize,
     pub names: usize,
     pub back: usize,
@@ -37,7 +37,7 @@ fn names(front: usize, names: usize, back: usize) -> Shape
 }
 
 /// The shape of a kind in a class. Kinds whose shape is one class's own have none in other classes.
-pub(crate) fn shape_of(kind: u16, class: u16) -> Shape
+pub fn shape_of(kind: u16, class: u16) -> Shape
     ensures { result ≡ shape_by kind class }
 {
     match kind {
@@ -54,7 +54,7 @@ pub(crate) fn shape_of(kind: u16, class: u16) -> Shape
 }
 
 /// How many strings the bytes are, or none where the last has too few bytes.
-pub(crate) fn string_count(bytes: &[u8]) -> Option<usize>
+pub fn string_count(bytes: &[u8]) -> Option<usize>
     ensures { result ≡ strings_of bytes.now }
 {
     let mut count = 0;

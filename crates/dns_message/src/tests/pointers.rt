@@ -1,6 +1,6 @@
 //! Names of a message that are long, or go on at pointers.
 use super::message_of;
-use crate::{MessageFault, decode};
+use crate::{MessageFault, decode, name_end};
 use std::alloc::Global;
 use std::process::Abort;
 use std::test::Fail;
@@ -127,6 +127,24 @@ fn longest_chain_of_pointers(rt: HostRuntime) -> Result<(), Fail> {
             assert_eq!(rt; found.name.to_text(alloc)?.as_slice(), b"a.".as_slice());
         }
         None => assert!(rt; false),
+    }
+    Ok(())
+}
+
+/// Bytes, where a name begins in them, and the offset behind it or its first fault.
+const ENDS: [(&[u8], usize, Result<usize, MessageFault>); 6] = [
+    (b"\0", 0, Ok(1)),
+    (b"\x01a\0\x01b\xc0\0\x01c\0", 0, Ok(3)),
+    (b"\x01a\0\x01b\xc0\0\x01c\0", 3, Ok(7)),
+    (b"\x01a", 0, Err(MessageFault::ShortPart(0))),
+    (b"\0\xc0\x01", 1, Err(MessageFault::BadPointer(1))),
+    (b"\0\x40", 1, Err(MessageFault::BadLabel(1))),
+];
+
+#[test]
+fn names_end_behind_their_first_pointer(rt: HostRuntime) -> Result<(), Fail> {
+    for (bytes, start, end) in ENDS {
+        assert_eq!(rt; name_end(bytes, start), end);
     }
     Ok(())
 }
