@@ -52,7 +52,7 @@ use Rattle.adig_tool.specs.Output.{text_at}
 use Rattle.tool_line.specs.Put.{PutsText}
 use Rattle.adig_tool.specs.Promise.{IsTraffic, Promise}
 use Rattle.adig_tool.specs.Session.{first_request, longest_slice}
-use Rattle.adig_tool.specs.declared.ended.Ended.{Ended}
+use Rattle.run_end.specs.declared.ended.Ended.{Ended}
 use Rattle.adig_tool.proofs.ExchangeLemmas.{exchanged, item_passes, two_pass}
 use Rattle.adig_tool.proofs.ListLemmas.{both_hold, heads, one_at_most, tails, three_hold}
 use Rattle.adig_tool.proofs.PromiseLemmas.{log_same, log_then}

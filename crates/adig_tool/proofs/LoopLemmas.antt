@@ -20,8 +20,8 @@ use Rattle.event_runner.specs.Running.{HasLooked, HasWaited, PausesBy, Running, 
 use Rattle.event_runner.specs.State.{IsTurnOwner}
 use Rattle.event_runner.specs.Turning.{IsCutShort, MakesTurn}
 use Rattle.event_runner.specs.UnderWay.{IsUnderWay, Reach, RunsSince, delivered, following, rested, turned}
-use Rattle.adig_tool.specs.declared.session.LoopEnd.{LoopEnd}
-use Rattle.adig_tool.specs.declared.session.LoopEnd.TheVariants.{Completed, Stalled, WaitFault as WaitFailed}
+use Rattle.run_end.specs.declared.loop_end.LoopEnd.{LoopEnd}
+use Rattle.run_end.specs.declared.loop_end.LoopEnd.TheVariants.{Completed, Stalled, WaitFault as WaitFailed}
 use Rattle.adig_tool.specs.Session.{FallsIntoTurns, longest_slice}
 use Rattle.adig_tool.specs.SessionParts.{Delivers, MakesTurns, TellsPending, Works}
 use Rattle.owner_laws.proofs.Owner.{looked_same, paused_same, waited_pending}

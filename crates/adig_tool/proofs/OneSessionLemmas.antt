@@ -20,11 +20,12 @@ use Rattle.event_runner.proofs.Theorems.{ran_at_most, ran_so_far, runs_begin, ru
 use Rattle.event_runner.specs.Running.{Running}
 use Rattle.event_runner.specs.State.{IsTurnOwner}
 use Rattle.event_runner.specs.UnderWay.{LogGets, RanSince, RunsSince, rested}
-use Rattle.adig_tool.specs.declared.session.LoopEnd.{LoopEnd}
-use Rattle.adig_tool.specs.Session.{FallsIntoTurns, HasAccepted, IsSession, LeavesPending, first_request, is_of_session, leaves_running}
+use Rattle.run_end.specs.declared.loop_end.LoopEnd.{LoopEnd}
+use Rattle.adig_tool.specs.Session.{FallsIntoTurns, HasAccepted, IsSession, first_request, is_of_session, leaves_running}
 use Rattle.adig_tool.specs.SessionParts.{MakesTurns, Works}
 use Rattle.adig_tool.specs.Session.{longest_slice}
 use Rattle.adig_tool.proofs.WorkLemmas.{accepted_in, taken_in, works_go_on, works_none, works_own, works_trans}
+use Rattle.run_end.specs.Left.{LeavesPending}
 
 -- a session's entries are all the owner's
 owner_of_session : (es : List Entry) → list_all is_of_session es ≡ true → list_all (λ e. not (is_of_turn e) || (e.seat == 0)) es ≡ true

@@ -32,21 +32,23 @@ use Rattle.tool_line.specs.Words.{Text}
 use Rattle.tool_line.specs.declared.ending.Exit.{Exit}
 use Rattle.tool_line.specs.declared.ending.Exit.TheVariants.{Failure, OutOfMemory, Stalled as HasStalled, Success, WaitFault as FailedWait}
 use Rattle.adig_tool.specs.Closing.{Closes}
-use Rattle.adig_tool.specs.Ends.{IsEndOf}
+use Rattle.run_end.specs.Ends.{IsEndOf}
 use Rattle.adig_tool.specs.Entries.{closing, is_own, is_steady, no_orders}
 use Rattle.tool_line.specs.Outside.{Outside, OutputTold}
 use Rattle.adig_tool.specs.Output.{page_for, text_at}
 use Rattle.tool_line.specs.Put.{IsPut, PutsText}
-use Rattle.adig_tool.specs.Promise.{AreGood, IsComplete, IsGivenTime, IsOver, IsPageEnd, IsRunEnd, IsTraffic, Promise}
-use Rattle.adig_tool.specs.Session.{FallsIntoTurns, HasAccepted, IsSession, LeavesPending, ShowsEnd, first_request, is_of_session, leaves_running, longest_slice}
+use Rattle.adig_tool.specs.Promise.{IsComplete, IsGivenTime, IsOver, IsPageEnd, IsRunEnd, IsTraffic, Promise}
+use Rattle.adig_tool.specs.Session.{FallsIntoTurns, HasAccepted, IsSession, ShowsEnd, first_request, is_of_session, leaves_running, longest_slice}
 use Rattle.adig_tool.specs.SessionParts.{take_entry}
-use Rattle.adig_tool.specs.declared.session.LoopEnd.{LoopEnd}
-use Rattle.adig_tool.specs.declared.session.LoopEnd.TheVariants.{Completed, Stalled, WaitFault}
+use Rattle.run_end.specs.declared.loop_end.LoopEnd.{LoopEnd}
+use Rattle.run_end.specs.declared.loop_end.LoopEnd.TheVariants.{Completed, Stalled, WaitFault}
 use Rattle.adig_tool.proofs.CalledLemmas.{called_then, numbers_of, taken_all, taken_later}
 use Rattle.adig_tool.proofs.ClosingLemmas.{past_on}
 use Rattle.adig_tool.proofs.ListLemmas.{all_pass, one_at_most, three_hold}
 use Rattle.adig_tool.proofs.ObeyedLemmas.{obeyed}
 use Rattle.adig_tool.proofs.WholeLemmas.{closing_at, is_kept, kept_open, no_turn, whole, whole_accepted, whole_closed, whole_own}
+use Rattle.run_end.specs.Left.{LeavesPending}
+use Rattle.run_end.specs.Ends.{AreGood}
 
 -- ---- entries of a session
 

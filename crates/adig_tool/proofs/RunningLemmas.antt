@@ -22,7 +22,7 @@ use Rattle.tool_line.specs.declared.files.FileFault.{FileFault as FaultOfFile}
 use Rattle.tool_line.specs.declared.files.FileFault.TheVariants.{Failed, NoMemory as NoMemoryLeft, TooLarge}
 use Rattle.tool_line.specs.Outside.{FilesTold, Outside}
 use Rattle.adig_tool.specs.Running.{Comes, EndsEarly, IsRunFor, setting_with}
-use Rattle.adig_tool.specs.declared.ended.Ended.{Ended}
+use Rattle.run_end.specs.declared.ended.Ended.{Ended}
 use Rattle.adig_tool.proofs.PromiseLemmas.{promise_early}
 
 -- ---- words ask one thing

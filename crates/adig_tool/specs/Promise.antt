@@ -5,7 +5,6 @@ use mathlib.Core.List.{IsPrefix}
 use Rattle.chan_types.specs.declared.answer.Answer.{Answer}
 use Rattle.chan_types.specs.declared.journal.Entry.{Entry}
 use Rattle.chan_types.specs.declared.spec.Spec.{Spec}
-use Rattle.chan_types.specs.declared.status.Status.TheVariants.{Success as WentWell}
 use Rattle.net_world.specs.Cause.{Rose}
 use Rattle.net_world.specs.declared.log.WorldCall.{WorldCall}
 use Rattle.channel_model.specs.Commands.{ObeysOrders, closing_position, past_at}
@@ -29,11 +28,8 @@ use Rattle.tool_line.specs.Outside.{GrowsBy, Outside, OutputTold}
 use Rattle.adig_tool.specs.Output.{page_for, text_at}
 use Rattle.tool_line.specs.Put.{IsPut}
 use Rattle.adig_tool.specs.Session.{first_request, longest_slice}
-use Rattle.adig_tool.specs.declared.ended.Ended.{Ended}
-
--- each of these answers is a good one
-abbrev pub AreGood : List Answer → Type 0
-AreGood answers = All (λ answer. answer.status ≡ WentWell) answers
+use Rattle.run_end.specs.Ends.{AreGood}
+use Rattle.run_end.specs.declared.ended.Ended.{Ended}
 
 -- at this end the request has its answer, and the text is its page
 abbrev pub IsPageEnd : Exit → Type 0

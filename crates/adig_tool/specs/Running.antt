@@ -20,7 +20,7 @@ use Rattle.tool_line.specs.declared.files.FileFault.{FileFault as FaultOfFile}
 use Rattle.tool_line.specs.Outside.{FilesTold, Outside}
 use Rattle.tool_line.specs.Put.{IsPut}
 use Rattle.adig_tool.specs.Promise.{Promise}
-use Rattle.adig_tool.specs.declared.ended.Ended.{Ended}
+use Rattle.run_end.specs.declared.ended.Ended.{Ended}
 
 -- the words ask nothing
 abbrev pub AreRefused : List Text → Type 0

@@ -18,8 +18,9 @@ use Rattle.channel_model.specs.Lawful.{IsLawful}
 use Rattle.channel_model.specs.Setting.{Setting}
 use Rattle.channel_table.specs.Calling.{Owned}
 use Rattle.event_runner.specs.UnderWay.{LogGets}
-use Rattle.adig_tool.specs.declared.session.LoopEnd.{LoopEnd}
-use Rattle.adig_tool.specs.declared.session.LoopEnd.TheVariants.{Completed, Stalled, WaitFault}
+use Rattle.run_end.specs.Left.{LeavesPending}
+use Rattle.run_end.specs.declared.loop_end.LoopEnd.{LoopEnd}
+use Rattle.run_end.specs.declared.loop_end.LoopEnd.TheVariants.{Completed, Stalled, WaitFault}
 
 -- the event leaves the channel running: it neither cancels nor destroys, nor does it set servers
 abbrev pub leaves_running : What → Bool
@@ -49,17 +50,6 @@ first_request spec = record { number = 1; spec = spec; script = blank 0 }
 abbrev pub HasAccepted : Spec → Result LoopEnd NoMemory → List Accepted → Type 0
 HasAccepted spec (Ok end) requests = requests ≡ first_request spec ∷ []
 HasAccepted spec (Err fault) requests = IsPrefix requests (first_request spec ∷ [])
-
--- what is left to be done, by how the turns came to their end: nothing, or a request is pending
-abbrev pub IsLeft : LoopEnd → List ℕ → Type 0
-IsLeft Completed requests = requests ≡ []
-IsLeft WaitFault requests = requests ≢ []
-IsLeft Stalled requests = requests ≢ []
-
--- nothing is ready any more, and this is pending; where memory was wanting anything may be left
-abbrev pub LeavesPending : Setting → Result LoopEnd NoMemory → Past → Type 0
-LeavesPending setting (Ok end) past = (ready setting past ≡ []) × IsLeft end (pending setting past)
-LeavesPending setting (Err fault) past = ⊤
 
 -- how the turns ended, as it shows: the last wait failed, or all turns were made with a request pending behind the last
 abbrev pub ShowsEnd : ℕ → LoopEnd → Owned → ℕ → List WorldCall → Type 0

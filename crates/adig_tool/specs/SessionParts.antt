@@ -13,8 +13,9 @@ use Rattle.channel_table.specs.Calling.{Owned, known_by_owner}
 use Rattle.event_runner.specs.Running.{Running}
 use Rattle.event_runner.specs.State.{IsTurnOwner}
 use Rattle.event_runner.specs.UnderWay.{LogGets, RunsSince, rested}
-use Rattle.adig_tool.specs.declared.session.LoopEnd.{LoopEnd}
-use Rattle.adig_tool.specs.Session.{FallsIntoTurns, LeavesPending, is_of_session, longest_slice}
+use Rattle.run_end.specs.declared.loop_end.LoopEnd.{LoopEnd}
+use Rattle.adig_tool.specs.Session.{FallsIntoTurns, is_of_session, longest_slice}
+use Rattle.run_end.specs.Left.{LeavesPending}
 
 -- the entry by which a request is taken
 abbrev pub take_entry : Answer → Entry

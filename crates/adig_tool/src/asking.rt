@@ -5,11 +5,11 @@ ghost use Rattle.net_world.specs.declared.log.WorldCall.{WorldCall};
 ghost use Rattle.tool_line.specs.Outside.{files_told, outside};
 ghost use Rattle.adig_tool.specs.Running.{EndsEarly, IsRunFor};
 
-use crate::ended::Ended;
 use crate::putting::put_line;
 use crate::resolving::resolve;
 use item_list::NoMemory;
 use net_world::{Files, Sink, World};
+use run_end::Ended;
 use std::alloc::Global;
 use tool_line::{AdigAsk, Exit, FileFault, RESOLV_MOST, set_options};
 

@@ -3,11 +3,10 @@
 
 mod asking;
 mod closing;
-mod ended;
 mod putting;
 mod resolving;
 mod running;
 mod session;
 
-pub use ended::Ended;
+pub use run_end::Ended;
 pub use running::run;

@@ -1,22 +1,21 @@
 //! The part of a run that asks: the channel is made, its one request is brought to its end, and the text is put.
 
-ghost use Rattle.std.specs.Prelude.{◌≡◌, ◌↔◌, IfOk, IsTrue};
-ghost use Rattle.chan_types.specs.declared.status.Status.TheVariants.{Success as WentWell};
-ghost use Rattle.adig_tool.specs.Ends.{IsEndOf, IsPageEndOf, fresh};
+ghost use Rattle.std.specs.Prelude.{◌≡◌, IfOk};
+ghost use Rattle.adig_tool.specs.Ends.{fresh};
 ghost use Rattle.tool_line.specs.Outside.{outside};
 ghost use Rattle.adig_tool.specs.Promise.{Promise};
 ghost use Rattle.adig_tool.specs.Running.{setting_with};
 
 use crate::closing::close;
-use crate::ended::Ended;
 use crate::putting::tell;
-use crate::session::{LoopEnd, session};
-use chan_types::{Answer, Calls, Quiet, Spec, Status};
+use crate::session::session;
+use chan_types::{Calls, Quiet, Spec};
 use channel_table::Alone;
 use hosts_file::Hosts;
 use item_list::NoMemory;
 use net_world::{Sink, World};
 use resolv_options::Options;
+use run_end::{Ended, end_of};
 use std::alloc::Global;
 use tool_line::Exit;
 
@@ -56,34 +55,4 @@ fn channel_with(alloc: Global, options: Options) -> Result<(Options, Alone<Quiet
     let told = options.copy(alloc)?;
     let alone = Alone::make(alloc, options, Hosts::empty(alloc))?;
     Ok((told, alone))
-}
-
-/// How a run came to its end whose turns ended so, and whose callbacks were called with these answers.
-fn end_of(loop_end: Result<LoopEnd, NoMemory>, calls: &Calls) -> Exit
-    ensures { IsEndOf loop_end calls.now result }
-{
-    match loop_end {
-        Ok(LoopEnd::Completed) => page_end(calls),
-        Ok(LoopEnd::WaitFault) => Exit::WaitFault,
-        Ok(LoopEnd::Stalled) => Exit::Stalled,
-        Err(NoMemory) => Exit::OutOfMemory,
-    }
-}
-
-/// The end of a run whose request completed.
-fn page_end(calls: &Calls) -> Exit
-    ensures { IsPageEndOf calls.now result }
-{
-    if calls.iter().all(is_success) {
-        Exit::Success
-    } else {
-        Exit::Failure
-    }
-}
-
-/// The request ended well.
-fn is_success(answer: &Answer) -> bool
-    ensures { IsTrue result ↔ (answer.now.status ≡ WentWell) }
-{
-    answer.status == Status::Success
 }

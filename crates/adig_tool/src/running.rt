@@ -8,8 +8,8 @@ ghost use Rattle.tool_line.specs.Outside.{files_told, outside};
 ghost use Rattle.adig_tool.specs.Running.{AreRefused, EndsEarly, ForWords, IsRunFor};
 
 use crate::asking::{ask, leave};
-use crate::ended::Ended;
 use net_world::{Files, Sink, World};
+use run_end::Ended;
 use std::alloc::Global;
 use tool_line::{Exit, WordFault, adig_ask};
 

@@ -14,18 +14,8 @@ use event_runner::{Paused, Runner};
 use item_list::NoMemory;
 use net_world::World;
 use resolv_options::Options;
+use run_end::LoopEnd;
 use std::alloc::Global;
-
-/// How the turns came to their end.
-#[derive(Clone, Copy, Debug, PartialEq, Eq)]
-pub enum LoopEnd {
-    /// Nothing is pending.
-    Completed,
-    /// A wait failed.
-    WaitFault,
-    /// All turns were made, and a request is pending.
-    Stalled,
-}
 
 /// Makes a runner, accepts the request, and makes turns with pauses between them until nothing is pending: at most so many.
 /// What has completed is called for before the first turn and behind each.

@@ -25,17 +25,18 @@ use Rattle.tool_line.specs.Outside.{OutputTold}
 use Rattle.tool_line.specs.Put.{IsPut, PutsText}
 use Rattle.tool_line.specs.declared.ending.Exit.{Exit}
 use Rattle.tool_line.specs.declared.ending.Exit.TheVariants.{Failure, OutOfMemory, Stalled as HasStalled, Success, WaitFault as FailedWait}
-use Rattle.ahost_tool.specs.Ends.{AreGood, IsEndOf}
+use Rattle.ahost_tool.specs.Ends.{IsEndOf}
 use Rattle.ahost_tool.specs.Kinds.{has_servers, is_ruled}
 use Rattle.ahost_tool.specs.Page.{report_of, text_at}
 use Rattle.ahost_tool.specs.Promise.{IsComplete, IsGivenTime, IsPageEnd, IsRunEnd, IsTraffic, last_at}
 use Rattle.ahost_tool.specs.Session.{FallsIntoTurns, HasAccepted, SetsBehindFirst, ShowsEnd, longest_slice}
 use Rattle.ahost_tool.specs.declared.reporting.Report.{Report}
-use Rattle.ahost_tool.specs.declared.session.LoopEnd.{LoopEnd}
-use Rattle.ahost_tool.specs.declared.session.LoopEnd.TheVariants.{Completed, Stalled, WaitFault}
+use Rattle.run_end.specs.declared.loop_end.LoopEnd.{LoopEnd}
+use Rattle.run_end.specs.declared.loop_end.LoopEnd.TheVariants.{Completed, Stalled, WaitFault}
 use Rattle.ahost_tool.proofs.MoveLemmas.{ruled_seats}
 use Rattle.ahost_tool.proofs.ProgressLemmas.{stalled_few}
 use Rattle.ahost_tool.proofs.ThenLemmas.{behind_more}
+use Rattle.run_end.specs.Ends.{AreGood}
 
 -- ---- ends
 

@@ -21,7 +21,7 @@ use Rattle.tool_line.specs.declared.ahost.Load.{Load}
 use Rattle.ahost_tool.specs.Asked.{asked_of}
 use Rattle.ahost_tool.specs.Loading.{IsLoadRun, IsWithinLimits, asked_by_load, host_spec, host_specs, load_setting, no_orders, over_peers}
 use Rattle.ahost_tool.specs.Promise.{Promise}
-use Rattle.ahost_tool.specs.declared.ended.Ended.{Ended}
+use Rattle.run_end.specs.declared.ended.Ended.{Ended}
 use Rattle.ahost_tool.specs.declared.reporting.Report.TheVariants.{Summary}
 use Rattle.ahost_tool.proofs.PromiseLemmas.{promise_early}
 

@@ -26,14 +26,15 @@ use Rattle.event_runner.specs.State.{IsTurnOwner}
 use Rattle.event_runner.specs.Turning.{IsCutShort, MakesTurn}
 use Rattle.event_runner.specs.UnderWay.{IsUnderWay, LogGets, Reach, RunsSince, delivered, following, rested, turned}
 use Rattle.ahost_tool.specs.Kinds.{has_servers, is_of_session}
-use Rattle.ahost_tool.specs.Session.{CountsPending, FallsIntoTurns, LeavesPending, MakesTurns, SetsAtMost, SetsBehindFirst, SetsLater, ShowsEnd, longest_slice}
+use Rattle.ahost_tool.specs.Session.{CountsPending, FallsIntoTurns, MakesTurns, SetsAtMost, SetsBehindFirst, SetsLater, ShowsEnd, longest_slice}
 use Rattle.ahost_tool.specs.declared.caller.Caller.{Caller}
-use Rattle.ahost_tool.specs.declared.session.LoopEnd.{LoopEnd}
-use Rattle.ahost_tool.specs.declared.session.LoopEnd.TheVariants.{Completed, Stalled, WaitFault as WaitFailed}
+use Rattle.run_end.specs.declared.loop_end.LoopEnd.{LoopEnd}
+use Rattle.run_end.specs.declared.loop_end.LoopEnd.TheVariants.{Completed, Stalled, WaitFault as WaitFailed}
 use Rattle.ahost_tool.proofs.MoveLemmas.{Moves, accepted_parts, moves_go_on, moves_kept, moves_none, moves_trans, moves_turn, own_all, session_seats, turn_unset}
 use Rattle.owner_laws.proofs.Owner.{looked_same, paused_same, waited_pending}
 use Rattle.ahost_tool.proofs.PromptLemmas.{IsPrompted, MovesBetween, none_unprompted, prompted_none, prompted_trans}
 use Rattle.ahost_tool.proofs.ThenLemmas.{Grows, Then, grows_none, sets_more, then_more, then_set}
+use Rattle.run_end.specs.Left.{LeavesPending}
 
 -- so many turns were made, and what completed was delivered, so that requests were accepted between them because others had completed; behind the last turn the run has come so far
 pub record Made {B : Type 0} (reach : Reach) (turns : ℕ) (old new : Caller B) (before after : Running) (log_old log_new : Option (List WorldCall)) : Type 0 where

@@ -33,10 +33,10 @@ use Rattle.ahost_tool.specs.Ends.{IsEndOf}
 use Rattle.ahost_tool.specs.Kinds.{has_servers, is_ruled, is_servers}
 use Rattle.ahost_tool.specs.Page.{text_at}
 use Rattle.ahost_tool.specs.Promise.{IsComplete, IsGivenTime, IsOver, IsPageEnd, IsTraffic, Promise, last_at}
-use Rattle.ahost_tool.specs.Session.{FallsIntoTurns, HasObeyed, IsSession, LeavesPending, SetsAtMost, longest_slice}
+use Rattle.ahost_tool.specs.Session.{FallsIntoTurns, HasObeyed, IsSession, SetsAtMost, longest_slice}
 use Rattle.ahost_tool.specs.declared.caller.Caller.{Caller}
-use Rattle.ahost_tool.specs.declared.session.LoopEnd.{LoopEnd}
-use Rattle.ahost_tool.specs.declared.session.LoopEnd.TheVariants.{Completed, Stalled, WaitFault}
+use Rattle.run_end.specs.declared.loop_end.LoopEnd.{LoopEnd}
+use Rattle.run_end.specs.declared.loop_end.LoopEnd.TheVariants.{Completed, Stalled, WaitFault}
 use Rattle.ahost_tool.proofs.ClosingLemmas.{closing, destroy_destroys, destroy_is, destroyed_once, destroyed_pending, destroyed_stays, destroys_counted}
 use Rattle.ahost_tool.proofs.EndLemmas.{Came, accepted_full, accepted_part, bad_of, came, comes_to_end, complete_of, end_known, good_of, last_other, last_page, page_of_end, paged, served_ok, stall_of, traffic_of, unlost, wait_of}
 use Rattle.ahost_tool.proofs.FinalLemmas.{Behind, before_closing, closing_is, none_delivered, taken_once_each}
@@ -45,6 +45,7 @@ use Rattle.ahost_tool.proofs.ListLemmas.{any_of}
 use Rattle.ahost_tool.proofs.MoveLemmas.{MovesQuietly, accepted_parts, quiet_all}
 use Rattle.ahost_tool.proofs.ObeyLemmas.{is_plain, obeyed_more, past_on}
 use Rattle.ahost_tool.proofs.ThenLemmas.{at_most_more, at_most_none}
+use Rattle.run_end.specs.Left.{LeavesPending}
 
 -- what the owner's destroy adds to a journal: the closing entry, or nothing where the channel was destroyed
 pub record Ends (mid d : Owned) : Type 0 where

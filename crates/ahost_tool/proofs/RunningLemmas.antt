@@ -25,7 +25,7 @@ use Rattle.ahost_tool.specs.Asked.{Asked, asked_of}
 use Rattle.ahost_tool.specs.Promise.{Promise}
 use Rattle.ahost_tool.specs.Running.{Comes, EndsEarly, IsRunFor, IsServed, count_names}
 use Rattle.ahost_tool.specs.Setting.{GivesHosts, GivesSetting, IsSettingOf, ReadsFile}
-use Rattle.ahost_tool.specs.declared.ended.Ended.{Ended}
+use Rattle.run_end.specs.declared.ended.Ended.{Ended}
 use Rattle.ahost_tool.specs.declared.reporting.Report.TheVariants.{Page}
 use Rattle.ahost_tool.proofs.PromiseLemmas.{promise_early}
 

@@ -30,7 +30,7 @@ use Rattle.ahost_tool.specs.Delivering.{IsIdle}
 use Rattle.ahost_tool.specs.Kinds.{has_servers, is_cancel, is_of_session, is_ruled, is_servers}
 use Rattle.ahost_tool.specs.Session.{AcceptsAll, FallsIntoTurns, HasAccepted, HasObeyed, IsKept, IsNew, IsSession, MakesTurns, is_asking, longest_slice}
 use Rattle.ahost_tool.specs.declared.caller.Caller.{Caller}
-use Rattle.ahost_tool.specs.declared.session.LoopEnd.{LoopEnd}
+use Rattle.run_end.specs.declared.loop_end.LoopEnd.{LoopEnd}
 use Rattle.ahost_tool.proofs.KeptLemmas.{kept_more}
 use Rattle.ahost_tool.proofs.ListLemmas.{all_pass, none_any, none_of, or_right}
 use Rattle.ahost_tool.proofs.MoveLemmas.{own_all, ruled_seats, session_ruled}

@@ -1,29 +1,13 @@
 -- How a run comes to its end, by how its turns ended, by what was lost, and by the answers that were called for.
-use Rattle.std.specs.Prelude.{All, Err, List, Ok, Result, zero, suc, ℕ, ◌≡◌, ◌⊎◌}
+use Rattle.std.specs.Prelude.{List, Result, zero, suc, ℕ, ◌≡◌}
 use Rattle.chan_types.specs.declared.answer.Answer.{Answer}
-use Rattle.chan_types.specs.declared.status.Status.TheVariants.{Success as WentWell}
 use Rattle.item_list.specs.declared.no_memory.NoMemory.{NoMemory}
 use Rattle.tool_line.specs.declared.ending.Exit.{Exit}
-use Rattle.tool_line.specs.declared.ending.Exit.TheVariants.{Failure, OutOfMemory, Stalled as HasStalled, Success, WaitFault as FailedWait}
-use Rattle.ahost_tool.specs.declared.session.LoopEnd.{LoopEnd}
-use Rattle.ahost_tool.specs.declared.session.LoopEnd.TheVariants.{Completed, Stalled, WaitFault}
+use Rattle.tool_line.specs.declared.ending.Exit.TheVariants.{OutOfMemory}
+use Rattle.run_end.specs.Ends.{IsEndOf as IsTurnsEnd}
+use Rattle.run_end.specs.declared.loop_end.LoopEnd.{LoopEnd}
 
--- each of these answers is a good one
-abbrev pub AreGood : List Answer → Type 0
-AreGood answers = All (λ answer. answer.status ≡ WentWell) answers
-
--- it is a good end where all answers are good, and else a bad one
-abbrev pub IsPageEndOf : List Answer → Exit → Type 0
-IsPageEndOf calls end = ((end ≡ Success) × AreGood calls) ⊎ ((end ≡ Failure) × ¬ AreGood calls)
-
--- how a run comes to its end whose turns ended so
-abbrev pub IsTurnsEnd : Result LoopEnd NoMemory → List Answer → Exit → Type 0
-IsTurnsEnd (Ok Completed) calls end = IsPageEndOf calls end
-IsTurnsEnd (Ok WaitFault) calls end = end ≡ FailedWait
-IsTurnsEnd (Ok Stalled) calls end = end ≡ HasStalled
-IsTurnsEnd (Err fault) calls end = end ≡ OutOfMemory
-
--- and where so many requests were lost: memory was wanting, unless none was
+-- as its turns ended and its answers are, unless so many requests were lost: then memory was wanting
 abbrev pub IsEndOf : Result LoopEnd NoMemory → ℕ → List Answer → Exit → Type 0
 IsEndOf loop_end zero calls end = IsTurnsEnd loop_end calls end
 IsEndOf loop_end (suc lost) calls end = end ≡ OutOfMemory

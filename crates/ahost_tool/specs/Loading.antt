@@ -15,7 +15,7 @@ use Rattle.tool_line.specs.Words.{Text}
 use Rattle.tool_line.specs.declared.ahost.Load.{Load}
 use Rattle.ahost_tool.specs.Asked.{Asked, asked_of}
 use Rattle.ahost_tool.specs.Promise.{Promise}
-use Rattle.ahost_tool.specs.declared.ended.Ended.{Ended}
+use Rattle.run_end.specs.declared.ended.Ended.{Ended}
 use Rattle.ahost_tool.specs.declared.reporting.Report.TheVariants.{Summary}
 
 -- the name of the host with this number, as it is asked for

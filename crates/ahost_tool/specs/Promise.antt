@@ -25,11 +25,11 @@ use Rattle.tool_line.specs.Put.{IsPut}
 use Rattle.tool_line.specs.declared.ending.Exit.{Exit}
 use Rattle.tool_line.specs.declared.ending.Exit.TheVariants.{Failure, FileFault, OutOfMemory, SinkFault, Stalled, Success, Usage, WaitFault}
 use Rattle.ahost_tool.specs.Asked.{Asked}
-use Rattle.ahost_tool.specs.Ends.{AreGood}
+use Rattle.run_end.specs.Ends.{AreGood}
 use Rattle.ahost_tool.specs.Kinds.{is_ruled}
 use Rattle.ahost_tool.specs.Page.{report_of, text_at}
 use Rattle.ahost_tool.specs.Session.{SetsAtMost, SetsBehindFirst, longest_slice}
-use Rattle.ahost_tool.specs.declared.ended.Ended.{Ended}
+use Rattle.run_end.specs.declared.ended.Ended.{Ended}
 use Rattle.ahost_tool.specs.declared.reporting.Report.{Report}
 
 -- at this end every request has its answer, and the text is the report

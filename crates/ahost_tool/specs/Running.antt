@@ -19,7 +19,7 @@ use Rattle.tool_line.specs.declared.files.FileFault.{FileFault as FaultOfFile}
 use Rattle.ahost_tool.specs.Asked.{Asked, asked_of}
 use Rattle.ahost_tool.specs.Promise.{Promise}
 use Rattle.ahost_tool.specs.Setting.{IsSettingOf}
-use Rattle.ahost_tool.specs.declared.ended.Ended.{Ended}
+use Rattle.run_end.specs.declared.ended.Ended.{Ended}
 use Rattle.ahost_tool.specs.declared.reporting.Report.TheVariants.{Page}
 
 -- how many names are asked for: those of a load, or those of the words

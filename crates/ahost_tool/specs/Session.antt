@@ -25,8 +25,9 @@ use Rattle.event_runner.specs.UnderWay.{LogGets, RunsSince, rested}
 use Rattle.ahost_tool.specs.Delivering.{IsIdle}
 use Rattle.ahost_tool.specs.Kinds.{has_servers, is_of_session, is_ruled}
 use Rattle.ahost_tool.specs.declared.caller.Caller.{Caller}
-use Rattle.ahost_tool.specs.declared.session.LoopEnd.{LoopEnd}
-use Rattle.ahost_tool.specs.declared.session.LoopEnd.TheVariants.{Completed, Stalled, WaitFault}
+use Rattle.run_end.specs.Left.{LeavesPending}
+use Rattle.run_end.specs.declared.loop_end.LoopEnd.{LoopEnd}
+use Rattle.run_end.specs.declared.loop_end.LoopEnd.TheVariants.{Completed, Stalled, WaitFault}
 
 -- a wait between two turns may last as long as nothing is due
 abbrev pub longest_slice : ℕ
@@ -125,17 +126,6 @@ SetsBehindFirst setting (Some addresses) made journal calls =
 pub record CountsPending (count : ℕ) (old new : Owned) : Type 0 where
   pub same : new ≡ old
   pub count_is : count ≡ length (pending old.setting (past_of old.seen))
-
--- what is left to be done, by how the turns came to their end: nothing, or a request is pending
-abbrev pub IsLeft : LoopEnd → List ℕ → Type 0
-IsLeft Completed requests = requests ≡ []
-IsLeft WaitFault requests = requests ≢ []
-IsLeft Stalled requests = requests ≢ []
-
--- nothing is ready any more, and this is pending; where memory was wanting anything may be left
-abbrev pub LeavesPending : Setting → Result LoopEnd NoMemory → Past → Type 0
-LeavesPending setting (Ok end) past = (ready setting past ≡ []) × IsLeft end (pending setting past)
-LeavesPending setting (Err fault) past = ⊤
 
 -- how the turns ended, as it shows: the last wait failed, or all turns were made with a request pending behind the last, and between turns no request was accepted unprompted
 abbrev pub ShowsEnd : ℕ → LoopEnd → Owned → ℕ → List WorldCall → Type 0

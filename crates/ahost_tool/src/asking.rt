@@ -5,7 +5,6 @@ ghost use Rattle.net_world.specs.declared.log.WorldCall.{WorldCall};
 ghost use Rattle.tool_line.specs.Outside.{files_told, outside};
 ghost use Rattle.ahost_tool.specs.Running.{EndsEarly, IsRunFor};
 
-use crate::ended::Ended;
 use crate::putting::put_line;
 use crate::reporting::Report;
 use crate::resolving::resolve;
@@ -13,6 +12,7 @@ use crate::setting::read_setting;
 use crate::task::Task;
 use completion_ticket::Done;
 use net_world::{Files, Sink, World};
+use run_end::Ended;
 use std::alloc::Global;
 use tool_line::{AhostAsk, Exit, FileFault};
 

@@ -6,7 +6,6 @@ mod asking;
 mod caller;
 mod closing;
 mod delivering;
-mod ended;
 mod loading;
 mod page;
 mod performing;
@@ -19,5 +18,5 @@ mod setting;
 mod summary;
 mod task;
 
-pub use ended::Ended;
+pub use run_end::Ended;
 pub use running::{run, run_boxed};

@@ -6,7 +6,6 @@ ghost use Rattle.test_nameserver.specs.Load.{load_zone};
 ghost use Rattle.test_nameserver.specs.Peer.{at_start};
 ghost use Rattle.ahost_tool.specs.Loading.{IsLoadRun, IsWithinLimits, host_specs, host_text};
 
-use crate::ended::Ended;
 use crate::reporting::Report;
 use crate::resolving::resolve;
 use crate::task::Task;
@@ -16,6 +15,7 @@ use hosts_file::Hosts;
 use net_addr::Family;
 use net_world::Sink;
 use resolv_options::Options;
+use run_end::Ended;
 use std::alloc::Global;
 use test_nameserver::{PeerWorld, Zone};
 use tool_line::{Exit, Load, SpecList};

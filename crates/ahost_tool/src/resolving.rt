@@ -1,25 +1,24 @@
 //! The part of a run that asks: the channel is made, its requests are brought to their end, and the text is put.
 
-ghost use Rattle.std.specs.Prelude.{◌≡◌, ◌≤◌, ◌↔◌, All, IfOk, IfSome, IsTrue, None, length, map};
-ghost use Rattle.chan_types.specs.declared.status.Status.TheVariants.{Success as WentWell};
+ghost use Rattle.std.specs.Prelude.{◌≡◌, ◌≤◌, All, IfOk, IfSome, None, length, map};
 ghost use Rattle.tool_line.specs.Outside.{outside};
 ghost use Rattle.ahost_tool.specs.Delivering.{fresh_caller};
-ghost use Rattle.ahost_tool.specs.Ends.{IsEndOf, IsPageEndOf};
+ghost use Rattle.ahost_tool.specs.Ends.{IsEndOf};
 ghost use Rattle.ahost_tool.specs.Promise.{Promise};
 ghost use Rattle.ahost_tool.specs.Asked.{asked_of};
 
 use crate::caller::Caller;
 use crate::closing::close;
-use crate::ended::Ended;
 use crate::putting::tell;
-use crate::session::{LoopEnd, session};
+use crate::session::session;
 use crate::task::Task;
-use chan_types::{Answer, Calls, Orders, Status};
+use chan_types::{Calls, Orders};
 use completion_ticket::Done;
 use hosts_file::Hosts;
 use item_list::NoMemory;
 use net_world::{Sink, World};
 use resolv_options::Options;
+use run_end::{Ended, LoopEnd, end_of};
 use std::alloc::Global;
 use tool_line::Exit;
 
@@ -54,7 +53,7 @@ pub(crate) fn resolve<B: Done + Drop, W: World, K: Sink>(
         lost,
     } = caller;
     let journal = alone.close();
-    let end = end_of(loop_end, lost, &calls);
+    let end = ending_of(loop_end, lost, &calls);
     let status = tell(alloc, report, journal.entries(), &calls, end, sink);
     Ended {
         status,
@@ -79,34 +78,12 @@ fn caller_with<B: Done + Drop>(
 
 /// How a run came to its end whose turns ended so, where so many requests were lost, and whose callbacks were called with
 /// these answers.
-fn end_of(loop_end: Result<LoopEnd, NoMemory>, lost: u64, calls: &Calls) -> Exit
+fn ending_of(loop_end: Result<LoopEnd, NoMemory>, lost: u64, calls: &Calls) -> Exit
     ensures { IsEndOf loop_end lost calls.now result }
 {
     if lost != 0 {
-        return Exit::OutOfMemory;
-    }
-    match loop_end {
-        Ok(LoopEnd::Completed) => page_end(calls),
-        Ok(LoopEnd::WaitFault) => Exit::WaitFault,
-        Ok(LoopEnd::Stalled) => Exit::Stalled,
-        Err(NoMemory) => Exit::OutOfMemory,
-    }
-}
-
-/// The end of a run whose requests completed.
-fn page_end(calls: &Calls) -> Exit
-    ensures { IsPageEndOf calls.now result }
-{
-    if calls.iter().all(is_success) {
-        Exit::Success
+        Exit::OutOfMemory
     } else {
-        Exit::Failure
+        end_of(loop_end, calls)
     }
-}
-
-/// The request ended well.
-fn is_success(answer: &Answer) -> bool
-    ensures { IsTrue result ↔ (answer.now.status ≡ WentWell) }
-{
-    answer.status == Status::Success
 }

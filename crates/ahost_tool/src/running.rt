@@ -7,10 +7,10 @@ ghost use Rattle.ahost_tool.specs.Loading.{IsLoadRun, IsWithinLimits};
 ghost use Rattle.ahost_tool.specs.Running.{AreRefused, EndsEarly, ForWords, IsRunFor, IsServed, count_names};
 
 use crate::asking::{ask, leave};
-use crate::ended::Ended;
 use crate::loading::load;
 use completion_ticket::Done;
 use net_world::{Files, Sink, World};
+use run_end::Ended;
 use std::alloc::Global;
 use tool_line::{AhostAsk, Exit, WordFault, ahost_ask};
 

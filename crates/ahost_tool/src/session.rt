@@ -18,19 +18,9 @@ use item_list::NoMemory;
 use net_addr::ServerList;
 use net_world::World;
 use resolv_options::Options;
+use run_end::LoopEnd;
 use std::alloc::Global;
 use std::collections::VecDeque;
-
-/// How the turns came to their end.
-#[derive(Clone, Copy, Debug, PartialEq, Eq)]
-pub(crate) enum LoopEnd {
-    /// Nothing is pending.
-    Completed,
-    /// A wait failed.
-    WaitFault,
-    /// All turns were made, and a request is pending.
-    Stalled,
-}
 
 /// Makes a runner, accepts the requests, and makes turns with pauses between them until nothing is pending: at most so
 /// many. What has completed is delivered before the first turn and behind each; the later servers are set right behind

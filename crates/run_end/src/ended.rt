@@ -14,8 +14,8 @@ pub struct Ended {
 }
 
 impl Ended {
-    /// A run that made no channel.
-    pub(crate) fn early(alloc: Global, status: u8) -> Ended
+    /// A run that made no channel. It takes no memory.
+    pub fn early(alloc: Global, status: u8) -> Ended
         ensures { result ≡ record { status = status; journal = []; calls = [] } }
     {
         Ended {
