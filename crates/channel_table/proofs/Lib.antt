@@ -44,3 +44,5 @@ mod DueSideLemmas
 mod TallyLemmas
 mod LinkedLemmas
 mod StrayLemmas
+mod MarkLemmas
+mod FailSteps

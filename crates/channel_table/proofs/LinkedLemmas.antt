@@ -221,7 +221,7 @@ module _ (server link : ℕ) where
   more_than_none true n = sym (ap not (ne_eqb (1 + n) 0 (λ e. omega (arith, e))))
   more_than_none false n = ap (λ m. not (m == 0)) (omega arith)
 
-  any_counted : (ss : List Side) → list_any (flew_over server link) ss ≡ not (count_by (flew_over server link) ss == 0)
+  pub any_counted : (ss : List Side) → list_any (flew_over server link) ss ≡ not (count_by (flew_over server link) ss == 0)
   any_counted [] = refl
   any_counted (side ∷ ss) =
       ap (λ b. flew_over server link side || b) (any_counted ss) ∙ more_than_none (flew_over server link side) (count_by (flew_over server link) ss)

@@ -6,7 +6,7 @@ use Rattle.leg_index.specs.Waiting.{Legs}
 use Rattle.timeout_queue.specs.declared.key.Key.{Key}
 use Rattle.chan_types.specs.declared.answer.Answer.{Answer}
 use Rattle.channel_table.specs.After.{has_next}
-use Rattle.channel_table.specs.Rows.{sides}
+use Rattle.channel_table.specs.Rows.{row_over, sides}
 use Rattle.channel_table.specs.Sides.{waits}
 use Rattle.channel_table.specs.Starting.{IsIdle}
 use Rattle.channel_table.specs.declared.row.Row.{Row}
@@ -47,3 +47,7 @@ Keeps old new = (number : ℕ) → set.contains old (key_of number) ≡ true →
 -- the row is among those that wait, if a leg of it does
 abbrev pub IsListed : {T : Type 0} → Legs → Row T → Type 0
 IsListed legs row = some_waits row ≡ true → set.contains legs (key_of row.number) ≡ true
+
+-- the row is among those that wait, if an attempt of it went to this server over this link
+abbrev pub IsListedOver : {T : Type 0} → ℕ → ℕ → Legs → Row T → Type 0
+IsListedOver server link legs row = row_over server link row ≡ true → set.contains legs (key_of row.number) ≡ true

@@ -3,6 +3,7 @@
 #![tactic(auto)]
 
 mod flights;
+mod link_ids;
 mod links;
 #[cfg(test)]
 mod tests;

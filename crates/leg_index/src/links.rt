@@ -2,6 +2,7 @@
 ghost use Rattle.std.specs.Prelude.{◌≡◌, ◌+◌, ◌-◌, ◌^◌, ◌<◌, ◌==◌, ℕ, [], not, cond, MatchOption, OnOk, OnErr};
 ghost use Rattle.leg_index.specs.Links.{used, used_in, counts_tcp, is_link, FindsUse, IsOverTcp, NoneOverTcp};
 
+use crate::link_ids::LinkIds;
 use std::alloc::{AllocError, Global};
 use std::marker::Model;
 
@@ -14,10 +15,12 @@ pub struct LinkUse {
 }
 
 /// The links over which legs are in flight, with how many those are. They are few: for each server its socket for UDP
-/// and mostly one connection.
+/// and mostly one connection. Contracts see the counts alone.
 #[derive(Drop)]
 pub struct Links {
     uses: Vec<LinkUse>,
+    /// The identifiers of the attempts of these legs.
+    ids: LinkIds,
 }
 
 impl Model for Links {
@@ -36,6 +39,7 @@ impl Links {
     {
         Links {
             uses: Vec::new(alloc),
+            ids: LinkIds::make(alloc),
         }
     }
 
@@ -46,13 +50,29 @@ impl Links {
         find_use(self.uses.as_slice(), server, link).is_some()
     }
 
-    /// One leg more is in flight on this server over this link. `AllocError` is want of memory.
-    pub fn begin(&mut self, server: u32, link: u64) -> Result<(), AllocError>
+    /// How many legs are in flight on this server over this link.
+    pub fn count(&self, server: u32, link: u64) -> u64
+        requires fits { used server link self.now < 2 ^ 64 }
+        ensures { result ≡ used server link self.now }
+    {
+        count_uses(self.uses.as_slice(), server, link)
+    }
+
+    /// The identifiers of the attempts on this server over this link, as they were told. No clause says that these are
+    /// they: whoever reads one looks whether its attempt is over the link, and whether there are as many as `count` says.
+    pub fn ids(&self, alloc: Global, server: u32, link: u64) -> Result<Vec<u16>, AllocError> {
+        self.ids.over(alloc, server, link)
+    }
+
+    /// One leg more is in flight on this server over this link, whose attempt has this identifier. `AllocError` is want
+    /// of memory.
+    pub fn begin(&mut self, server: u32, link: u64, id: u16) -> Result<(), AllocError>
         requires fits { used server link self.old + 1 < 2 ^ 64 }
         ensures ok { OnOk result ((s l : ℕ)
             → used s l self.new ≡ cond (is_link server link s l) 1 0 + used s l self.old) }
         ensures err { OnErr result (self.new ≡ self.old) }
     {
+        self.ids.put(server, link, id)?;
         match find_use(self.uses.as_slice(), server, link) {
             Some(index) => self.uses[index].count += 1,
             None => self.uses.push(LinkUse {
@@ -64,11 +84,12 @@ impl Links {
         Ok(())
     }
 
-    /// One leg less is. Where none was, nothing changes. It takes no memory.
-    pub fn end(&mut self, server: u32, link: u64)
+    /// One leg less is, whose attempt had this identifier. Where none was, nothing changes. It takes no memory.
+    pub fn end(&mut self, server: u32, link: u64, id: u16)
         ensures { (s l : ℕ)
             → used s l self.new ≡ used s l self.old - cond (is_link server link s l) 1 0 }
     {
+        self.ids.drop_id(server, link, id);
         let Some(index) = find_use(self.uses.as_slice(), server, link) else {
             return;
         };
@@ -97,6 +118,18 @@ fn find_tcp(uses: &[LinkUse], server: u32) -> Option<u64>
         }
     }
     None
+}
+
+// How many legs the items count on this server over this link.
+fn count_uses(uses: &[LinkUse], server: u32, link: u64) -> u64
+    requires { used server link uses.now < 2 ^ 64 }
+    ensures { result ≡ used server link uses.now }
+{
+    let mut count: u64 = 0;
+    for index in 0..uses.len() {
+        count += used_in(uses[index], server, link);
+    }
+    count
 }
 
 // How many legs the item counts on this server over this link.

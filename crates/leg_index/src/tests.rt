@@ -99,19 +99,47 @@ fn a_leg_that_waits_again_goes_ahead_of_later_requests(rt: HostRuntime) -> Resul
 fn a_link_is_busy_until_its_last_leg_ends(rt: HostRuntime) -> Result<(), Fail> {
     let mut links = Links::make(rt.alloc());
     assert!(rt; !links.is_busy(0, 0));
-    links.end(0, 0);
-    links.begin(0, 0)?;
-    links.begin(1, 3)?;
-    links.begin(1, 3)?;
+    links.end(0, 0, 7);
+    links.begin(0, 0, 7)?;
+    links.begin(1, 3, 8)?;
+    links.begin(1, 3, 9)?;
     assert!(rt; links.is_busy(0, 0) && links.is_busy(1, 3));
     assert!(rt; !links.is_busy(1, 0) && !links.is_busy(0, 3) && !links.is_busy(3, 1));
     assert_eq!(rt; links.over_tcp(0), None);
     assert_eq!(rt; links.over_tcp(1), Some(3));
-    links.end(0, 0);
-    links.end(1, 3);
+    links.end(0, 0, 7);
+    links.end(1, 3, 9);
     assert!(rt; !links.is_busy(0, 0) && links.is_busy(1, 3));
-    links.end(1, 3);
+    links.end(1, 3, 8);
     assert!(rt; !links.is_busy(1, 3));
     assert_eq!(rt; links.over_tcp(1), None);
+    Ok(())
+}
+
+#[test]
+fn a_link_tells_the_identifiers_of_its_attempts(rt: HostRuntime) -> Result<(), Fail> {
+    let mut links = Links::make(rt.alloc());
+    for id in [65535, 64, 0, 63] {
+        links.begin(0, 0, id)?;
+    }
+    links.begin(1, 3, 5)?;
+    assert_eq!(rt;
+        links.ids(rt.alloc(), 0, 0)?.as_slice(),
+        [0, 63, 64, 65535].as_slice()
+    );
+    assert_eq!(rt; links.ids(rt.alloc(), 1, 3)?.as_slice(), [5].as_slice());
+    assert_eq!(rt; links.count(0, 0), 4);
+    links.end(0, 0, 63);
+    links.end(1, 3, 5);
+    assert_eq!(rt;
+        links.ids(rt.alloc(), 0, 0)?.as_slice(),
+        [0, 64, 65535].as_slice()
+    );
+    assert!(rt; links.ids(rt.alloc(), 1, 3)?.is_empty());
+    assert_eq!(rt; links.count(0, 0), 3);
+    // A later link takes the place of the one that is done.
+    links.begin(1, 4, 6)?;
+    assert!(rt; links.ids(rt.alloc(), 1, 3)?.is_empty());
+    assert_eq!(rt; links.ids(rt.alloc(), 1, 4)?.as_slice(), [6].as_slice());
     Ok(())
 }

@@ -1,6 +1,7 @@
 //! A lock under which threads change a state in turns, and whose proof knows the one history of what they did.
 #![tactic(auto)]
 
+mod hold;
 mod kept;
 mod lock;
 mod making;
@@ -10,6 +11,7 @@ mod seat;
 mod steps;
 mod view;
 
+pub use hold::Hold;
 pub use kept::{Kept, Op};
 pub use lock::SeatLock;
 pub use making::make;

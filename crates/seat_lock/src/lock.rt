@@ -2,10 +2,11 @@
 ghost use Rattle.std.specs.Prelude.{◌≡◌, Some};
 ghost use Rattle.seat_lock.specs.History.{IsSeatTurn, IsJoin, HasAll, IsWholeHistory};
 
+use crate::hold::Hold;
 use crate::kept::{Kept, Op};
 use crate::rule::LockTable;
 use crate::seat::Seat;
-use crate::steps::{catch_up, draw, give, merge, take};
+use crate::steps::{catch_up, merge};
 use std::marker::Model;
 use std::sync::{Mutex, Wait};
 
@@ -32,18 +33,25 @@ impl<S: Kept> Model for SeatLock<S> {
 }
 
 impl<S: Kept> SeatLock<S> {
+    /// Waits until no other thread holds the lock, and holds it.
+    pub fn hold<'l, R: Wait>(&'l self, rt: &'l R) -> Hold<'l, S, R>
+        ensures { result ≡ self.now }
+    {
+        let inside = self.gate.lock(rt);
+        Hold {
+            rt,
+            lock: self,
+            inside,
+        }
+    }
+
     /// Waits for the seat's turn, and runs the operation once, alone.
     pub fn turn<R: Wait, O: Op<S>>(&self, rt: &R, seat: &mut Seat<S>, op: O) -> O::Reply
         requires { seat.old.lock ≡ self.now }
         ensures { IsSeatTurn S.maker (O.means op) seat.old result seat.new }
     {
-        let _inside = self.gate.lock(rt);
-        let shared = &self.table.shared;
-        let ticket = draw(shared, &mut seat.token);
-        let mut state = take(rt, shared, &mut seat.token, ticket);
-        let reply = op.run(&mut state, seat.number);
-        give(shared, &mut seat.token, state);
-        reply
+        let mut hold = self.hold(rt);
+        hold.turn(seat, op)
     }
 
     /// Joins the right seat into the left one, which then knows what both have seen.

@@ -3,6 +3,8 @@ ghost use Rattle.std.specs.Prelude.{◌≡◌, ◌<◌, ◌≤◌, ◌++◌, [],
 ghost use Rattle.seat_lock.specs.History.{HasAll, IsSameSeat};
 ghost use Rattle.seat_lock.specs.SeatRow.{AreSeats};
 
+mod holds;
+
 use super::*;
 use std::alloc::Global;
 use std::process::Abort;

@@ -72,6 +72,57 @@ take 1 status 11 .
     Ok(())
 }
 
+/// Two attempts are few beside eight requests: they fail again and again, until the first request has had three.
+const FEW_OF_MANY: [Call<'static>; 20] = [
+    ASK,
+    ASK,
+    ASK,
+    ASK,
+    ASK,
+    ASK,
+    ASK,
+    ASK,
+    Call::Start(1, 0),
+    Call::Start(1, 0),
+    Call::Fault(0),
+    Call::Start(1, 0),
+    Call::Fault(0),
+    Call::Start(1, 0),
+    Call::Start(1, 0),
+    Call::Fault(0),
+    Call::Take,
+    Call::Start(1, 0),
+    Call::Start(1, 0),
+    Call::Fault(0),
+];
+
+#[test]
+fn few_of_many_requests_fail(rt: HostRuntime) -> Result<(), Fail> {
+    let lines = "request 1
+request 2
+request 3
+request 4
+request 5
+request 6
+request 7
+request 8
+start 1 leg 0 on 0 over 0 as 1
+start 2 leg 0 on 0 over 0 as 2
+failed 2
+start 1 leg 0 on 0 over 0 as 1
+failed 1
+start 1 leg 0 on 0 over 0 as 1
+start 2 leg 0 on 0 over 0 as 2
+failed 2
+take 1 status 11 .
+start 2 leg 0 on 0 over 0 as 1
+start 3 leg 0 on 0 over 0 as 2
+failed 2
+";
+    assert!(rt; is_answered(rt.alloc(), PLAIN, &FEW_OF_MANY, lines)?);
+    Ok(())
+}
+
 /// A name, one that is never asked, and a text that is no name: the last two have ended before the cancel.
 const CANCELLED: [Call<'static>; 9] = [
     ASK,

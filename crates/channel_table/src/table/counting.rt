@@ -152,7 +152,7 @@ pub fn count_sides<T: Token>(rows: &VecDeque<Held<T>>, sought: Sought<'_>) -> u6
 }
 
 /// How many sides of the row are counted.
-fn count_in<T: Token>(row: &Row<T>, sought: Sought<'_>) -> u64
+pub fn count_in<T: Token>(row: &Row<T>, sought: Sought<'_>) -> u64
     ensures value { result ≡ sought_in sought.entry row.now }
     ensures few { result ≤ 2 }
 {

@@ -8,7 +8,7 @@ ghost use Rattle.channel_table.specs.Failing.{answer_over, fails_at, kept_of, ti
 
 use super::taking::pop_first;
 use crate::held::{Held, row_at};
-use crate::row::After;
+use crate::row::{After, Row};
 use crate::side::Hits;
 use chan_types::{Answer, Bytes, NoMemory, Status, Ticket, Token};
 use channel_model::Judged;
@@ -33,17 +33,31 @@ pub fn answers_over<T: Token>(
 {
     let mut answers = Vec::with_capacity(alloc, rows.len())?;
     for index in 0..rows.len() {
-        let answer = row_at(rows, index).answer_behind(
-            alloc,
-            options,
-            Hits::Over(server, link),
-            Judged::Failed(Status::ConnRefused),
-            &[],
-            most,
-        )?;
+        let answer = answer_over(alloc, options, row_at(rows, index), server, link, most)?;
         answers.push(answer)?;
     }
     Ok(answers)
+}
+
+/// The answer that the current candidate of the row then has, if it has one.
+pub fn answer_over<T: Token>(
+    alloc: Global,
+    options: &Options,
+    row: &Row<T>,
+    server: u32,
+    link: u64,
+    most: u32,
+) -> Result<Option<Answer>, NoMemory>
+    ensures { IfOk result (λ answer. answer ≡ answer_over options.now server link most row.now) }
+{
+    row.answer_behind(
+        alloc,
+        options,
+        Hits::Over(server, link),
+        Judged::Failed(Status::ConnRefused),
+        &[],
+        most,
+    )
 }
 
 /// Fails the attempts that went to this server over this link, where a leg may spend so many attempts and the rows'

@@ -39,11 +39,11 @@ pub fn add_attempt(
     ensures err { OnErr result (flown.new ≡ flown.old) }
     ensures same { OnErr result ((s l : ℕ) → used s l links.new ≡ used s l links.old) }
 {
-    links.begin(server, link)?;
+    links.begin(server, link, id)?;
     match flown.add(leg, id, due) {
         Ok(()) => Ok(()),
         Err(NoMemory) => {
-            links.end(server, link);
+            links.end(server, link, id);
             Err(NoMemory)
         }
     }
@@ -55,7 +55,7 @@ fn end_side(links: &mut Links, side: &Side)
         → used server link links.new ≡ used server link links.old - over_of server link side.now }
 {
     if let Phase::InFlight(flying) = side.leg.phase {
-        links.end(flying.server, flying.link);
+        links.end(flying.server, flying.link, flying.id);
     }
 }
 

@@ -125,16 +125,11 @@ impl<T: Token> Table<T> {
     pub fn fault(&mut self, seat: u64, server: u32, link: u64, at: u64) -> Result<u64, NoMemory>
         ensures { Happens (Fails server link at result) seat 0 self.old self.new }
     {
-        let count = self.rows.count_over(server, link);
         let most = most_attempts(&self.options, &self.list);
         make_room(&mut self.entries, self.rows.len(), self.ready.len())?;
-        let answers = self
-            .rows
-            .answers_over(self.alloc, &self.options, server, link, most)?;
-        self.rows.fail_all(
+        let count = self.rows.fail_all(
             self.alloc,
             &self.options,
-            answers,
             &mut self.ready,
             server,
             link,

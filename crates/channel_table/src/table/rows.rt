@@ -9,7 +9,7 @@ ghost use Rattle.query_machine.specs.Legs.{attempt_from};
 ghost use Rattle.channel_table.specs.Apart.{IsApart};
 ghost use Rattle.channel_table.specs.Arriving.{Finds};
 ghost use Rattle.channel_table.specs.Ends.{EndsRow};
-ghost use Rattle.channel_table.specs.Failing.{answer_over, fails_at, kept_of, ticket_made};
+ghost use Rattle.channel_table.specs.Failing.{IsUnanswered, fails_at, kept_of, ticket_made};
 ghost use Rattle.channel_table.specs.Linked.{HasOneLink};
 ghost use Rattle.channel_table.specs.Listed.{key_of};
 ghost use Rattle.channel_table.specs.Listing.{left_in, row_set};
@@ -19,14 +19,16 @@ ghost use Rattle.channel_table.specs.Soonest.{IsSoonest, dues};
 ghost use Rattle.channel_table.specs.Starting.{BeginsRow, FindsIdle, IsFree, WaitsAt, row_has_id, row_links};
 ghost use Rattle.channel_table.specs.Strays.{IsNumbered, IsOnlyWith, id_of};
 
-use super::counting::{Sought, Tally, count_sides, tally_left};
-use super::ending::{complete_all, end_row};
+use super::counting::{Sought, Tally, count_sides};
+use super::ending::complete_all;
 use super::failing::{answers_over, fail_all};
 use super::finding::{find_row, first_idle, key_of, leave_waiting, list_all, list_staying};
 use super::flown::{Flown, forget_all, forget_left, forget_over, key_of_side};
+use super::found::end_found;
 use super::landing::{Landing, id_of, row_landing};
-use super::linked::{add_attempt, end_attempts, end_left, end_over};
+use super::linked::{add_attempt, end_left, end_over};
 use super::listing::set_rows;
+use super::marking::{are_few, fail_marked, indexes_over, marks_at};
 use super::seeking::{Soonest, find_soonest, side_due};
 use super::starting::{Idle, begin, find_idle};
 use crate::held::{Held, row_at};
@@ -294,34 +296,11 @@ impl<T: Token> Rows<T> {
         self.tally.flying
     }
 
-    /// How many attempts are in flight on this server over this link.
-    pub fn count_over(&self, server: u32, link: u64) -> u64
-        ensures { result ≡ sum_by (over_in server link) self.now }
-    {
-        count_sides(&self.list, Sought::Over(server, link))
-    }
-
     /// How many attempts are in flight on servers that aren't in this list.
     pub fn count_left(&self, list: &[ServerKey]) -> u64
         ensures { result ≡ sum_by (left_in list.now) self.now }
     {
         count_sides(&self.list, Sought::Left(list))
-    }
-
-    /// The answers that the current candidates have where the attempts fail that went to this server over this link,
-    /// and a leg may spend so many attempts: none for a row that goes on.
-    pub fn answers_over(
-        &self,
-        alloc: Global,
-        options: &Options,
-        server: u32,
-        link: u64,
-        most: u32,
-    ) -> Result<Vec<Option<Answer>>, NoMemory>
-        ensures { IfOk result
-            (λ answers. answers.items ≡ map (answer_over options.now server link most) self.now) }
-    {
-        answers_over(alloc, options, &self.list, server, link, most)
     }
 
     /// Ends the attempts of the row at this index that an entry concerns, which meant this and came with this reply or
@@ -349,20 +328,13 @@ impl<T: Token> Rows<T> {
         ensures capacity { deque_capacity ready.new ≡ deque_capacity ready.old }
     {
         list_staying(row_at(&self.list, index), &answer, &mut self.waiting)?;
-        self.flown
-            .forget_ended(row_at(&self.list, index), concerned, &answer);
-        end_attempts(
-            &mut self.links,
-            row_at(&self.list, index),
-            concerned,
-            &answer,
-        );
-        let len = self.list.len();
-        let before = Tally::of_row(row_at(&self.list, index));
-        end_row(
+        self.tally = end_found(
             alloc,
             options,
             &mut self.list,
+            &mut self.flown,
+            &mut self.links,
+            self.tally,
             ready,
             index,
             concerned,
@@ -371,24 +343,119 @@ impl<T: Token> Rows<T> {
             most,
             answer,
         );
-        let behind = tally_left(&self.list, index, len);
-        self.tally = self.tally.moved(before, behind);
         Ok(())
     }
 
-    /// Fails the attempts that went to this server over this link, where a leg may spend so many attempts and the rows'
-    /// current candidates then have these answers: the rows that go on are kept in order, and the others get ready.
+    /// Fails the attempts that went to this server over this link, where a leg may spend so many attempts, and answers
+    /// how many there were: the rows that go on are kept in order, and the others get ready.
     pub fn fail_all(
         &mut self,
         alloc: Global,
         options: &Options,
-        answers: Vec<Option<Answer>>,
+        ready: &mut VecDeque<Ticket<T>>,
+        server: u32,
+        link: u64,
+        most: u32,
+    ) -> Result<u64, NoMemory>
+        requires unanswered { AllByRecursion (IsUnanswered options.now) self.old }
+        requires room { length self.old + deque_len ready.old ≤ deque_capacity ready.old }
+        ensures rows { OnOk result (self.new
+            ≡ filter_map kept_of (map (fails_at options.now server link most) self.old)) }
+        ensures tickets { OnOk result (ready.new.items ≡ ready.old.items
+            ++ filter_map ticket_made (map (fails_at options.now server link most) self.old)) }
+        ensures count { IfOk result (λ count. count ≡ sum_by (over_in server link) self.old) }
+        ensures err { OnErr result ((self.new ≡ self.old) × (ready.new ≡ ready.old)) }
+        ensures fewer { length self.new ≤ length self.old }
+        ensures len { length self.new + deque_len ready.new ≡ length self.old + deque_len ready.old }
+        ensures capacity { deque_capacity ready.new ≡ deque_capacity ready.old }
+    {
+        let count = self.links.count(server, link);
+        if count == 0 {
+            return Ok(0);
+        }
+        if self.fail_few(alloc, options, ready, server, link, most, count)? {
+            return Ok(count);
+        }
+        self.fail_each(alloc, options, ready, server, link, most)?;
+        Ok(count)
+    }
+
+    /// The same where so many such attempts are few, and the rows that have them are found without a look at others.
+    /// Answers whether that was so: else nothing changed.
+    fn fail_few(
+        &mut self,
+        alloc: Global,
+        options: &Options,
+        ready: &mut VecDeque<Ticket<T>>,
+        server: u32,
+        link: u64,
+        most: u32,
+        count: u64,
+    ) -> Result<bool, NoMemory>
+        requires unanswered { AllByRecursion (IsUnanswered options.now) self.old }
+        requires room { length self.old + deque_len ready.old ≤ deque_capacity ready.old }
+        requires count { count ≡ sum_by (over_in server link) self.old }
+        ensures rows { IfOk result (λ found. found ≡ true → self.new
+            ≡ filter_map kept_of (map (fails_at options.now server link most) self.old)) }
+        ensures tickets { IfOk result (λ found. found ≡ true → ready.new.items ≡ ready.old.items
+            ++ filter_map ticket_made (map (fails_at options.now server link most) self.old)) }
+        ensures not { IfOk result (λ found. found ≡ false
+            → (self.new ≡ self.old) × (ready.new ≡ ready.old)) }
+        ensures err { OnErr result ((self.new ≡ self.old) × (ready.new ≡ ready.old)) }
+        ensures fewer { length self.new ≤ length self.old }
+        ensures len { length self.new + deque_len ready.new ≡ length self.old + deque_len ready.old }
+        ensures capacity { deque_capacity ready.new ≡ deque_capacity ready.old }
+    {
+        if !are_few(count, self.list.len()) {
+            return Ok(false);
+        }
+        let indexes = indexes_over(
+            alloc,
+            &self.list,
+            &self.flown.flights,
+            &self.links,
+            server,
+            link,
+        )?;
+        let found = marks_at(
+            alloc,
+            options,
+            &self.list,
+            &mut self.waiting,
+            indexes.as_slice(),
+            server,
+            link,
+            most,
+        )?;
+        if found.count != count {
+            return Ok(false);
+        }
+        fail_marked(
+            alloc,
+            options,
+            &mut self.list,
+            &mut self.flown,
+            &mut self.links,
+            &mut self.tally,
+            found.marks,
+            ready,
+            server,
+            link,
+            most,
+        );
+        Ok(true)
+    }
+
+    /// The same by a look at each row.
+    fn fail_each(
+        &mut self,
+        alloc: Global,
+        options: &Options,
         ready: &mut VecDeque<Ticket<T>>,
         server: u32,
         link: u64,
         most: u32,
     ) -> Result<(), NoMemory>
-        requires answers { answers.items ≡ map (answer_over options.now server link most) self.old }
         requires room { length self.old + deque_len ready.old ≤ deque_capacity ready.old }
         ensures rows { OnOk result (self.new
             ≡ filter_map kept_of (map (fails_at options.now server link most) self.old)) }
@@ -399,6 +466,7 @@ impl<T: Token> Rows<T> {
         ensures len { length self.new + deque_len ready.new ≡ length self.old + deque_len ready.old }
         ensures capacity { deque_capacity ready.new ≡ deque_capacity ready.old }
     {
+        let answers = answers_over(alloc, options, &self.list, server, link, most)?;
         let kept = VecDeque::with_capacity(alloc, self.list.len())?;
         self.unlisted = true;
         forget_over(

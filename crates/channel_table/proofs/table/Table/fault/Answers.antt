@@ -12,7 +12,10 @@ use Rattle.channel_table.proofs.FailureSteps.{past_of-length}
 use Rattle.channel_table.proofs.Failing.{counted_faulted, counted_over, failed_count, table_failed}
 use Rattle.channel_table.proofs.Keeping.{few_closed, happens_by, kept_grown, kept_more, no_more}
 use Rattle.channel_table.specs.Counted.{AreCounted}
+use Rattle.channel_model.proofs.Theorems.{each-then}
+use Rattle.channel_table.specs.Failing.{IsUnanswered}
 use Rattle.channel_table.specs.Kept.{setting_of}
+use Rattle.channel_table.specs.Rows.{RowStands}
 use Rattle.channel_table.specs.declared.row.Row.{Row}
 use Rattle.channel_table.proofs.table.Table.fault.Goals as goal
 
@@ -24,13 +27,17 @@ pub most_attempts-most-requires-clause-few : goal.most_attempts-most-requires-cl
 most_attempts-most-requires-clause-few g c =
     list_few (setting_of c.self.inside) (past_of c.self.inside.entries.items) c.self.inside.list c.self.inside.servers c.self.inside.greatest_key c.self.inside.greatest_link c.self.inside.started c.self.invariant.counted c.self.invariant.limits c.self.invariant.lawful.allowed
 
+pub fail_all-requires-clause-unanswered : goal.fail_all-requires-clause-unanswered
+fail_all-requires-clause-unanswered g c =
+    each-then (RowStands g.T.Token.plan (setting_of c.self.inside) (past_of c.self.inside.entries.items)) (IsUnanswered c.self.inside.options) c.self.inside.rows (λ row stands. stands.unanswered) c.self.invariant.stands.each_row
+
 pub count_fault-requires : goal.count_fault-requires
 count_fault-requires g c =
     let past : Past = past_of c.self.inside.entries.items in
     let setting : Setting = setting_of c.self.inside in
     let rows : List (Row g.row.T.Denot) = c.self.inside.rows in
     let tickets : List (Ticket g.row.T.Denot) = c.self.inside.ready.items in
-    let count = c.count_over-count.ensures in
+    let count = c.in_ok-count.ensures.count in
     let what : What = Fault c.args.server c.args.link c.args.at in
     let entry : Entry = record { seat = c.args.seat; by = 0; what = what } in
     let added : c.push_reserved.new.self.items ≡ c.self.inside.entries.items ++ entry ∷ [] = c.push_reserved.ensures.items ∙ ap (λ es. es ++ entry ∷ []) c.make_room.ensures.items in
@@ -46,7 +53,7 @@ invariant_of-self-2 g c =
     let setting : Setting = setting_of c.self.inside in
     let rows : List (Row g.row.T.Denot) = c.self.inside.rows in
     let tickets : List (Ticket g.row.T.Denot) = c.self.inside.ready.items in
-    let count = c.count_over-count.ensures in
+    let count = c.in_ok-count.ensures.count in
     let what : What = Fault c.args.server c.args.link c.args.at in
     let entry : Entry = record { seat = c.args.seat; by = 0; what = what } in
     let added : c.push_reserved.new.self.items ≡ c.self.inside.entries.items ++ entry ∷ [] = c.push_reserved.ensures.items ∙ ap (λ es. es ++ entry ∷ []) c.make_room.ensures.items in
@@ -54,9 +61,9 @@ invariant_of-self-2 g c =
     let room = c.in_ok-make_room.ensures in
     let small : length past + 1 < 2 ^ 64 = omega (arith, past_of-length c.self.inside.entries.items, c.push_reserved.ensures.len, c.make_room.ensures.len) in
     let counted = counted_faulted g.T.Token.plan setting past c.args.server c.args.link c.args.at c.most_attempts-most.result may_spend c.most_attempts-most.ensures.few rows tickets
-    c.self.inside.list c.self.inside.servers c.self.inside.greatest_key c.self.inside.greatest_link c.self.inside.started c.count_over-count.result c.self.invariant.stands c.self.invariant.counted small count in
+    c.self.inside.list c.self.inside.servers c.self.inside.greatest_key c.self.inside.greatest_link c.self.inside.started c.in_ok-count.count c.self.invariant.stands c.self.invariant.counted small count in
     kept_more g.T.Token.plan c.self.inside _ entry refl added c.self.invariant tt
-    (rw (c.in_ok-fail_all.ensures.rows, c.in_ok-fail_all.ensures.tickets) (table_failed g.T.Token.plan setting past c.args.server c.args.link c.args.at c.most_attempts-most.result may_spend c.most_attempts-most.ensures.few rows tickets c.self.invariant.stands))
+    (rw (c.in_ok-count.ensures.rows, c.in_ok-count.ensures.tickets) (table_failed g.T.Token.plan setting past c.args.server c.args.link c.args.at c.most_attempts-most.result may_spend c.most_attempts-most.ensures.few rows tickets c.self.invariant.stands))
     (subst (λ (s : List Failing). AreCounted setting (Fault c.args.server c.args.link c.args.at ∷ past) c.self.inside.list s c.self.inside.greatest_key c.self.inside.greatest_link c.self.inside.started) (sym c.count_fault.ensures) counted)
     (no_more (Fault c.args.server c.args.link c.args.at) past refl ∙ c.self.invariant.accepts) c.self.invariant.destroyed
     (omega (arith, c.self.invariant.few, c.push_reserved.ensures.len, c.make_room.ensures.len)) (omega (arith, c.self.invariant.few_links, c.push_reserved.ensures.len, c.make_room.ensures.len)) (omega (arith, c.self.invariant.few_starts, c.push_reserved.ensures.len, c.make_room.ensures.len))
@@ -69,15 +76,15 @@ returns g c =
     let setting : Setting = setting_of c.self.inside in
     let rows : List (Row g.row.T.Denot) = c.self.inside.rows in
     let tickets : List (Ticket g.row.T.Denot) = c.self.inside.ready.items in
-    let count = c.count_over-count.ensures in
+    let count = c.in_ok-count.ensures.count in
     let what : What = Fault c.args.server c.args.link c.args.at in
     let entry : Entry = record { seat = c.args.seat; by = 0; what = what } in
     let added : c.push_reserved.new.self.items ≡ c.self.inside.entries.items ++ entry ∷ [] = c.push_reserved.ensures.items ∙ ap (λ es. es ++ entry ∷ []) c.make_room.ensures.items in
     let may_spend = attempts_are setting past c.self.inside.list c.self.inside.servers c.self.inside.greatest_key c.self.inside.greatest_link c.self.inside.started c.self.invariant.counted c.self.invariant.limits c.self.invariant.lawful.allowed ∙ sym c.most_attempts-most.ensures.value in
-    let means : Fails c.args.server c.args.link c.args.at (Ok c.count_over-count.result) setting past (Some what) =
+    let means : Fails c.args.server c.args.link c.args.at (Ok c.in_ok-count.count) setting past (Some what) =
     (refl, count ∙ sym (failed_count g.T.Token.plan setting past c.args.server c.args.link c.args.at c.most_attempts-most.result may_spend c.most_attempts-most.ensures.few rows tickets c.self.invariant.stands)) in
-    rw (← c.self.view_is) (happens_by g.T.Token.plan (Fails c.args.server c.args.link c.args.at (Ok c.count_over-count.result)) c.self.inside c.push_reserved.new.self.items c.args.seat 0 what added c.self.invariant tt means)
+    rw (← c.self.view_is) (happens_by g.T.Token.plan (Fails c.args.server c.args.link c.args.at (Ok c.in_ok-count.count)) c.self.inside c.push_reserved.new.self.items c.args.seat 0 what added c.self.invariant tt means)
 
-pub invariant_of-self-in_err-fail_all : goal.invariant_of-self-in_err-fail_all
-invariant_of-self-in_err-fail_all g c =
-    kept_grown g.T.Token.plan c.self.inside _ (rw (c.in_err-fail_all.ensures.err.0, c.in_err-fail_all.ensures.err.1) refl) c.make_room.ensures.items c.make_room.ensures.len c.make_room.ensures.capacity c.self.invariant
+pub invariant_of-self-in_err-count : goal.invariant_of-self-in_err-count
+invariant_of-self-in_err-count g c =
+    kept_grown g.T.Token.plan c.self.inside _ (rw (c.in_err-count.ensures.err.0, c.in_err-count.ensures.err.1) refl) c.make_room.ensures.items c.make_room.ensures.len c.make_room.ensures.capacity c.self.invariant

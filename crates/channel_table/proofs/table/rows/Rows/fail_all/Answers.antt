@@ -1,17 +1,28 @@
-use Rattle.std.proofs.Common.{◌≡◌, ◌∙◌, ap, map, sym, true, false, []}
-use Rattle.chan_types.specs.declared.status.Status.TheVariants.{ConnRefused}
-use Rattle.channel_model.specs.declared.judged.Judged.TheVariants.{Failed}
-use Rattle.channel_table.proofs.IndexLemmas.{after_number, kept_rising}
-use Rattle.channel_table.specs.Failing.{answer_over, fails_at}
-use Rattle.channel_table.specs.declared.side.Hits.TheVariants.{Over}
+use Rattle.std.proofs.Common.{List, ap, arith, sym, ◌++◌, ◌∙◌}
+use Rattle.std.proofs.lemmas.List.{append-nil}
+use Rattle.std.specs.List.{sum_by}
+use Rattle.chan_types.specs.declared.ticket.Ticket.{Ticket}
+use Rattle.channel_table.proofs.FailSteps.{none_fails}
+use Rattle.channel_table.proofs.LinkedLemmas.{link_fits}
+use Rattle.channel_table.specs.Rows.{over_in}
+use Rattle.channel_table.specs.declared.row.Row.{Row}
 use Rattle.channel_table.proofs.table.rows.Rows.fail_all.Goals as goal
 
-pub invariant_of-self : goal.invariant_of-self
-invariant_of-self g c = record {
-  rising = rw c.fail_all.ensures.rows (kept_rising (fails_at c.args.options.now c.args.server c.args.link c.args.most)
-      (λ row new is. after_number c.args.options.now.flags (Over c.args.server c.args.link) (Failed ConnRefused) [] c.args.most row new (answer_over c.args.options.now c.args.server c.args.link c.args.most row) is) c.self.inside.list.items c.self.invariant.rising);
-  flown = rw c.fail_all.ensures.rows ((rw c.as_slice.ensures.value at c.forget_over.ensures) c.args.options.now c.args.most (c.requires.answers ∙ ap (map (answer_over c.args.options.now c.args.server c.args.link c.args.most)) (sym c.self.view_is)) c.self.invariant.flown);
-  linked = rw c.fail_all.ensures.rows ((rw c.as_slice-2.ensures.value at c.end_over.ensures) c.args.options.now c.args.most (c.requires.answers ∙ ap (map (answer_over c.args.options.now c.args.server c.args.link c.args.most)) (sym c.self.view_is)) c.self.invariant.linked);
-  listed = λ on. absurd (let t : true ≡ false = on in cc);
-  tally = c.of_rows-self-inside.ensures;
-}
+pub count-count-requires : goal.count-count-requires
+count-count-requires g c =
+    let rows : List (Row g.row.T.Denot) = c.self.inside.list.items in
+    let fits = link_fits c.self.inside.links rows c.self.invariant.linked (omega (arith, c.self.inside.list.ok.0, c.self.inside.list.small.0, c.self.inside.list.small.1)) c.args.server c.args.link in
+    record { fits = omega (arith, fits) }
+
+pub returns-then-count-eq0-clause-rows : goal.returns-then-count-eq0-clause-rows
+returns-then-count-eq0-clause-rows g c =
+    let rows : List (Row g.row.T.Denot) = c.args.self.now in
+    let none = ap (sum_by (over_in c.args.server c.args.link)) (sym c.self.view_is) ∙ sym (c.self.invariant.linked c.args.server c.args.link) ∙ sym c.count-count.ensures ∙ c.if-count-eq0.true in
+    sym (none_fails c.args.options.now c.args.server c.args.link c.args.most rows c.requires.unanswered none).0
+
+pub returns-then-count-eq0-clause-tickets : goal.returns-then-count-eq0-clause-tickets
+returns-then-count-eq0-clause-tickets g c =
+    let rows : List (Row g.row.T.Denot) = c.args.self.now in
+    let tickets : List (Ticket g.row.T.Denot) = c.args.ready.now.items in
+    let none = ap (sum_by (over_in c.args.server c.args.link)) (sym c.self.view_is) ∙ sym (c.self.invariant.linked c.args.server c.args.link) ∙ sym c.count-count.ensures ∙ c.if-count-eq0.true in
+    sym (append-nil tickets) ∙ ap (λ ts. tickets ++ ts) (sym (none_fails c.args.options.now c.args.server c.args.link c.args.most rows c.requires.unanswered none).1)
