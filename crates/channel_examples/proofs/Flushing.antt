@@ -1,4 +1,4 @@
--- When a link is flushed: all is written, or the last write took no byte.
+-- When a link is flushed: all is written, or the last write took no byte, though it had one.
 use Rattle.std.proofs.Common.{◌≡◌, List, [], ◌∷◌, true, false, refl}
 use Rattle.net_world.specs.declared.answers.Wrote.TheVariants.{Count}
 use Rattle.net_world.specs.declared.log.WorldCall.{WorldCall}
@@ -19,6 +19,10 @@ not_flushed = refl
 
 pub took_none : is_flushed (λ number. 6 ∷ []) [] (Write 1 (5 ∷ 6 ∷ []) (Count 1) ∷ Write 1 (6 ∷ []) (Count 0) ∷ []) link ≡ true
 took_none = refl
+
+-- a write that had no byte shows nothing
+pub nothing_offered : is_flushed (λ number. 6 ∷ []) [] (Write 1 (5 ∷ 6 ∷ []) (Count 1) ∷ Write 1 [] (Count 0) ∷ []) link ≡ false
+nothing_offered = refl
 
 pub other_took_none : is_flushed (λ number. 6 ∷ []) [] (Write 1 (5 ∷ 6 ∷ []) (Count 1) ∷ Write 2 (6 ∷ []) (Count 0) ∷ []) link ≡ false
 other_took_none = refl

@@ -14,7 +14,7 @@ use Rattle.net_world.specs.declared.answers.Wrote.{Wrote}
 use Rattle.net_world.specs.declared.answers.Wrote.TheVariants.{Count, Failed as NotWritten}
 use Rattle.net_world.specs.declared.log.WorldCall.{WorldCall}
 use Rattle.net_world.specs.declared.log.WorldCall.TheVariants.{Close, Connect, Now, Receive, Send, Serve, Wait, Word, Write}
-use Rattle.channel_model.specs.Calls.{closed_by, connected_by, drawn_by, received_by, sent_by, written_by}
+use Rattle.channel_model.specs.Calls.{Writing, closed_by, connected_by, drawn_by, received_by, sent_by, written_by}
 use Rattle.channel_model.specs.Completion.{waiting}
 use Rattle.channel_model.specs.CutShort.{IsNear, NearlyAgrees}
 use Rattle.channel_model.specs.Flight.{begun_by, closes, in_flight, went_over}
@@ -241,22 +241,26 @@ is_expire (Servers list) = false
 abbrev pub expired_in : ℕ → List Entry → ℕ
 expired_in seat entries = count_by (λ entry. is_expire entry.what) (own_entries seat entries)
 
--- what the writes to a link answered
-abbrev pub wrotes : ℕ → List Link → WorldCall → List Wrote
-wrotes link held call = option_map_or (λ writing. if writing.link == link then writing.outcome ∷ [] else []) (written_by call) []
+-- the writes to a link: what was to go to it, and what they answered
+abbrev pub wrotes : ℕ → List Link → WorldCall → List Writing
+wrotes link held call = option_map_or (λ writing. if writing.link == link then writing ∷ [] else []) (written_by call) []
 
--- the write took no byte
-abbrev pub took_nothing : Wrote → Bool
-took_nothing (Count count) = count == 0
-took_nothing NotWritten = false
+-- no byte was taken
+abbrev pub took_none : Wrote → Bool
+took_none (Count count) = count == 0
+took_none NotWritten = false
 
--- the last of these writes took no byte
-abbrev pub last_took_nothing : List Wrote → Bool
+-- a byte was to go to the link, and none was taken
+abbrev pub took_nothing : Writing → Bool
+took_nothing made = not (length made.bytes == 0) && took_none made.outcome
+
+-- the last of these writes took no byte, though it had one
+abbrev pub last_took_nothing : List Writing → Bool
 last_took_nothing [] = false
 last_took_nothing (wrote ∷ []) = took_nothing wrote
 last_took_nothing (wrote ∷ next ∷ rest) = last_took_nothing (next ∷ rest)
 
--- nothing is left to be written to the link, or the last of these writes to it took no byte
+-- nothing is left to be written to the link, or the last of these writes to it took no byte, though it had one
 abbrev pub is_flushed : (ℕ → List ℕ) → List Link → List WorldCall → Link → Bool
 is_flushed unwritten held calls link = (length (unwritten link.number) == 0) || last_took_nothing (told (wrotes link.number) held calls)
 
@@ -327,7 +331,7 @@ module _ (setting : Setting) where
       pub served : noted seat served_by old.past entries ≡ told serves old.held calls
       pub served_first : IsTrue (are_served_first calls)
 
-    -- it writes what is framed, until nothing is left or the World takes no byte, and closes the held links that fail
+    -- it writes what is framed, until nothing is left or the World takes no byte of what it is given, and closes the held links that fail
     pub record HasWritten (old : Standing) (entries : List Entry) (calls : List WorldCall) (new : Standing) : Type 0 where
       pub agrees : Agrees setting seat old entries calls new
       pub alone : IsTrue (are_of writing seat reading entries calls)

@@ -8,7 +8,7 @@ use Rattle.std.proofs.lemmas.List.{append-nil, map-append}
 use Rattle.std.proofs.lemmas.List.Folds.{list_all-append}
 use Rattle.chan_types.specs.declared.journal.Entry.{Entry}
 use Rattle.item_list.specs.declared.no_memory.NoMemory.{NoMemory}
-use Rattle.net_world.specs.declared.answers.Wrote.{Wrote}
+use Rattle.channel_model.specs.Calls.{Writing}
 use Rattle.net_world.specs.declared.answers.Wrote.TheVariants.{Failed as NotWritten}
 use Rattle.net_world.specs.declared.log.WorldCall.{WorldCall}
 use Rattle.net_world.specs.declared.log.WorldCall.TheVariants.{Close, Write}
@@ -189,7 +189,7 @@ module _ (reading : ℕ) where
             ∙ and_from _ _ earlier (and_from _ _ (ap (λ n. is_done (z.unwritten n) (told (wrotes n) x.held (cs ++ ds))) next.2 ∙ here) refl);
       }) a b c
     where
-      by_last : (b : Bool) (xs ys all : List Wrote) → all ≡ xs ++ ys → (b || last_took_nothing ys) ≡ true → (b || last_took_nothing all) ≡ true
+      by_last : (b : Bool) (xs ys all : List Writing) → all ≡ xs ++ ys → (b || last_took_nothing ys) ≡ true → (b || last_took_nothing all) ≡ true
       by_last true xs ys all is h = refl
       by_last false xs ys all is h = ap last_took_nothing is ∙ last_behind xs ys h
 

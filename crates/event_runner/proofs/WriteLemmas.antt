@@ -14,6 +14,7 @@ use Rattle.net_world.specs.declared.log.WorldCall.TheVariants.{Close, Write}
 use Rattle.channel_model.proofs.Theorems.{agrees_nearly, flight-cases, agrees_written, AreOthers, agrees_step, noted-others, noted-own}
 use Rattle.channel_model.proofs.Theorems.{without_taken}
 use Rattle.channel_model.specs.Adding.{Row, link_of_row}
+use Rattle.channel_model.specs.Calls.{Writing}
 use Rattle.channel_model.specs.Journal.{followed_by}
 use Rattle.channel_model.specs.Known.{Calls, Known}
 use Rattle.channel_model.specs.Links.{held_after, held_link, told, without_link}
@@ -68,8 +69,8 @@ stops_as one cut a b c known log as_cut x =
         subst (λ l. Stops cut a (record c { log = l })) (sym log) (subst (λ k. Stops cut a (record { known = k; rows = c.rows; told = c.told; mix = c.mix; log = b.log })) (sym known)
         (record { goes_on = s.goes_on; made = s.made; told = s.told }))
 
--- the last of the answers took nothing
-pub last_behind : (xs ys : List Wrote) → last_took_nothing ys ≡ true → last_took_nothing (xs ++ ys) ≡ true
+-- the last of the writes took nothing
+pub last_behind : (xs ys : List Writing) → last_took_nothing ys ≡ true → last_took_nothing (xs ++ ys) ≡ true
 last_behind [] ys h = h
 last_behind (x ∷ []) [] h = absurd (true≢false (sym h))
 last_behind (x ∷ []) (y ∷ ys) h = h
@@ -121,7 +122,7 @@ module _ (reading : ℕ) where
         flushed = by_last (length (z.unwritten number) == 0) (told (wrotes number) x.held cs) (told (wrotes number) y.held ds) (told (wrotes number) x.held (cs ++ ds)) (told_both (wrotes number) setting seat x y es cs ds p.writes.within.agrees) q.flushed;
       }) a b c
     where
-      by_last : (b : Bool) (xs ys all : List Wrote) → all ≡ xs ++ ys → (b || last_took_nothing ys) ≡ true → (b || last_took_nothing all) ≡ true
+      by_last : (b : Bool) (xs ys all : List Writing) → all ≡ xs ++ ys → (b || last_took_nothing ys) ≡ true → (b || last_took_nothing all) ≡ true
       by_last true xs ys all is h = refl
       by_last false xs ys all is h = ap last_took_nothing is ∙ last_behind xs ys h
 
@@ -143,6 +144,10 @@ module _ (reading : ℕ) where
 
     abbrev left_row : ℕ → Row
     left_row count = record row { unwritten = drop count row.unwritten }
+
+    -- the write of all that is left, with this answer
+    abbrev offer : Wrote → Writing
+    offer outcome = record { link = row.number; bytes = row.unwritten; outcome = outcome }
 
     sound_wrote : (setting : Setting) (count : ℕ) (s : Standing) (others : AreOthers known.seat []) → Sound setting (before ++ row ∷ after) keys s →
         Sound setting (before ++ left_row count ∷ after) keys (record { past = s.past; held = s.held; unwritten = without_taken setting known.seat s [] others row.number row.unwritten count })
@@ -172,7 +177,7 @@ module _ (reading : ℕ) where
 
     module _ (count : ℕ) (log more : Option (List WorldCall)) (got : Gets (Write row.number row.unwritten (Count count)) log more) where
       write_leads : (from : Standing) → Sound known.setting (before ++ row ∷ after) keys from → (to : Standing) × (to.past ≡ followed_by from.past []) × WritesTo reading row.number known.setting known.seat from [] (Write row.number row.unwritten (Count count) ∷ []) to
-          × (told (wrotes row.number) from.held (Write row.number row.unwritten (Count count) ∷ []) ≡ Count count ∷ []) × Sound known.setting (before ++ left_row count ∷ after) keys to
+          × (told (wrotes row.number) from.held (Write row.number row.unwritten (Count count) ∷ []) ≡ offer (Count count) ∷ []) × Sound known.setting (before ++ left_row count ∷ after) keys to
       write_leads from sound =
           let cs : List WorldCall = Write row.number row.unwritten (Count count) ∷ [] in
           let unwritten = each_split (λ (r : Row). from.unwritten r.number ≡ r.unwritten) before (row ∷ after) sound.unwritten_are in
@@ -202,20 +207,20 @@ module _ (reading : ℕ) where
           goes_alone (at_row row log) (at_row (left_row count) more) refl (Write row.number row.unwritten (Count count) ∷ []) got (WritesTo reading row.number) refl
           (λ from sound. let x = write_leads from sound in (x.0, x.1, x.2, x.4))
 
-    -- no byte was taken
-    pub goes_full : (log more : Option (List WorldCall)) → Gets (Write row.number row.unwritten (Count 0)) log more → Goes (Flushes reading row.number) (at_row row log) (at_row (left_row 0) more)
-    goes_full log more got =
+    -- no byte was taken, though there was one
+    pub goes_full : (log more : Option (List WorldCall)) → (length row.unwritten == 0) ≡ false → Gets (Write row.number row.unwritten (Count 0)) log more → Goes (Flushes reading row.number) (at_row row log) (at_row (left_row 0) more)
+    goes_full log more some got =
         goes_alone (at_row row log) (at_row (left_row 0) more) refl (Write row.number row.unwritten (Count 0) ∷ []) got (Flushes reading row.number) refl
         (λ from sound. let x = write_leads 0 log more got from sound in (
           x.0,
           x.1,
-          record { writes = x.2; flushed = taken (length (x.0.unwritten row.number) == 0) (told (wrotes row.number) from.held (Write row.number row.unwritten (Count 0) ∷ [])) x.3 },
+          record { writes = x.2; flushed = taken (length (x.0.unwritten row.number) == 0) (told (wrotes row.number) from.held (Write row.number row.unwritten (Count 0) ∷ [])) x.3 some },
           x.4,
         ))
       where
-        taken : (b : Bool) (answers : List Wrote) → answers ≡ Count 0 ∷ [] → (b || last_took_nothing answers) ≡ true
-        taken true answers is = refl
-        taken false answers is = ap last_took_nothing is
+        taken : (b : Bool) (writes : List Writing) → writes ≡ offer (Count 0) ∷ [] → (length row.unwritten == 0) ≡ false → (b || last_took_nothing writes) ≡ true
+        taken true writes is some = refl
+        taken false writes is some = ap last_took_nothing is ∙ rw some refl
 
     -- nothing is left
     pub goes_empty : (a : State) (log : Option (List WorldCall)) → row.unwritten ≡ [] → a.known.setting ≡ known.setting → Goes (WritesTo reading row.number) a (at_row row log) → Goes (Flushes reading row.number) a (at_row row log)
@@ -226,7 +231,7 @@ module _ (reading : ℕ) where
           flushed = nothing (to.unwritten row.number) (told (wrotes row.number) from.held cs) ((each_split (λ (r : Row). to.unwritten r.number ≡ r.unwritten) before (row ∷ after) later.unwritten_are).1.0 ∙ empty);
         }) x
       where
-        nothing : (unwritten : List ℕ) (answers : List Wrote) → unwritten ≡ [] → is_done unwritten answers ≡ true
+        nothing : (unwritten : List ℕ) (answers : List Writing) → unwritten ≡ [] → is_done unwritten answers ≡ true
         nothing unwritten answers is = rw is refl
 
   -- ---- a write that failed

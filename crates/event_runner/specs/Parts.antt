@@ -10,7 +10,7 @@ use Rattle.channel_model.specs.Adding.{Row}
 use Rattle.channel_model.specs.Known.{Known}
 use Rattle.channel_model.specs.Links.{Link, told}
 use Rattle.item_list.specs.declared.no_memory.NoMemory.{NoMemory}
-use Rattle.net_world.specs.declared.answers.Wrote.{Wrote}
+use Rattle.channel_model.specs.Calls.{Writing}
 use Rattle.net_world.specs.declared.answers.Wrote.TheVariants.{Failed as NotWritten}
 use Rattle.net_world.specs.declared.log.WorldCall.TheVariants.{Close, Write}
 use Rattle.event_runner.specs.Goes.{Goes, Stops}
@@ -150,8 +150,8 @@ LinksApart (link ∷ links) = IsTrue (list_all (λ other. not (link.number == ot
 abbrev pub is_closed : List ℕ → Link → Bool
 is_closed closes link = list_any (λ number. number == link.number) closes
 
--- a link is flushed: nothing is left to be written to it, or the last of these writes took no byte
-abbrev pub is_done : List ℕ → List Wrote → Bool
+-- a link is flushed: nothing is left to be written to it, or the last of these writes took no byte, though it had one
+abbrev pub is_done : List ℕ → List Writing → Bool
 is_done unwritten answers = (length unwritten == 0) || last_took_nothing answers
 
 module _ (reading : ℕ) where

@@ -105,7 +105,9 @@ impl Runner {
         ensures wait_fault { result ≡ Ok Paused.WaitFault
             → Rose (W.wait_faults world.old) (W.wait_faults world.new) }
         ensures kept { self.new ≡ record self.old { broken = self.old.broken || is_err result } }
-        ensures broken { IsTrue self.old.broken → IsTrue (is_err result) }
+        ensures broken { IsTrue self.old.broken
+            → IsTrue (is_err result) × (D.known desk.new ≡ D.known desk.old)
+            × (W.log world.new ≡ W.log world.old) }
         ensures waits { W.wait_faults world.old ≤ W.wait_faults world.new }
     {
         if self.broken {

@@ -1,4 +1,4 @@
-use Rattle.std.proofs.Common.{refl, ◌∙◌, ap, sym, length, eqb-true}
+use Rattle.std.proofs.Common.{refl, ◌∙◌, ◌==◌, ap, sym, length, eqb-true}
 use Rattle.event_runner.specs.Parts.{with_row}
 use Rattle.event_runner.proofs.WriteLemmas.{flush_err, flushed_as, goes_empty, goes_full, goes_wrote, no_bytes, to_as, to_cut, to_flushed, to_joined, to_none}
 use Rattle.event_runner.proofs.writing.flush.Goals as goal
@@ -16,6 +16,7 @@ returns-in-Count-eq0-clause-goes g c = λ reading known before after keys mix.
     to_flushed reading _ _ (with_row reading known before after keys mix c.loop-world.link (g.W.World.log c.loop-world.world)) _ (c.loop-world.invariant.goes reading known before after keys mix)
     (flushed_as reading _ _ _ _ c.loop-world.invariant.number
     (goes_full reading known before c.loop-world.link after keys mix _ _
+    (ap (λ bytes. length bytes == 0) (sym c.unwritten.ensures) ∙ sym c.is_empty.ensures ∙ c.loop-world-test.true)
     (rw (c.number.ensures, c.unwritten-in-loop-world.ensures, c.in-Count-eq0.is, c.in-Count-eq0.field-0-test) at c.in_ok-write.ensures.log)))
 
 pub loop-world-preserved : goal.loop-world-preserved

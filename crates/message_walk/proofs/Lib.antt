@@ -1,0 +1,6 @@
+mod FrontLemmas
+mod NamingLemmas
+mod NamesLemmas
+mod OptionLemmas
+mod SectionLemmas
+mod OutlineLemmas

@@ -1,0 +1,4 @@
+pub mod Telling
+pub mod Matching
+pub mod Sections
+pub mod Outlines
