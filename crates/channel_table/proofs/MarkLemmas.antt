@@ -1,5 +1,5 @@
 -- Which rows a Fault fails, where those are marked that have so many attempts as there are.
-use Rattle.std.proofs.Common.{◌≡◌, ◌≤◌, ◌<◌, ◌∙◌, ℕ, ◌+◌, ◌-◌, ◌==◌, true, false, List, [], ◌∷◌, ◌++◌, Option, refl, ap, sym, subst, take, drop, get_or, length, append_assoc, arith, length-drop, length-take-le, take-add, take-append-drop, true≢false}
+use Rattle.std.proofs.Common.{◌≡◌, ◌≤◌, ◌<◌, ◌∙◌, ℕ, ◌+◌, ◌-◌, ◌==◌, true, List, [], ◌∷◌, ◌++◌, Option, refl, ap, sym, subst, take, drop, get_or, length, append_assoc, arith, length-drop, length-take-le, take-add, take-append-drop, true≢false}
 use Rattle.std.proofs.lemmas.List.{take_more}
 use Rattle.std.proofs.lemmas.List.Sums.{sum_by-append, sum_by-cons, sum_by-take-drop, sum_by_push}
 use Rattle.std.specs.FinSet as set

@@ -5,14 +5,16 @@ mod judging;
 mod leg;
 mod querying;
 mod replies;
+mod reply;
 mod servers;
 mod waiting;
 
 pub use channel_model::Judged;
-pub use judging::verdict;
+pub use judging::{Terms, verdict};
 pub use leg::{Flying, Leg, Phase};
 pub use querying::query_bytes;
-pub use replies::{Reply, matching};
+pub use replies::judge;
+pub use reply::{Reply, matching};
 pub use servers::{FailureCount, Servers};
 pub use waiting::{attempts, wait_of};
 

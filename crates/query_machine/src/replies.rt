@@ -1,20 +1,18 @@
-//! Whether a message answers a query.
+//! What bytes mean that come for a query.
 
-ghost use Rattle.std.specs.Prelude.{◌≡◌, ◌+◌, ◌≤◌, ◌==◌, ◌^◌, ◌/◌, ◌%◌, if◌then◌else◌, Some, None, IfOk, length, option_map};
+ghost use Rattle.std.specs.Prelude.{◌≡◌, ◌+◌, ◌≤◌, ◌==◌, ◌^◌, ◌/◌, ◌%◌, Some, length, option_map};
 ghost use Rattle.byteorder.specs.Endian.{big_from};
-ghost use Rattle.channel_model.specs.Flight.{answer_to, answers, asks_only, repeats, equal_name};
-ghost use Rattle.channel_model.specs.Replies.{read_reply, reply_with};
-ghost use Rattle.edns_opt.specs.Reading.{opt_of};
+ghost use Rattle.channel_model.specs.Flight.{answer_to};
+ghost use Rattle.channel_model.specs.Verdict.{verdict_of};
 ghost use Rattle.dns_message.specs.Numbers.{has_bit};
-ghost use Rattle.dns_message.specs.Name.{same_name};
-ghost use Rattle.query_machine.specs.Replies.{reply_seen, may_answer};
+ghost use Rattle.query_machine.specs.Replies.{may_answer};
 
+use crate::judging::{Terms, judged_by};
 use byteorder::{BigEndian, ByteOrder};
+use channel_model::Judged;
+use dns_message::Question;
 use dns_message::numbers::{FLAG_QR, FLAGS_OPCODE};
-use dns_message::{Message, MessageFault, Name, Question, decode};
-use edns_opt::{EdnsFault, Opt, find};
-use item_list::NoMemory;
-use std::alloc::Global;
+use message_walk::read_outline;
 
 /// The length of a header (RFC 1035, section 4.1.1).
 const HEADER_LEN: usize = 12;
@@ -22,43 +20,26 @@ const HEADER_LEN: usize = 12;
 /// The lowest of the four bits that tell the kind of query, 0 for a standard one (RFC 1035, section 4.1.1).
 const OPCODE: u16 = FLAGS_OPCODE / 15;
 
-/// A message that answers a query, and what its OPT record says if it has one.
-#[derive(Debug, Drop)]
-pub struct Reply {
-    pub message: Message,
-    pub opt: Option<Opt>,
-}
-
-/// What the bytes say, where they answer the query of this identifier for this question: they are a message that is a
-/// response to a standard query (RFC 1035, section 4.1.1: QR 1, OPCODE 0), with the identifier and this question alone,
+/// What the bytes mean for a leg, where they answer the query of this identifier for this question: they are a message that
+/// is a response to a standard query (RFC 1035, section 4.1.1: QR 1, OPCODE 0), with the identifier and this question alone,
 /// and its OPT record, if it has one, can be read. The question's name agrees byte for byte where `exact` is set, else
-/// ignoring ASCII case.
-pub fn matching(
-    alloc: Global,
-    bytes: &[u8],
-    id: u16,
-    asked: &Question,
-    exact: bool,
-) -> Result<Option<Reply>, NoMemory>
-    ensures { IfOk result (λ found. option_map reply_seen found
-        ≡ answer_to id exact (Some asked.now) bytes.now) }
+/// ignoring ASCII case. It takes no memory.
+pub fn judge(bytes: &[u8], id: u16, asked: &Question, exact: bool, terms: Terms) -> Option<Judged>
+    ensures { result ≡ option_map (verdict_of terms.flags terms.tcp terms.edns terms.wanted)
+        (answer_to id exact (Some asked.now) bytes.now) }
 {
-    // Most strays show in the header, which costs no memory to read.
+    // Most strays show in the header.
     if !may_answer(bytes, id) {
-        return Ok(None);
+        return None;
     }
-    let Some(reply) = read(alloc, bytes)? else {
-        return Ok(None);
+    let Some(outline) = read_outline(bytes, asked, exact, terms.wanted) else {
+        return None;
     };
-    if answers(&reply.message, id, asked, exact) {
-        Ok(Some(reply))
-    } else {
-        Ok(None)
-    }
+    Some(judged_by(u16_at(bytes, 2), outline, terms))
 }
 
 /// The bytes have the header of a response to a standard query with this identifier and one question.
-fn may_answer(bytes: &[u8], id: u16) -> bool
+pub(crate) fn may_answer(bytes: &[u8], id: u16) -> bool
     ensures { result ≡ may_answer id bytes.now }
 {
     bytes.len() >= HEADER_LEN
@@ -76,78 +57,16 @@ fn u16_at(bytes: &[u8], at: usize) -> u16
     BigEndian::read_u16(&bytes[at..])
 }
 
-/// What the bytes say, or nothing where they are no message or their OPT record can't be read.
-fn read(alloc: Global, bytes: &[u8]) -> Result<Option<Reply>, NoMemory>
-    ensures { IfOk result (λ found. option_map reply_seen found ≡ read_reply bytes.now) }
-{
-    match decode(alloc, bytes) {
-        Ok(message) => with_opt_read(alloc, message),
-        Err(MessageFault::NoMemory) => Err(NoMemory),
-        Err(_) => Ok(None),
-    }
-}
-
-/// The message with what its OPT record says, or nothing where that can't be read.
-fn with_opt_read(alloc: Global, message: Message) -> Result<Option<Reply>, NoMemory>
-    ensures { IfOk result (λ found. option_map reply_seen found ≡ reply_with message (opt_of message)) }
-{
-    match find(alloc, &message) {
-        Ok(opt) => Ok(Some(Reply { message, opt })),
-        Err(EdnsFault::NoMemory) => Err(NoMemory),
-        Err(EdnsFault::DoubleOpt | EdnsFault::BadOptions(_)) => Ok(None),
-    }
-}
-
-/// The message is a response to a standard query with this identifier and this one question.
-fn answers(message: &Message, id: u16, asked: &Question, exact: bool) -> bool
-    ensures { result ≡ answers id exact (Some asked.now) message.now }
-{
-    message.id == id
-        && is_response(message.flags)
-        && is_standard(message.flags)
-        && asks_only(message.questions.as_slice(), asked, exact)
-}
-
 /// The flags are those of a response.
-fn is_response(flags: u16) -> bool
+pub(crate) fn is_response(flags: u16) -> bool
     ensures { result ≡ has_bit 15 flags }
 {
     flags / FLAG_QR % 2 == 1
 }
 
 /// The flags are those of a standard query or of the response to one.
-fn is_standard(flags: u16) -> bool
+pub(crate) fn is_standard(flags: u16) -> bool
     ensures { result ≡ ((flags / 2 ^ 11) % 16 == 0) }
 {
     flags / OPCODE % 16 == 0
-}
-
-/// The list has this question alone.
-fn asks_only(questions: &[Question], asked: &Question, exact: bool) -> bool
-    ensures { result ≡ asks_only exact (Some asked.now) questions.now }
-{
-    match questions {
-        [only] => repeats(only, asked, exact),
-        _ => false,
-    }
-}
-
-/// The question is the one that was asked.
-fn repeats(question: &Question, asked: &Question, exact: bool) -> bool
-    ensures { result ≡ repeats exact question.now asked.now }
-{
-    is_name(&question.name, &asked.name, exact)
-        && question.kind == asked.kind
-        && question.class == asked.class
-}
-
-/// The names agree, byte for byte or ignoring ASCII case.
-fn is_name(name: &Name, asked: &Name, exact: bool) -> bool
-    ensures { result ≡ (if exact then equal_name name.now asked.now else same_name name.now asked.now) }
-{
-    if exact {
-        name.equal(asked)
-    } else {
-        name.same(asked)
-    }
 }

@@ -7,7 +7,9 @@ mod queries;
 mod verdicts;
 mod waits;
 
+use crate::{Judged, Terms, judge, matching, verdict};
 use dns_message::{Name, Question};
+use resolv_options::Options;
 use std::alloc::Global;
 use std::test::Fail;
 
@@ -18,4 +20,36 @@ fn address_of_example(alloc: Global) -> Result<Question, Fail> {
         kind: 1,
         class: 1,
     })
+}
+
+/// The terms of a reply over UDP to a query with an OPT record, where no flag says otherwise and any answer will do.
+fn plain_terms(alloc: Global) -> Result<Terms, Fail> {
+    Ok(Terms {
+        flags: Options::plain(alloc)?.flags(),
+        tcp: false,
+        edns: true,
+        wanted: None,
+    })
+}
+
+/// What the bytes mean that came for this question with identifier 0x1234: by their walk, and by the reply read whole.
+fn judged_twice(
+    alloc: Global,
+    bytes: &[u8],
+    asked: &Question,
+    exact: bool,
+    terms: Terms,
+) -> Result<[Option<Judged>; 2], Fail> {
+    let whole = match matching(alloc, bytes, 0x1234, asked, exact)? {
+        Some(reply) => Some(verdict(
+            &reply,
+            terms.tcp,
+            terms.edns,
+            terms.flags,
+            terms.wanted.unwrap_or(1),
+            terms.wanted.is_some(),
+        )),
+        None => None,
+    };
+    Ok([judge(bytes, 0x1234, asked, exact, terms), whole])
 }

@@ -3,8 +3,10 @@
 
 mod rounds;
 
-use dns_message::{Name, NameFault, Question};
-use rounds::{match_often, query_often, stray_often};
+use dns_message::{Name, NameFault, NoMemory, Question};
+use query_machine::Terms;
+use resolv_options::Options;
+use rounds::{judge_often, query_often, stray_often};
 use std::alloc::Global;
 use std::{env, io};
 
@@ -21,11 +23,24 @@ fn address_of_example(alloc: Global) -> Result<Question, NameFault> {
     })
 }
 
+/// A reply over UDP is judged by plain options, for a query with an OPT record, where an address is wanted.
+fn plain_terms(alloc: Global) -> Result<Terms, NoMemory> {
+    Ok(Terms {
+        flags: Options::plain(alloc)?.flags(),
+        tcp: false,
+        edns: true,
+        wanted: Some(1),
+    })
+}
+
 // With a task and how often as its arguments it does that, and else prints a line that is always the same.
 fn main(rt: HostRuntime) -> io::Result<()> {
     let alloc = rt.alloc();
     let mut words = env::args(&rt)?.skip(1);
     let Ok(asked) = address_of_example(alloc) else {
+        return Ok(());
+    };
+    let Ok(terms) = plain_terms(alloc) else {
         return Ok(());
     };
     let (Some(task), Some(times)) = (words.next(), words.next()) else {
@@ -39,8 +54,8 @@ fn main(rt: HostRuntime) -> io::Result<()> {
     let seen = match task.as_str() {
         "query" => query_often(alloc, &asked, None, times),
         "query-opt" => query_often(alloc, &asked, Some(1232), times),
-        "stray" => stray_often(alloc, REPLY, &asked, times),
-        "reply" => match_often(alloc, REPLY, 0x1234, &asked, times),
+        "stray" => stray_often(REPLY, &asked, terms, times),
+        "reply" => judge_often(REPLY, 0x1234, &asked, terms, times),
         _ => 0,
     };
     println!(rt; "{task} {times} {seen}")

@@ -1,8 +1,9 @@
 //! Which attempt a message answers.
 
-ghost use Rattle.std.specs.Prelude.{◌≡◌, Some, None, IfOk, is_some, option_map};
+ghost use Rattle.std.specs.Prelude.{◌≡◌, if◌then◌else◌, Some, None, IfOk, is_some, option_map};
 ghost use Rattle.channel_model.specs.Flight.{answer_to, asked_with};
-ghost use Rattle.query_machine.specs.Replies.{reply_seen};
+ghost use Rattle.channel_model.specs.Verdict.{verdict_of};
+ghost use Rattle.channel_table.specs.Aims.{is_of_addresses};
 ghost use Rattle.channel_table.specs.Arriving.{RowFinds, judged_of, landing_of};
 ghost use Rattle.channel_table.specs.Strays.{id_of};
 
@@ -12,7 +13,7 @@ use crate::side::Side;
 use chan_types::{NoMemory, Token};
 use channel_model::Judged;
 use dns_message::Question;
-use query_machine::{Flying, Phase, Reply, matching, verdict};
+use query_machine::{Flying, Phase, Terms, judge};
 use resolv_options::Flags;
 use std::alloc::Global;
 
@@ -92,39 +93,47 @@ fn judged_of(
     let Phase::InFlight(flying) = side.leg.phase else {
         return Ok(None);
     };
-    let found = reply_to(alloc, &side.question, flying, bytes)?;
-    match found {
-        Some(reply) => Ok(Some(verdict(
-            &reply,
-            link != 0,
-            side.leg.has_opt,
-            flags,
-            side.question.kind,
-            aim.is_of_addresses(),
-        ))),
-        None => Ok(None),
+    let terms = Terms {
+        flags,
+        tcp: link != 0,
+        edns: side.leg.has_opt,
+        wanted: kind_wanted(aim, side.question.kind),
+    };
+    judged_by(alloc, &side.question, flying, bytes, terms)
+}
+
+/// The kind of which an answer is wanted by a leg for records of a kind: for addresses that kind, else any.
+fn kind_wanted(aim: Aim, kind: u16) -> Option<u16>
+    ensures { result ≡ (if is_of_addresses aim then Some kind else None) }
+{
+    if aim.is_of_addresses() {
+        Some(kind)
+    } else {
+        None
     }
 }
 
-/// What the bytes say, where they answer the attempt for this question.
-fn reply_to(
+/// What the bytes mean, where they answer the attempt for this question.
+fn judged_by(
     alloc: Global,
     question: &Question,
     flying: Flying,
     bytes: &[u8],
-) -> Result<Option<Reply>, NoMemory>
-    ensures { IfOk result (λ found. option_map reply_seen found
-        ≡ answer_to flying.id (is_some flying.mix) (Some (asked_with flying.mix question.now)) bytes.now) }
+    terms: Terms,
+) -> Result<Option<Judged>, NoMemory>
+    ensures { IfOk result (λ judged. judged
+        ≡ option_map (verdict_of terms.flags terms.tcp terms.edns terms.wanted)
+        (answer_to flying.id (is_some flying.mix) (Some (asked_with flying.mix question.now)) bytes.now)) }
 {
     match flying.mix {
-        None => matching(alloc, bytes, flying.id, question, false),
+        None => Ok(judge(bytes, flying.id, question, false, terms)),
         Some(mix) => {
             let asked = Question {
                 name: question.name.mixed(alloc, mix)?,
                 kind: question.kind,
                 class: question.class,
             };
-            matching(alloc, bytes, flying.id, &asked, true)
+            Ok(judge(bytes, flying.id, &asked, true, terms))
         }
     }
 }

@@ -6,98 +6,140 @@ use std::test::Fail;
 use test_nameserver::*;
 
 /// A query for the address of h0.load.test., without RD (RFC 1035, section 4.1), and its reply.
-const QUERY: &[u8; 30] = b"\x12\x34\0\0\0\x01\0\0\0\0\0\0\x02h0\x04load\x04test\0\0\x01\0\x01";
+const QUERY: &[u8] = b"\x12\x34\0\0\0\x01\0\0\0\0\0\0\x02h0\x04load\x04test\0\0\x01\0\x01";
 
-const REPLY: &[u8; 58] =
+const REPLY: &[u8] =
     b"\x12\x34\x84\x80\0\x01\0\x01\0\0\0\0\x02h0\x04load\x04test\0\0\x01\0\x01\x02h0\x04load\x04test\0\0\x01\0\x01\0\0\0\x3c\0\x04\x0a\0\0\0";
 
-/// The same query for h1.load.test., whose question gets the number 1.
-const OTHER: &[u8; 30] = b"\x12\x34\0\0\0\x01\0\0\0\0\0\0\x02h1\x04load\x04test\0\0\x01\0\x01";
+/// The same for h1.load.test., whose question gets the number 1.
+const OTHER: &[u8] = b"\x12\x34\0\0\0\x01\0\0\0\0\0\0\x02h1\x04load\x04test\0\0\x01\0\x01";
+
+const OTHER_REPLY: &[u8] =
+    b"\x12\x34\x84\x80\0\x01\0\x01\0\0\0\0\x02h1\x04load\x04test\0\0\x01\0\x01\x02h1\x04load\x04test\0\0\x01\0\x01\0\0\0\x3c\0\x04\x0a\0\0\x01";
 
 /// A network of so many hosts that loses by this seed.
 fn peer(alloc: Global, hosts: u8, seed: u16) -> Result<PeerWorld, Fail> {
     Ok(PeerWorld::make(alloc, Zone::load(alloc, hosts as u64)?, seed)?)
 }
 
-/// Sends a datagram and receives.
-fn asked<W: World>(world: &mut W, bytes: &[u8]) -> Result<Got, Fail> {
-    world.send(0, bytes)?;
-    Ok(world.receive()?)
+/// The next three words.
+fn next_words<W: World>(world: &mut W) -> Result<[u16; 3], NoMemory> {
+    Ok([world.word()?, world.word()?, world.word()?])
 }
 
-/// The next three words.
-fn words<W: World>(world: &mut W) -> Result<[u16; 3], Fail> {
-    Ok([world.word()?, world.word()?, world.word()?])
+/// The first three words by this seed.
+fn first_words(alloc: Global, seed: u16) -> Result<[u16; 3], Fail> {
+    let mut world = peer(alloc, 0, seed)?;
+    Ok(next_words(&mut world)?)
 }
 
 // A word is 40503 times its number, and the seed, of which the lowest 16 bits are taken.
 #[test]
 fn words_are_drawn(rt: HostRuntime) -> Result<(), Fail> {
-    let mut world = peer(rt.alloc(), 0, 7)?;
-    assert!(rt; words(&mut world)? == [7, 40_510, 15_477]);
+    assert!(rt; first_words(rt.alloc(), 7)? == [7, 40_510, 15_477]);
     Ok(())
 }
 
-/// The datagram of the server.
-fn datagram(alloc: Global, bytes: &[u8]) -> Result<Got, Fail> {
-    Ok(Got::Datagram(0, Bytes::of(alloc, bytes)?))
+/// Whether nothing is received.
+fn hears_nothing<W: World>(world: &mut W) -> Result<bool, NoMemory> {
+    Ok(world.receive()? == Got::Nothing)
+}
+
+/// Whether nothing comes back from a datagram.
+fn is_lost<W: World>(world: &mut W, query: &[u8]) -> Result<bool, NoMemory> {
+    world.send(0, query)?;
+    hears_nothing(world)
+}
+
+/// Whether a datagram is replied to so.
+fn is_replied<W: World>(world: &mut W, query: &[u8], reply: &[u8]) -> Result<bool, NoMemory> {
+    world.send(0, query)?;
+    Ok(match world.receive()? {
+        Got::Datagram(0, bytes) => bytes.as_slice() == reply,
+        _ => false,
+    })
 }
 
 /// The clock behind a wait.
-fn waited<W: World>(world: &mut W, until: u64) -> Result<u64, Fail> {
+fn waited<W: World>(world: &mut W, until: u64) -> Result<u64, NoMemory> {
     world.wait(until)?;
-    Ok(world.now()?)
+    world.now()
+}
+
+/// Whether question 0 loses its first query, and question 1 does not.
+fn loses_the_first<W: World>(world: &mut W) -> Result<bool, NoMemory> {
+    Ok(
+        is_lost(world, QUERY)?
+            && is_replied(world, QUERY, REPLY)?
+            && is_replied(world, OTHER, OTHER_REPLY)?
+            && hears_nothing(world)?
+            && waited(world, 2000)? == 2000,
+    )
+}
+
+/// Whether a network of two hosts does so by this seed.
+fn loses_by(alloc: Global, seed: u16) -> Result<bool, Fail> {
+    let mut world = peer(alloc, 2, seed)?;
+    Ok(loses_the_first(&mut world)?)
 }
 
 // With seed 0 question 0 loses its first query and question 1 does not.
 #[test]
 fn one_first_query_in_three_is_lost(rt: HostRuntime) -> Result<(), Fail> {
-    let alloc = rt.alloc();
-    let mut world = peer(alloc, 2, 0)?;
-    assert!(rt; asked(&mut world, QUERY)? == Got::Nothing);
-    assert!(rt; asked(&mut world, QUERY)? == datagram(alloc, REPLY)?);
-    assert!(rt; matches!(asked(&mut world, OTHER)?, Got::Datagram(0, _)));
-    assert!(rt; world.receive()? == Got::Nothing);
-    assert_eq!(rt; waited(&mut world, 2000)?, 2000);
+    assert!(rt; loses_by(rt.alloc(), 0)?);
     Ok(())
 }
 
-/// A message over TCP: its length and its bytes (RFC 1035, section 4.2.2).
-fn frame(alloc: Global, length: &[u8], bytes: &[u8]) -> Result<Vec<u8>, Fail> {
-    let mut frame = Vec::from_slice(alloc, length)?;
-    frame.extend_from_slice(bytes)?;
-    Ok(frame)
+/// The query behind its length and the length of the next one, and the reply behind its length (RFC 1035, section 4.2.2).
+const FIRST_WRITE: &[u8] =
+    b"\0\x1e\x12\x34\0\0\0\x01\0\0\0\0\0\0\x02h0\x04load\x04test\0\0\x01\0\x01\0\x1e";
+
+const REPLY_FRAME: &[u8] =
+    b"\0\x3a\x12\x34\x84\x80\0\x01\0\x01\0\0\0\0\x02h0\x04load\x04test\0\0\x01\0\x01\x02h0\x04load\x04test\0\0\x01\0\x01\0\0\0\x3c\0\x04\x0a\0\0\0";
+
+/// Whether all of these bytes are taken by link 7.
+fn is_taken<W: World>(world: &mut W, bytes: &[u8]) -> Result<bool, NoMemory> {
+    Ok(match world.write(7, bytes)? {
+        Wrote::Count(count) => count == bytes.len(),
+        Wrote::Failed => false,
+    })
 }
 
-/// Begins link 7 and writes to it.
-fn begun<W: World>(world: &mut W, bytes: &[u8]) -> Result<Wrote, Fail> {
-    world.connect(0, 7)?;
-    Ok(world.write(7, bytes)?)
+/// Whether these bytes are received of link 7.
+fn is_piece<W: World>(world: &mut W, bytes: &[u8]) -> Result<bool, NoMemory> {
+    Ok(match world.receive()? {
+        Got::Piece(7, piece) => piece.as_slice() == bytes,
+        _ => false,
+    })
 }
 
-/// What is received, once link 7 was written to and closed.
-fn closed<W: World>(world: &mut W, bytes: &[u8]) -> Result<Got, Fail> {
-    world.write(7, bytes)?;
+/// Whether nothing is received, once link 7 is closed.
+fn closes<W: World>(world: &mut W) -> Result<bool, NoMemory> {
     world.close(7)?;
-    Ok(world.receive()?)
+    hears_nothing(world)
 }
 
-/// A piece of link 7.
-fn piece(alloc: Global, bytes: &[u8]) -> Result<Got, Fail> {
-    Ok(Got::Piece(7, Bytes::of(alloc, bytes)?))
+/// Whether a link has one reply behind a query and the length of the next, which is whole with another write.
+fn replies_over_link<W: World>(world: &mut W) -> Result<bool, NoMemory> {
+    world.connect(0, 7)?;
+    Ok(
+        is_taken(world, FIRST_WRITE)?
+            && is_piece(world, REPLY_FRAME)?
+            && hears_nothing(world)?
+            && is_taken(world, OTHER)?
+            && closes(world)?,
+    )
 }
 
-// Over a link nothing is lost: two queries in one write, of which the second is whole with the next.
+/// Whether a network of two hosts does so.
+fn keeps_links(alloc: Global) -> Result<bool, Fail> {
+    let mut world = peer(alloc, 2, 0)?;
+    Ok(replies_over_link(&mut world)?)
+}
+
+// Over a link nothing is lost: one query and the length of another in one write, and its bytes in the next.
 #[test]
 fn links_lose_nothing(rt: HostRuntime) -> Result<(), Fail> {
-    let alloc = rt.alloc();
-    let mut world = peer(alloc, 2, 0)?;
-    let mut queries = frame(alloc, b"\0\x1e", QUERY)?;
-    queries.extend_from_slice(b"\0\x1e")?;
-    assert!(rt; begun(&mut world, queries.as_slice())? == Wrote::Count(34));
-    let reply = frame(alloc, b"\0\x3a", REPLY)?;
-    assert!(rt; world.receive()? == piece(alloc, reply.as_slice())?);
-    assert!(rt; world.receive()? == Got::Nothing);
-    assert!(rt; closed(&mut world, OTHER)? == Got::Nothing);
+    assert!(rt; keeps_links(rt.alloc())?);
     Ok(())
 }

@@ -1,5 +1,8 @@
 //! Runs of the nameserver over a listener in memory.
 
+ghost use Rattle.std.specs.Prelude.{IfOk};
+ghost use Rattle.test_nameserver.specs.MemListener.{IsMessage};
+
 use net_world::{MemFiles, MemSink, Sent};
 use std::alloc::Global;
 use std::collections::BTreeMap;
@@ -7,12 +10,59 @@ use std::test::Fail;
 use test_nameserver::*;
 
 /// A query for the address of h3.load.test. (RFC 1035, section 4.1), and the reply of a zone without that name.
-const QUERY: &[u8; 30] = b"\x12\x34\x01\0\0\x01\0\0\0\0\0\0\x02h3\x04load\x04test\0\0\x01\0\x01";
+const QUERY: &[u8] = b"\x12\x34\x01\0\0\x01\0\0\0\0\0\0\x02h3\x04load\x04test\0\0\x01\0\x01";
 
-const REPLY: &[u8; 30] = b"\x12\x34\x85\x83\0\x01\0\0\0\0\0\0\x02h3\x04load\x04test\0\0\x01\0\x01";
+const REPLY: &[u8] = b"\x12\x34\x85\x83\0\x01\0\0\0\0\0\0\x02h3\x04load\x04test\0\0\x01\0\x01";
 
-/// A zone of one record.
-const ZONE: &str = "a.test. 60 A 192.0.2.1";
+/// The lines that are understood, with a count.
+const ONE: &str = "--port 5353 --zone z --count 1";
+
+const THREE: &str = "--port 5353 --zone z --count 3";
+
+const FOUR: &str = "--port 5353 --zone z --count 4";
+
+/// What a run is made of: its command line, the text of the file `z`, and the numbers of the calls of files, output and
+/// listener that fail.
+#[derive(Clone, Copy)]
+struct Scene<'a> {
+    line: &'a str,
+    zone: &'a str,
+    reads: &'a [u64],
+    puts: &'a [u64],
+    hears: &'a [u64],
+}
+
+/// A run that takes one message, over a zone of one record. No call fails.
+const PLAIN: Scene<'static> = Scene {
+    line: ONE,
+    zone: "a.test. 60 A 192.0.2.1",
+    reads: &[],
+    puts: &[],
+    hears: &[],
+};
+
+/// What a run comes to: its exit status, what it puts, and how often it calls the listener.
+#[derive(Clone, Copy)]
+struct End<'a> {
+    status: u8,
+    text: &'a str,
+    calls: usize,
+}
+
+/// How a run ends whose words are refused.
+const USAGE_END: End<'static> = End {
+    status: 2,
+    text: "tns: usage\n",
+    calls: 0,
+};
+
+/// The outside of a run.
+#[derive(Drop)]
+struct Outside {
+    files: MemFiles,
+    sink: MemSink,
+    listener: MemListener,
+}
 
 /// The words of a command line: its parts between blanks.
 fn words_of(alloc: Global, line: &str) -> Result<Vec<&str>, Fail> {
@@ -23,183 +73,243 @@ fn words_of(alloc: Global, line: &str) -> Result<Vec<&str>, Fail> {
     Ok(words)
 }
 
-/// Files of which `z` has this text. The reads with these numbers fail.
-fn files(alloc: Global, text: &str, fails: &[u64]) -> Result<MemFiles, Fail> {
+/// The name `z` and a text.
+fn named(alloc: Global, text: &str) -> Result<(String, Bytes), Fail> {
+    let name = String::from_str(alloc, "z")?;
+    Ok((name, Bytes::of(alloc, text.as_bytes())?))
+}
+
+/// A file of that name and text.
+fn one_file(alloc: Global, text: &str) -> Result<BTreeMap<String, Bytes>, Fail> {
+    let (name, bytes) = named(alloc, text)?;
     let mut files = BTreeMap::new(alloc);
-    files.insert(
-        String::from_str(alloc, "z")?,
-        Bytes::of(alloc, text.as_bytes())?,
-    )?;
+    files.insert(name, bytes)?;
+    Ok(files)
+}
+
+/// Files of which `z` has this text. The reads with these numbers fail.
+fn files_of(alloc: Global, text: &str, fails: &[u64]) -> Result<MemFiles, Fail> {
+    let files = one_file(alloc, text)?;
     Ok(MemFiles::make(files, Vec::from_slice(alloc, fails)?))
+}
+
+/// An output of which the calls with these numbers fail.
+fn sink_of(alloc: Global, fails: &[u64]) -> Result<MemSink, Fail> {
+    Ok(MemSink::make(Vec::from_slice(alloc, fails)?))
+}
+
+/// A message, and whether it came over TCP.
+fn message(alloc: Global, tcp: bool, bytes: &[u8]) -> Result<Heard, Fail>
+    ensures { IfOk result IsMessage }
+{
+    let bytes = Bytes::of(alloc, bytes)?;
+    Ok(Heard::Message { tcp, bytes })
 }
 
 /// A listener that hears the query over UDP and TCP, and between the two a message that is no query. Its calls with
 /// these numbers fail.
-fn listener(alloc: Global, fails: &[u64]) -> Result<MemListener, Fail> {
-    let first = Bytes::of(alloc, QUERY)?;
-    let short = Bytes::of(alloc, b"\x12")?;
-    let last = Bytes::of(alloc, QUERY)?;
+fn listener_of(alloc: Global, fails: &[u64]) -> Result<MemListener, Fail> {
     let fails = Vec::from_slice(alloc, fails)?;
     let messages = vec![in alloc;
-        Heard::Message {
-            tcp: false,
-            bytes: first
-        },
-        Heard::Message {
-            tcp: false,
-            bytes: short
-        },
-        Heard::Message {
-            tcp: true,
-            bytes: last
-        },
+        message(alloc, false, QUERY)?,
+        message(alloc, false, b"\x12")?,
+        message(alloc, true, QUERY)?,
     ]?;
     Ok(MemListener::make(messages, fails))
 }
 
-/// What a run comes to: its exit status, what it put, and its listener. The calls of files, output and listener with
-/// these numbers fail.
-fn ran(
-    alloc: Global,
-    line: &str,
-    text: &str,
-    fails: (&[u64], &[u64], &[u64]),
-) -> Result<(u8, MemSink, MemListener), Fail> {
-    let mut files = files(alloc, text, fails.0)?;
-    let mut sink = MemSink::make(Vec::from_slice(alloc, fails.1)?);
-    let mut listener = listener(alloc, fails.2)?;
-    let words = words_of(alloc, line)?;
-    let status = run(
-        alloc,
-        words.as_slice(),
-        &mut files,
-        &mut sink,
-        &mut listener,
-    );
-    Ok((status, sink, listener))
+/// The outside before a run.
+fn outside_of(alloc: Global, scene: &Scene<'_>) -> Result<Outside, Fail> {
+    Ok(Outside {
+        files: files_of(alloc, scene.zone, scene.reads)?,
+        sink: sink_of(alloc, scene.puts)?,
+        listener: listener_of(alloc, scene.hears)?,
+    })
 }
 
-/// The line that is understood, with a count.
-const ONE: &str = "--port 5353 --zone z --count 1";
+/// The exit status of a run by this line.
+fn status_of(alloc: Global, line: &str, outside: &mut Outside) -> Result<u8, Fail> {
+    let words = words_of(alloc, line)?;
+    Ok(run(
+        alloc,
+        words.as_slice(),
+        &mut outside.files,
+        &mut outside.sink,
+        &mut outside.listener,
+    ))
+}
 
-const THREE: &str = "--port 5353 --zone z --count 3";
+/// Whether a run ends so.
+fn ends_so(alloc: Global, scene: &Scene<'_>, end: &End<'_>) -> Result<bool, Fail> {
+    let mut outside = outside_of(alloc, scene)?;
+    let status = status_of(alloc, scene.line, &mut outside)?;
+    Ok(status == end.status && has_left(&outside, end))
+}
 
-const FOUR: &str = "--port 5353 --zone z --count 4";
+/// Whether a run has put this text, and called the listener so often.
+fn has_left(outside: &Outside, end: &End<'_>) -> bool {
+    outside.sink.bytes() == end.text.as_bytes() && outside.listener.log().len() == end.calls
+}
 
-/// The calls of a run that takes one message.
-fn one_turn(alloc: Global) -> Result<[ListenerCall; 3], Fail> {
-    Ok([
-        ListenerCall::Listen {
-            port: 5353,
-            sent: Sent::Sent,
-        },
-        ListenerCall::Next {
-            heard: Heard::Message {
-                tcp: false,
-                bytes: Bytes::of(alloc, QUERY)?,
+/// Whether these are the calls of a run that takes one message.
+fn is_one_turn(calls: &[ListenerCall]) -> bool {
+    match calls {
+        [
+            ListenerCall::Listen {
+                port: 5353,
+                sent: Sent::Sent,
             },
-        },
-        ListenerCall::Reply {
-            bytes: Bytes::of(alloc, REPLY)?,
-            sent: Sent::Sent,
-        },
-    ])
+            ListenerCall::Next {
+                heard: Heard::Message { tcp: false, bytes },
+            },
+            ListenerCall::Reply {
+                bytes: reply,
+                sent: Sent::Sent,
+            },
+        ] => bytes.as_slice() == QUERY && reply.as_slice() == REPLY,
+        _ => false,
+    }
+}
+
+/// Whether a plain run calls the listener so, and puts nothing.
+fn answers_one(alloc: Global) -> Result<bool, Fail> {
+    let mut outside = outside_of(alloc, &PLAIN)?;
+    let status = status_of(alloc, ONE, &mut outside)?;
+    Ok(status == 0 && is_one_turn(outside.listener.log()) && outside.sink.bytes().is_empty())
 }
 
 #[test]
 fn a_run_answers(rt: HostRuntime) -> Result<(), Fail> {
-    let alloc = rt.alloc();
-    let (status, sink, listener) = ran(alloc, ONE, ZONE, (&[], &[], &[]))?;
-    assert!(rt; status == 0 && sink.bytes().is_empty());
-    assert!(rt; listener.log() == one_turn(alloc)?.as_slice());
+    assert!(rt; answers_one(rt.alloc())?);
     Ok(())
 }
 
-/// Whether a run has this exit status, puts this text, and calls the listener so often.
-fn ends(
-    alloc: Global,
-    line: &str,
-    text: &str,
-    fails: (&[u64], &[u64], &[u64]),
-    end: (u8, &str, usize),
-) -> Result<bool, Fail> {
-    let (status, sink, listener) = ran(alloc, line, text, fails)?;
-    Ok(status == end.0 && sink.bytes() == end.1.as_bytes() && listener.log().len() == end.2)
-}
+/// A run and its end.
+type Case = (Scene<'static>, End<'static>);
 
-// A call to listen, and of three messages two are queries. Behind the third there is none.
+/// Runs without a failure. Of three messages two are queries, and behind the third there is none.
+const MESSAGES: &[Case] = &[
+    (
+        Scene {
+            line: THREE,
+            ..PLAIN
+        },
+        End {
+            status: 0,
+            text: "",
+            calls: 6,
+        },
+    ),
+    (
+        Scene {
+            line: FOUR,
+            ..PLAIN
+        },
+        End {
+            status: 6,
+            text: "tns: socket fault\n",
+            calls: 7,
+        },
+    ),
+];
+
 #[test]
 fn runs_end_with_their_messages(rt: HostRuntime) -> Result<(), Fail> {
-    let alloc = rt.alloc();
-    assert!(rt; ends(alloc, THREE, ZONE, (&[], &[], &[]), (0, "", 6))?);
-    assert!(rt;
-        ends(
-            alloc,
-            FOUR,
-            ZONE,
-            (&[], &[], &[]),
-            (6, "tns: socket fault\n", 7)
-        )?
-    );
+    for (scene, end) in MESSAGES {
+        assert!(rt; ends_so(rt.alloc(), scene, end)?, "{}", scene.line);
+    }
     Ok(())
 }
+
+/// The call to listen fails, one to hear, one to read the zone, and the one to put the text behind that.
+const FAILURES: &[Case] = &[
+    (
+        Scene {
+            hears: &[0],
+            ..PLAIN
+        },
+        End {
+            status: 6,
+            text: "tns: socket fault\n",
+            calls: 1,
+        },
+    ),
+    (
+        Scene {
+            line: THREE,
+            hears: &[2],
+            ..PLAIN
+        },
+        End {
+            status: 6,
+            text: "tns: socket fault\n",
+            calls: 3,
+        },
+    ),
+    (
+        Scene {
+            reads: &[0],
+            ..PLAIN
+        },
+        End {
+            status: 3,
+            text: "tns: file fault\n",
+            calls: 0,
+        },
+    ),
+    (
+        Scene {
+            reads: &[0],
+            puts: &[0],
+            ..PLAIN
+        },
+        End {
+            status: 4,
+            text: "",
+            calls: 0,
+        },
+    ),
+];
 
 #[test]
 fn failures_end_a_run(rt: HostRuntime) -> Result<(), Fail> {
-    let alloc = rt.alloc();
-    assert!(rt;
-        ends(
-            alloc,
-            ONE,
-            ZONE,
-            (&[], &[], &[0]),
-            (6, "tns: socket fault\n", 1)
-        )?
-    );
-    assert!(rt;
-        ends(
-            alloc,
-            THREE,
-            ZONE,
-            (&[], &[], &[2]),
-            (6, "tns: socket fault\n", 3)
-        )?
-    );
-    assert!(rt;
-        ends(
-            alloc,
-            ONE,
-            ZONE,
-            (&[0], &[], &[]),
-            (3, "tns: file fault\n", 0)
-        )?
-    );
-    assert!(rt; ends(alloc, ONE, ZONE, (&[0], &[0], &[]), (4, "", 0))?);
+    for (scene, end) in FAILURES {
+        assert!(rt; ends_so(rt.alloc(), scene, end)?, "{}", scene.line);
+    }
     Ok(())
 }
 
+/// A file is absent, and one is no zone.
+const FILES: &[Case] = &[
+    (
+        Scene {
+            line: "--port 1 --zone y --count 65535",
+            ..PLAIN
+        },
+        End {
+            status: 3,
+            text: "tns: file fault\n",
+            calls: 0,
+        },
+    ),
+    (
+        Scene {
+            zone: "a.test. 60 A",
+            ..PLAIN
+        },
+        End {
+            status: 8,
+            text: "tns: bad zone\n",
+            calls: 0,
+        },
+    ),
+];
+
 #[test]
 fn files_decide(rt: HostRuntime) -> Result<(), Fail> {
-    let alloc = rt.alloc();
-    let absent = "--port 1 --zone y --count 65535";
-    assert!(rt;
-        ends(
-            alloc,
-            absent,
-            ZONE,
-            (&[], &[], &[]),
-            (3, "tns: file fault\n", 0)
-        )?
-    );
-    assert!(rt;
-        ends(
-            alloc,
-            ONE,
-            "a.test. 60 A",
-            (&[], &[], &[]),
-            (8, "tns: bad zone\n", 0)
-        )?
-    );
+    for (scene, end) in FILES {
+        assert!(rt; ends_so(rt.alloc(), scene, end)?, "{}", scene.zone);
+    }
     Ok(())
 }
 
@@ -224,12 +334,9 @@ const REFUSED: &str = "
 
 #[test]
 fn words_are_refused(rt: HostRuntime) -> Result<(), Fail> {
-    let alloc = rt.alloc();
     for line in REFUSED.split('\n') {
-        assert!(rt;
-            ends(alloc, line, ZONE, (&[], &[], &[]), (2, "tns: usage\n", 0))?,
-            "{line}"
-        );
+        let scene = Scene { line, ..PLAIN };
+        assert!(rt; ends_so(rt.alloc(), &scene, &USAGE_END)?, "{line}");
     }
     Ok(())
 }

@@ -1,7 +1,8 @@
 //! Which messages answer a query.
 
-use super::address_of_example;
-use crate::matching;
+use super::{address_of_example, judged_twice, plain_terms};
+use crate::Judged;
+use chan_types::Status;
 use std::test::Fail;
 
 /// What the bytes are, whether letters' case counts, the bytes, and whether they answer the query of identifier 0x1234 for
@@ -110,13 +111,16 @@ const MESSAGES: [(&str, bool, &[u8], bool); 17] = [
 fn replies_answer_their_query(rt: HostRuntime) -> Result<(), Fail> {
     let alloc = rt.alloc();
     let asked = address_of_example(alloc)?;
+    let terms = plain_terms(alloc)?;
     for (what, exact, bytes, wanted) in MESSAGES {
-        let found = matching(alloc, bytes, 0x1234, &asked, exact)?;
-        assert_eq!(rt; found.is_some(), wanted, "at {what}");
-        if let Some(reply) = found {
-            assert_eq!(rt; reply.message.flags, 0x8180);
-            assert_eq!(rt; reply.opt.is_some(), bytes.len() == 40);
-        }
+        // A reply without an address that is one ends the leg without data (RFC 1035, section 4.1.1: RCODE 0).
+        let judged = if wanted {
+            Some(Judged::Final(Status::NoData))
+        } else {
+            None
+        };
+        let found = judged_twice(alloc, bytes, &asked, exact, terms)?;
+        assert!(rt; found == [judged; 2], "at {what}");
     }
     Ok(())
 }

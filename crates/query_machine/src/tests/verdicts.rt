@@ -1,50 +1,51 @@
 //! What a reply means, as a table.
 
-use crate::{Judged, Reply, verdict};
+use super::{address_of_example, judged_twice, plain_terms};
+use crate::{Judged, Terms};
 use chan_types::Status;
-use dns_message::{Message, Name, QuestionList, Record, RecordList};
-use edns_opt::{Opt, OptionList};
-use item_list::Bytes;
-use resolv_options::{Flags, Options};
+use resolv_options::Flags;
 use std::alloc::Global;
 use std::test::Fail;
 
-/// A reply with these flags, with the extended byte of an OPT record if it has one, and with an answer of this kind and class
-/// if it has one.
+/// A reply to the question for the addresses of example.com with these flags, with an answer of this kind and class if it
+/// has one, whose rdata is an address and a name alike, and with the extended byte of an OPT record if it has one:
+/// RFC 1035, section 4.1, and RFC 6891, section 6.1.3.
 fn reply_of(
     alloc: Global,
     flags: u16,
     extended: Option<u8>,
-    answer: Option<(u16, u16)>,
-) -> Result<Reply, Fail> {
-    let mut answers = RecordList::new(alloc);
-    if let Some((kind, class)) = answer {
-        answers.push(Record {
-            name: Name::root(alloc),
-            kind,
-            class,
-            ttl: 60,
-            rdata: Bytes::new(alloc),
-        })?;
-    }
-    let opt = extended.map(|ext_rcode| Opt {
-        size: 1232,
-        ext_rcode,
-        version: 0,
-        do_bit: false,
-        options: OptionList::new(alloc),
-    });
-    Ok(Reply {
-        message: Message {
-            id: 0x1234,
-            flags,
-            questions: QuestionList::new(alloc),
+    answer: Option<(u8, u8)>,
+) -> Result<Vec<u8>, Fail> {
+    let [high, low] = flags.to_be_bytes();
+    let answers = if answer.is_some() { 1 } else { 0 };
+    let additionals = if extended.is_some() { 1 } else { 0 };
+    let mut bytes = Vec::from_slice(
+        alloc,
+        &[
+            0x12,
+            0x34,
+            high,
+            low,
+            0,
+            1,
+            0,
             answers,
-            authorities: RecordList::new(alloc),
-            additionals: RecordList::new(alloc),
-        },
-        opt,
-    })
+            0,
+            0,
+            0,
+            additionals,
+        ],
+    )?;
+    bytes.extend_from_slice(b"\x07example\x03com\0\0\x01\0\x01")?;
+    if let Some((kind, class)) = answer {
+        bytes.extend_from_slice(&[
+            0xc0, 12, 0, kind, 0, class, 0, 0, 0, 60, 0, 4, 2, b'a', b'b', 0,
+        ])?;
+    }
+    if let Some(extended) = extended {
+        bytes.extend_from_slice(&[0, 0, 41, 4, 208, extended, 0, 0, 0, 0, 0])?;
+    }
+    Ok(bytes)
 }
 
 /// What comes over UDP for a query with an OPT record, where no flag says otherwise: flags, extended byte, and what it means.
@@ -70,12 +71,12 @@ const OVER_UDP: [(u16, Option<u8>, Judged); 15] = [
 #[test]
 fn rules_are_tried_in_order(rt: HostRuntime) -> Result<(), Fail> {
     let alloc = rt.alloc();
-    let flags = Options::plain(alloc)?.flags();
+    let asked = address_of_example(alloc)?;
+    let terms = plain_terms(alloc)?;
     for (bits, extended, judged) in OVER_UDP {
         let reply = reply_of(alloc, bits, extended, None)?;
-        assert_eq!(rt;
-            verdict(&reply, false, true, flags, 1, false),
-            judged,
+        assert!(rt;
+            judged_twice(alloc, reply.as_slice(), &asked, false, terms)? == [Some(judged); 2],
             "at {bits} {extended:?}"
         );
     }
@@ -149,41 +150,47 @@ const OTHERWISE: [(u16, bool, bool, bool, bool, Judged); 10] = [
 #[test]
 fn flags_and_transport_change_a_verdict(rt: HostRuntime) -> Result<(), Fail> {
     let alloc = rt.alloc();
-    let plain = Options::plain(alloc)?.flags();
+    let asked = address_of_example(alloc)?;
+    let plain = plain_terms(alloc)?;
     for (bits, tcp, edns, igntc, nocheckresp, judged) in OTHERWISE {
         let reply = reply_of(alloc, bits, None, None)?;
         let flags = Flags {
             igntc,
             nocheckresp,
-            ..plain
+            ..plain.flags
         };
-        assert_eq!(rt;
-            verdict(&reply, tcp, edns, flags, 1, false),
-            judged,
+        let terms = Terms {
+            flags,
+            tcp,
+            edns,
+            wanted: None,
+        };
+        assert!(rt;
+            judged_twice(alloc, reply.as_slice(), &asked, false, terms)? == [Some(judged); 2],
             "at {bits}"
         );
     }
     Ok(())
 }
 
-// A CNAME (kind 5), an IPv4 address (1) and one of another class (3, CHAOS), where IPv4 addresses are wanted: RFC 1035,
-// sections 3.2.2 and 3.2.4.
+// A CNAME (kind 5), an IPv4 address (1) and one of another class (3, CHAOS), where IPv4 addresses are wanted or any answer
+// will do: RFC 1035, sections 3.2.2 and 3.2.4.
 #[test]
 fn an_address_leg_wants_its_kind(rt: HostRuntime) -> Result<(), Fail> {
     let alloc = rt.alloc();
-    let flags = Options::plain(alloc)?.flags();
-    for (answer, address_leg, status) in [
-        ((5, 1), false, Status::Success),
-        ((5, 1), true, Status::NoData),
-        ((1, 1), true, Status::Success),
-        ((1, 3), true, Status::NoData),
-        ((1, 3), false, Status::Success),
+    let asked = address_of_example(alloc)?;
+    let plain = plain_terms(alloc)?;
+    for (answer, wanted, status) in [
+        ((5, 1), None, Status::Success),
+        ((5, 1), Some(1), Status::NoData),
+        ((1, 1), Some(1), Status::Success),
+        ((1, 3), Some(1), Status::NoData),
+        ((1, 3), None, Status::Success),
     ] {
         let reply = reply_of(alloc, 0x8180, None, Some(answer))?;
-        assert_eq!(rt;
-            verdict(&reply, false, true, flags, 1, address_leg),
-            Judged::Final(status)
-        );
+        let terms = Terms { wanted, ..plain };
+        let found = judged_twice(alloc, reply.as_slice(), &asked, false, terms)?;
+        assert!(rt; found == [Some(Judged::Final(status)); 2]);
     }
     Ok(())
 }
