@@ -177,6 +177,15 @@ exit_refused words status files files_old files_new sink_old sink_new net_old ne
 
 -- ---- calls
 
+-- an end behind a zone isn't one without
+served_zone : (end : End) → (end ≡ Served) ⊎ (end ≡ SocketFault) ⊎ (end ≡ NoMemory) → (number_of end ≡ status_file_fault) ⊎ (number_of end ≡ status_bad_zone) → ⊥
+served_zone end (inl a) (inl n) = omega (arith, sym (ap number_of a) ∙ n)
+served_zone end (inl a) (inr n) = omega (arith, sym (ap number_of a) ∙ n)
+served_zone end (inr (inl a)) (inl n) = omega (arith, sym (ap number_of a) ∙ n)
+served_zone end (inr (inl a)) (inr n) = omega (arith, sym (ap number_of a) ∙ n)
+served_zone end (inr (inr a)) (inl n) = omega (arith, sym (ap number_of a) ∙ n)
+served_zone end (inr (inr a)) (inr n) = omega (arith, sym (ap number_of a) ∙ n)
+
 module _ (files : Option (List ℕ → Option (List ℕ))) (order : Order) where
   -- what serves a zone of the file is a run of the order
   pub service_of : (zone : List Record) (end : End) (calls : List ListenerCall) → ReadsZone files order.path zone → Serves zone order.port order.count end calls → IsServiceOf files order (number_of end) calls
@@ -190,6 +199,7 @@ module _ (files : Option (List ℕ → Option (List ℕ))) (order : Order) where
     ends = serves.ends;
     whole = λ is. serves.whole (is_served end is);
     fault = λ is. serves.fault (is_socket_fault end is);
+    unserved = λ is. absurd (served_zone end serves.known is);
   }
 
   -- a run without a zone calls nothing
@@ -204,6 +214,7 @@ module _ (files : Option (List ℕ → Option (List ℕ))) (order : Order) where
     ends = inl tt;
     whole = λ is. absurd (unserved end (is_served end is) opens);
     fault = λ is. absurd (unfailed end (is_socket_fault end is) opens);
+    unserved = λ is. refl;
   } where
     unserved : (e : End) → e ≡ Served → Opens files order.path old new (Err e) → ⊥
     unserved e is o = rw is at o
@@ -223,7 +234,11 @@ module _ (files : Option (List ℕ → Option (List ℕ))) (order : Order) where
     ends = service.ends;
     whole = λ is. service.whole (number_is end status 0 tells is (λ e. omega (arith, e)) (λ e. omega (arith, e)));
     fault = λ is. service.fault (number_is end status 6 tells is (λ e. omega (arith, e)) (λ e. omega (arith, e)));
-  }
+    unserved = λ is. service.unserved (without_zone is);
+  } where
+    without_zone : (status ≡ status_file_fault) ⊎ (status ≡ status_bad_zone) → (number_of end ≡ status_file_fault) ⊎ (number_of end ≡ status_bad_zone)
+    without_zone (inl is) = inl (number_is end status 3 tells is (λ e. omega (arith, e)) (λ e. omega (arith, e)))
+    without_zone (inr is) = inr (number_is end status 8 tells is (λ e. omega (arith, e)) (λ e. omega (arith, e)))
 
 -- a run with its order goes on as its order says
 pub service_said : (words : List (List ℕ)) (order : Order) (files : Option (List ℕ → Option (List ℕ))) (end : End) (status : ℕ) (old new : Option (List ListenerCall)) →

@@ -5,7 +5,7 @@ use mathlib.Core.List.{IsPrefix}
 use Rattle.dns_message.specs.declared.message.Record.{Record}
 use Rattle.net_world.specs.declared.answers.Sent.{Sent}
 use Rattle.net_world.specs.Files.{WhereTold}
-use Rattle.test_nameserver.specs.Statuses.{status_success, status_socket_fault}
+use Rattle.test_nameserver.specs.Statuses.{status_success, status_file_fault, status_socket_fault, status_bad_zone}
 use Rattle.test_nameserver.specs.declared.listener.Heard.{Heard}
 use Rattle.test_nameserver.specs.declared.listener.Heard.TheVariants.{Message, Failed as NotHeard}
 use Rattle.test_nameserver.specs.declared.listener.ListenerCall.{ListenerCall}
@@ -67,6 +67,8 @@ pub record IsServiceOf (files : Option (List ℕ → Option (List ℕ))) (order 
   pub whole : status ≡ status_success → (calls ≡ run_calls zone order.port listens exchanges) × (length exchanges ≡ order.count) × NoneFailed calls
   -- a socket fault is the failure of the last call
   pub fault : status ≡ status_socket_fault → LastFailed calls
+  -- a run that read no zone called nothing
+  pub unserved : (status ≡ status_file_fault) ⊎ (status ≡ status_bad_zone) → calls ≡ []
 
 -- a log that is told goes on with calls of this kind
 abbrev pub GoesOnWith : (List ListenerCall → Type 0) → Option (List ListenerCall) → Option (List ListenerCall) → Type 0

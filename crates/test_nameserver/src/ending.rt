@@ -1,6 +1,6 @@
 //! How a run of the server's program ends: its exit status, and the text that is put.
 
-ghost use Rattle.std.specs.Prelude.{◌≡◌, ◌≢◌, ◌⊎◌, [], MatchOption};
+ghost use Rattle.std.specs.Prelude.{◌≡◌, ◌≢◌, ◌⊎◌, [], IfSome, MatchOption};
 ghost use Rattle.net_world.specs.Cause.{Rose};
 ghost use Rattle.test_nameserver.specs.Ending.{number_of};
 ghost use Rattle.test_nameserver.specs.Output.{GrowsBy, GrowsByPart, text_for};
@@ -57,8 +57,9 @@ impl End {
 
     /// The text that is put, or none.
     fn text(self) -> Option<&'static str>
-        ensures { MatchOption result (text_for (number_of self) ≡ [])
+        ensures text { MatchOption result (text_for (number_of self) ≡ [])
             (λ text. text.now ≡ text_for (number_of self)) }
+        ensures memory { IfSome result (λ _. number_of self ≢ OUT_OF_MEMORY) }
     {
         match self {
             End::Served | End::NoMemory => None,
@@ -77,6 +78,7 @@ impl End {
             → GrowsBy (K.bytes sink.old) (K.bytes sink.new) (text_for (number_of self)) }
         ensures part { GrowsByPart (K.bytes sink.old) (K.bytes sink.new)
             (text_for (number_of self)) }
+        ensures memory { result ≡ OUT_OF_MEMORY → K.bytes sink.new ≡ K.bytes sink.old }
         ensures sink_fault { result ≡ SINK_FAULT → Rose (K.faults sink.old) (K.faults sink.new) }
     {
         match self.text() {
@@ -92,6 +94,8 @@ fn put<K: Sink>(sink: &mut K, text: &[u8], status: u8) -> u8
     ensures whole { result ≢ SINK_FAULT → result ≢ OUT_OF_MEMORY
         → GrowsBy (K.bytes sink.old) (K.bytes sink.new) text.now }
     ensures part { GrowsByPart (K.bytes sink.old) (K.bytes sink.new) text.now }
+    ensures memory { result ≡ OUT_OF_MEMORY
+        → (status ≡ OUT_OF_MEMORY) ⊎ (K.bytes sink.new ≡ K.bytes sink.old) }
     ensures sink_fault { result ≡ SINK_FAULT
         → (status ≡ SINK_FAULT) ⊎ Rose (K.faults sink.old) (K.faults sink.new) }
 {

@@ -23,6 +23,7 @@ pub returns-in-None-clause-output : goal.returns-in-None-clause-output
 returns-in-None-clause-output g c = record {
   whole = λ sink memory. search rules;
   part = (2, c.tell-in-None.ensures.part);
+  memory = c.tell-in-None.ensures.memory;
 }
 
 pub returns-in-None-clause-service : goal.returns-in-None-clause-service
