@@ -7,6 +7,7 @@ mod GoingLemmas
 mod AnswerLemmas
 mod EndLemmas
 mod StayLemmas
+mod DeliverLemmas
 mod BackLemmas
 mod CallLemmas
 mod SendLemmas

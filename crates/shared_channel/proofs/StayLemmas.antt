@@ -56,6 +56,9 @@ stays old new went = record { same = went.rest; settled = settled }
 pub stays_none : (pass : PassView) → StaysSettled pass pass
 stays_none pass = record { same = refl; settled = λ was. was }
 
+pub stays_same : (old new : PassView) → new ≡ old → StaysSettled old new
+stays_same old new same = subst (StaysSettled old) (sym same) (stays_none old)
+
 pub stays_more : (old middle new : PassView) → StaysSettled old middle → StaysSettled middle new → StaysSettled old new
 stays_more old middle new first more = record {
   same = more.same ∙ ap (λ (p : PassView). record p { own = new.own; seen = new.seen; calls = new.calls; lost = new.lost }) first.same;

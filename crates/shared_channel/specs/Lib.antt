@@ -5,5 +5,6 @@ pub mod Making
 pub mod Performing
 pub mod Spending
 pub mod Settling
+pub mod Delivering
 pub mod Finishing
 pub mod Staying

@@ -3,7 +3,9 @@
 
 mod account;
 mod channel;
+mod delivering;
 mod finishing;
+mod held;
 mod looking;
 mod operations;
 mod pass;
@@ -14,7 +16,9 @@ mod state;
 mod turns;
 
 pub use channel::Channel;
+pub use delivering::deliver_some;
 pub use finishing::{Finished, finish};
+pub use held::HeldPlace;
 pub use pass::Pass;
 pub use place::Place;
 pub use spending::{deliver_one, spend};

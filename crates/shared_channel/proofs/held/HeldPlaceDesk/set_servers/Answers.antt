@@ -1,0 +1,6 @@
+use Rattle.channel_model.specs.Meanings.{SetsServers}
+use Rattle.shared_channel.proofs.Telling.{calls_of_turn}
+use Rattle.shared_channel.proofs.held.HeldPlaceDesk.set_servers.Goals as goal
+
+pub returns : goal.returns
+returns g c = rw (← c.self.view_is) (record { done = calls_of_turn (SetsServers c.args.servers.now) 0 c.self.inside.account c.turn_held.new.account c.turn_held.result c.turn_held.ensures.turn })

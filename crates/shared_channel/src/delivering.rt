@@ -1,0 +1,91 @@
+//! Delivering several ready requests: their tickets are taken under one hold of the lock, and spent with no lock held.
+
+ghost use Rattle.std.specs.Prelude.{◌≡◌, ◌≤◌, [], IfOk, OnErr, vec_capacity, vec_len};
+ghost use Rattle.shared_channel.specs.Delivering.{DeliversUpTo, SpendsEach, TakesUpTo};
+
+use crate::account::Account;
+use crate::operations::TakeOp;
+use crate::place::Place;
+use crate::spending::spend;
+use crate::state::SharedTable;
+use crate::turns::turn_held;
+use chan_types::{NoMemory, Orders, Ticket};
+use completion_ticket::{Callback, Called, Done};
+use seat_lock::Hold;
+use std::alloc::Global;
+use std::sync::Wait;
+
+/// Takes ready requests, up to so many, under one hold of the lock, and then spends their tickets, one after the other, with
+/// no lock held. Answers what is left of their callbacks, which is fewer where no more were ready. For want of memory
+/// nothing is taken.
+pub fn deliver_some<B: Done + Drop, R: Wait>(
+    alloc: Global,
+    place: &mut Place<'_, B, R>,
+    orders: Orders,
+    most: u64,
+) -> Result<Vec<Called<B>>, NoMemory>
+    ensures delivered { IfOk result
+        (λ called. DeliversUpTo orders most place.old called.items place.new) }
+    ensures refused { OnErr result (place.new ≡ place.old) }
+{
+    // a ticket that was taken must be spent: there is room for all of them before the first
+    let mut tickets = Vec::with_capacity(alloc, most as usize)?;
+    let mut called = Vec::with_capacity(alloc, most as usize)?;
+    take_some(place, most, &mut tickets);
+    spend_each(place, tickets, orders, &mut called);
+    Ok(called)
+}
+
+/// Takes ready requests, up to so many, under one hold of the lock.
+fn take_some<B: Done + Drop, R: Wait>(
+    place: &mut Place<'_, B, R>,
+    most: u64,
+    tickets: &mut Vec<Ticket<Callback<B>>>,
+)
+    requires none { tickets.old.items ≡ [] }
+    requires room { most ≤ vec_capacity tickets.old }
+    ensures taken { TakesUpTo most place.old tickets.new.items place.new }
+    ensures few { vec_len tickets.new ≤ most }
+{
+    let (rt, lock) = (place.rt, place.lock);
+    let mut hold = lock.hold(rt);
+    take_held(&mut hold, &mut place.account, most, tickets);
+}
+
+/// Takes ready requests, up to so many, under this hold of the lock.
+fn take_held<B: Done + Drop, R: Wait>(
+    hold: &mut Hold<'_, SharedTable<B>, R>,
+    account: &mut Account<B>,
+    most: u64,
+    tickets: &mut Vec<Ticket<Callback<B>>>,
+)
+    requires lock { account.old.lock ≡ hold.old }
+    requires none { tickets.old.items ≡ [] }
+    requires room { most ≤ vec_capacity tickets.old }
+    ensures lock { account.new.lock ≡ account.old.lock }
+    ensures taken { TakesUpTo most account.old tickets.new.items account.new }
+    ensures few { vec_len tickets.new ≤ most }
+{
+    while (tickets.len() as u64) < most {
+        let Some(ticket) = turn_held(hold, account, TakeOp) else {
+            return;
+        };
+        tickets.push_reserved(ticket);
+    }
+}
+
+/// Spends these tickets, one after the other.
+fn spend_each<B: Done + Drop, R: Wait>(
+    place: &mut Place<'_, B, R>,
+    tickets: Vec<Ticket<Callback<B>>>,
+    orders: Orders,
+    called: &mut Vec<Called<B>>,
+)
+    requires none { called.old.items ≡ [] }
+    requires room { vec_len tickets ≤ vec_capacity called.old }
+    ensures { SpendsEach orders tickets.items place.old called.new.items place.new }
+{
+    for ticket in tickets {
+        called.push_reserved(spend(place, ticket, orders));
+    }
+}

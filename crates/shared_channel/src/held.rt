@@ -1,0 +1,165 @@
+//! A thread's way to use a shared channel by several calls in a row.
+
+ghost use Rattle.std.specs.Prelude.{◌≡◌, length};
+
+use crate::account::Account;
+use crate::looking::{CountsOp, LinkBusyOp, NextDueOp};
+use crate::operations::{AcceptOp, CancelOp, DestroyOp, TakeOp};
+use crate::place::Place;
+use crate::running::{ArriveOp, ExpireOp, FaultOp, SetServersOp, StartOp};
+use crate::state::{ChannelLock, SharedTable};
+use crate::turns::turn_held;
+use chan_types::{NoMemory, Spec, Ticket};
+use channel_model::{Begun, Counts, Desk, Landed, Lapse, Refused, SetFault};
+use completion_ticket::{Callback, Done, Hand};
+use net_addr::ServerAddr;
+use seat_lock::Hold;
+use std::marker::Model;
+use std::sync::Wait;
+
+/// A place that holds its channel's lock: a desk, whose calls needn't wait for other threads, while those wait for it.
+/// Contracts see the pass.
+///
+/// The place is inside, so no callback is told an answer through it while the lock is held: what does that takes a
+/// `Place`. The thread that has it must not use another place of the same channel, which would wait for itself.
+#[derive(Drop)]
+pub struct HeldPlace<'c, B: Done + Drop, R: Wait> {
+    rt: &'c R,
+    lock: &'c ChannelLock<B>,
+    hold: Hold<'c, SharedTable<B>, R>,
+    account: Account<B>,
+    hand: Hand,
+    ghost here: { account.lock ≡ lock.now },
+    ghost held: { account.lock ≡ hold },
+    ghost empty: { length hand.commands ≡ 0 },
+}
+
+impl<'c, B: Done + Drop, R: Wait> Model for HeldPlace<'c, B, R> {
+    ghost use Rattle.std.specs.Coded.{codes};
+    ghost use Rattle.chan_types.specs.PlanCode.{moves_code};
+    ghost use Rattle.shared_channel.specs.Passes.{PassView};
+
+    ghost Value = { PassView };
+
+    ghost coded = { Prim.hlevel (codes, moves_code) };
+
+    ghost view = { λ held. held.account };
+}
+
+impl<'c, B: Done + Drop, R: Wait> HeldPlace<'c, B, R> {
+    /// The place, which waits for the lock and holds it.
+    pub(crate) fn of(place: Place<'c, B, R>) -> HeldPlace<'c, B, R>
+        ensures { result ≡ place.entry }
+    {
+        let Place {
+            rt,
+            lock,
+            account,
+            hand,
+        } = place;
+        let hold = lock.hold(rt);
+        HeldPlace {
+            rt,
+            lock,
+            hold,
+            account,
+            hand,
+        }
+    }
+
+    /// Lets the lock go, and gives the place back.
+    pub fn release(self) -> Place<'c, B, R>
+        ensures { result ≡ self.entry }
+    {
+        let HeldPlace {
+            rt,
+            lock,
+            hold,
+            account,
+            hand,
+        } = self;
+        drop(hold);
+        Place {
+            rt,
+            lock,
+            account,
+            hand,
+        }
+    }
+}
+
+impl<'c, B: Done + Drop, R: Wait> Desk for HeldPlace<'c, B, R> {
+    ghost use Rattle.shared_channel.specs.Passes.{desk_of};
+
+    type Token = Callback<B>;
+
+    ghost known = { λ held. desk_of held };
+
+    fn accept(&mut self, spec: Spec, token: Callback<B>) -> Result<u64, Refused<Callback<B>>> {
+        turn_held(
+            &mut self.hold,
+            &mut self.account,
+            AcceptOp { by: 0, spec, token },
+        )
+    }
+
+    fn cancel(&mut self) -> u64 {
+        turn_held(&mut self.hold, &mut self.account, CancelOp { by: 0 })
+    }
+
+    fn destroy(&mut self) -> bool {
+        turn_held(&mut self.hold, &mut self.account, DestroyOp { by: 0 })
+    }
+
+    fn take(&mut self) -> Option<Ticket<Callback<B>>> {
+        turn_held(&mut self.hold, &mut self.account, TakeOp)
+    }
+
+    fn start(&mut self, word: u16, mix: u16, at: u64) -> Result<Begun, NoMemory> {
+        turn_held(&mut self.hold, &mut self.account, StartOp { word, mix, at })
+    }
+
+    fn arrive(&mut self, server: u32, link: u64, bytes: &[u8]) -> Result<Landed, NoMemory> {
+        turn_held(
+            &mut self.hold,
+            &mut self.account,
+            ArriveOp {
+                server,
+                link,
+                bytes,
+            },
+        )
+    }
+
+    fn expire(&mut self, at: u64) -> Result<Lapse, NoMemory> {
+        turn_held(&mut self.hold, &mut self.account, ExpireOp { at })
+    }
+
+    fn fault(&mut self, server: u32, link: u64, at: u64) -> Result<u64, NoMemory> {
+        turn_held(
+            &mut self.hold,
+            &mut self.account,
+            FaultOp { server, link, at },
+        )
+    }
+
+    fn next_due(&mut self) -> Option<u64> {
+        turn_held(&mut self.hold, &mut self.account, NextDueOp)
+    }
+
+    fn counts(&mut self) -> Counts {
+        turn_held(&mut self.hold, &mut self.account, CountsOp)
+    }
+
+    fn link_busy(&mut self, server: u32, link: u64) -> bool {
+        turn_held(
+            &mut self.hold,
+            &mut self.account,
+            LinkBusyOp { server, link },
+        )
+    }
+
+    fn set_servers(&mut self, servers: &[ServerAddr]) -> Result<u64, SetFault> {
+        turn_held(&mut self.hold, &mut self.account, SetServersOp { servers })
+    }
+}
