@@ -5,10 +5,10 @@ use chan_types::Spec;
 use item_list::Bytes;
 use net_addr::ServerAddr;
 use net_world::FileRead;
-use resolv_options::{Flags, Options};
+use resolv_options::{Flags, Name, Options};
 
 /// A resolv.conf that sets a server, the first wait, the tries, and that servers take turns.
-const RESOLV: &[u8; 56] = b"nameserver 192.0.2.9\noptions timeout:5 attempts:4 rotate";
+const RESOLV: &[u8] = b"nameserver 192.0.2.9\noptions timeout:5 attempts:4 rotate";
 
 /// All options of adig, and a name.
 const ADIG_ALL: &str =
@@ -58,11 +58,6 @@ fn is_search(spec: &Spec, text: &[u8], numbers: (u16, u16)) -> bool {
     }
 }
 
-/// Whether the options have these two servers.
-fn has_servers(options: &Options, first: ServerAddr, second: ServerAddr) -> bool {
-    options.servers().as_slice() == [first, second].as_slice()
-}
-
 /// The flags that the options of adig set.
 fn all_flags() -> Flags {
     Flags {
@@ -77,102 +72,147 @@ fn all_flags() -> Flags {
     }
 }
 
+/// What an asking sets of the options.
+fn settings_of(ask: AdigAsk) -> Settings {
+    ask.settings
+}
+
+/// The options that a line of adig sets, where resolv.conf is so.
+fn options_with(alloc: Global, line: &str, file: &FileRead) -> Result<Options, Fail> {
+    let ask = adig_asked(alloc, line)?;
+    options_of(alloc, settings_of(ask), file)
+}
+
+/// The options that a line of adig and resolv.conf set.
+fn adig_options(alloc: Global, line: &str, is_there: bool) -> Result<Options, Fail> {
+    let file = resolv(alloc, is_there)?;
+    options_with(alloc, line, &file)
+}
+
+/// Whether a line of adig names this resolv.conf.
+fn names_resolv(alloc: Global, line: &str, path: &str) -> Result<bool, Fail> {
+    let ask = adig_asked(alloc, line)?;
+    Ok(ask.resolv.as_str() == path)
+}
+
+/// Whether a line of adig asks a search for this name, type and class.
+fn asks_search(alloc: Global, line: &str, text: &[u8], numbers: (u16, u16)) -> Result<bool, Fail> {
+    let ask = adig_asked(alloc, line)?;
+    Ok(is_search(&ask.spec, text, numbers))
+}
+
+/// The servers of all options of adig.
+const SERVERS: &[ServerAddr] = &[
+    ServerAddr {
+        address: Addr::V4(0xc000_0201),
+        port: 5353,
+    },
+    ServerAddr {
+        address: Addr::V4(0xc000_0202),
+        port: 5353,
+    },
+];
+
+/// Whether all options of adig are set.
+fn has_all(options: &Options) -> bool {
+    options.servers().as_slice() == SERVERS
+        && options.timeout() == 500
+        && options.tries() == 2
+        && options.rotate()
+        && options.flags() == all_flags()
+}
+
+/// Whether a line of adig sets all.
+fn sets_all(alloc: Global, line: &str) -> Result<bool, Fail> {
+    let options = adig_options(alloc, line, true)?;
+    Ok(has_all(&options))
+}
+
 // All options of adig: the words' servers stand in place of the file's, a time is in milliseconds, and letters of a type may be small.
 #[test]
 fn adig_sets_all(rt: HostRuntime) -> Result<(), Fail> {
     let alloc = rt.alloc();
-    let ask = adig_asked(alloc, ADIG_ALL)?;
-    assert!(rt; ask.resolv.as_str() == "r.conf");
-    assert!(rt; is_search(&ask.spec, b"www", (15, 3)));
-    let options = options_of(alloc, ask.settings, &resolv(alloc, true)?)?;
-    assert!(rt;
-        has_servers(
-            &options,
-            server(0xc000_0201, 5353),
-            server(0xc000_0202, 5353)
-        )
-    );
-    assert!(rt; options.timeout() == 500 && options.tries() == 2 && options.rotate());
-    assert!(rt; options.flags() == all_flags());
+    assert!(rt; names_resolv(alloc, ADIG_ALL, "r.conf")?);
+    assert!(rt; asks_search(alloc, ADIG_ALL, b"www", (15, 3))?);
+    assert!(rt; sets_all(alloc, ADIG_ALL)?);
     Ok(())
 }
 
-/// Whether a line and resolv.conf set this one server and this first wait. The words name no resolv.conf.
-fn sets(
-    alloc: Global,
-    line: &str,
-    is_there: bool,
-    asked: ServerAddr,
-    timeout: u32,
-) -> Result<bool, Fail> {
-    let ask = adig_asked(alloc, line)?;
-    let is_usual = ask.resolv.as_str() == "/etc/resolv.conf";
-    let options = options_of(alloc, ask.settings, &resolv(alloc, is_there)?)?;
+/// A line that names no resolv.conf, whether there is one, and the server and the first wait that they set.
+type Rest = (&'static str, bool, (u32, u16), u32);
+
+/// Without options the file counts, an absent one sets the defaults, and a port of the words is that of the file's servers.
+const RESTS: &[Rest] = &[
+    ("--tcp x", true, (0xc000_0209, 53), 5000),
+    ("--port=5353 x", true, (0xc000_0209, 5353), 5000),
+    ("--tcp x", false, (0x7f00_0001, 53), 2000),
+    ("--server=192.0.2.1 x", true, (0xc000_0201, 53), 5000),
+];
+
+/// Whether they set them, and the usual resolv.conf is named.
+fn sets(alloc: Global, rest: &Rest) -> Result<bool, Fail> {
+    let (line, is_there, (address, port), timeout) = *rest;
+    let is_usual = names_resolv(alloc, line, "/etc/resolv.conf")?;
+    let options = adig_options(alloc, line, is_there)?;
     Ok(
         is_usual
-            && options.servers().as_slice() == [asked].as_slice()
+            && options.servers().as_slice() == [server(address, port)].as_slice()
             && options.timeout() == timeout,
     )
 }
 
-// Without options the file counts, an absent one sets the defaults, and a port of the words is that of the file's servers.
 #[test]
 fn files_set_the_rest(rt: HostRuntime) -> Result<(), Fail> {
-    let alloc = rt.alloc();
-    assert!(rt; sets(alloc, "--tcp x", true, server(0xc000_0209, 53), 5000)?);
-    assert!(rt;
-        sets(
-            alloc,
-            "--port=5353 x",
-            true,
-            server(0xc000_0209, 5353),
-            5000
-        )?
-    );
-    assert!(rt; sets(alloc, "--tcp x", false, server(0x7f00_0001, 53), 2000)?);
-    assert!(rt;
-        sets(
-            alloc,
-            "--server=192.0.2.1 x",
-            true,
-            server(0xc000_0201, 53),
-            5000
-        )?
-    );
+    for rest in RESTS {
+        assert!(rt; sets(rt.alloc(), rest)?, "{}", rest.0);
+    }
     Ok(())
 }
 
-/// Whether an address is looked up backwards, and else a query of type A and class IN is asked, by a line whose label
-/// is this text.
-fn is_reversed(alloc: Global, line: &str, text: &str) -> Result<bool, Fail> {
-    let ask = adig_asked(alloc, line)?;
-    if label(alloc, &ask.spec)?.as_slice() != text.as_bytes() {
-        return Err(Fail::new("another label"));
-    }
-    match ask.spec {
+/// A line, its label, and whether an address is looked up backwards, and else a query of type A and class IN is asked.
+type Asked = (&'static str, &'static str, bool);
+
+const ASKED: &[Asked] = &[
+    ("-- -x", "-x", false),
+    ("--tcp Example.com", "Example.com", false),
+    ("--reverse 192.0.2.1", "192.0.2.1", true),
+    (
+        "--reverse --search --type=MX 2001:DB8::1",
+        "2001:db8::1",
+        true,
+    ),
+];
+
+/// Whether an address is looked up backwards, and else a query of type A and class IN is asked.
+fn is_asked(spec: &Spec, is_reversed: bool) -> bool {
+    match spec {
         Spec::Query {
             kind: 1,
             class: 1,
             ..
-        } => Ok(false),
-        Spec::Reverse { .. } => Ok(true),
-        _ => Err(Fail::new("a query or a reversed name")),
+        } => !is_reversed,
+        Spec::Reverse { .. } => is_reversed,
+        _ => false,
     }
+}
+
+/// Whether the label of a request is this text.
+fn has_label(alloc: Global, spec: &Spec, text: &str) -> Result<bool, Fail> {
+    Ok(label(alloc, spec)?.as_slice() == text.as_bytes())
+}
+
+/// Whether a line of adig asks so.
+fn asks_so(alloc: Global, row: &Asked) -> Result<bool, Fail> {
+    let (line, text, is_reversed) = *row;
+    let ask = adig_asked(alloc, line)?;
+    Ok(is_asked(&ask.spec, is_reversed) && has_label(alloc, &ask.spec, text)?)
 }
 
 #[test]
 fn adig_asks_for_names(rt: HostRuntime) -> Result<(), Fail> {
-    let alloc = rt.alloc();
-    assert!(rt; !is_reversed(alloc, "-- -x", "-x")?);
-    assert!(rt; !is_reversed(alloc, "--tcp Example.com", "Example.com")?);
-    assert!(rt; is_reversed(alloc, "--reverse 192.0.2.1", "192.0.2.1")?);
-    assert!(rt;
-        is_reversed(
-            alloc,
-            "--reverse --search --type=MX 2001:DB8::1",
-            "2001:db8::1"
-        )?
-    );
+    for row in ASKED {
+        assert!(rt; asks_so(rt.alloc(), row)?, "{}", row.0);
+    }
     Ok(())
 }
 
@@ -188,65 +228,126 @@ fn is_host(spec: &Spec, text: &[u8]) -> bool {
     }
 }
 
+/// Whether the options of ahost are those of its line.
+fn has_some(ask: &AhostAsk) -> bool {
+    let has_paths = ask.hosts.as_str() == "/etc/hosts" && ask.resolv.as_str() == "/etc/resolv.conf";
+    let has_orders = ask.orders.follow && !ask.orders.first && ask.orders.quit;
+    has_paths && has_orders && ask.workers == 2 && ask.load.is_none()
+}
+
+/// Whether its hosts are a and b.
+fn has_hosts(alloc: Global, ask: &AhostAsk) -> Result<bool, Fail> {
+    let [first, second] = ask.specs.as_slice() else {
+        return Ok(false);
+    };
+    Ok(is_host(first, b"a") && is_host(second, b"b") && has_label(alloc, first, "a")?)
+}
+
+/// Whether a line of ahost has both.
+fn asks_hosts(alloc: Global, line: &str) -> Result<bool, Fail> {
+    let ask = ahost_asked(alloc, line)?;
+    Ok(has_some(&ask) && has_hosts(alloc, &ask)?)
+}
+
 #[test]
 fn ahost_asks_for_hosts(rt: HostRuntime) -> Result<(), Fail> {
-    let alloc = rt.alloc();
-    let ask = ahost_asked(alloc, AHOST_SOME)?;
-    assert!(rt; ask.hosts.as_str() == "/etc/hosts" && ask.resolv.as_str() == "/etc/resolv.conf");
-    assert!(rt; ask.orders.follow && !ask.orders.first && ask.orders.quit);
-    assert!(rt; ask.workers == 2 && ask.load.is_none());
-    let [first, second] = ask.specs.as_slice() else {
-        return Err(Fail::new("two requests"));
-    };
-    assert!(rt; label(alloc, first)?.as_slice() == b"a".as_slice());
-    assert!(rt; is_host(second, b"b"));
+    assert!(rt; asks_hosts(rt.alloc(), AHOST_SOME)?);
     Ok(())
+}
+
+/// The servers that are set later.
+const LATER: &[ServerAddr] = &[
+    ServerAddr {
+        address: Addr::V4(0xc000_0202),
+        port: 5300,
+    },
+    ServerAddr {
+        address: Addr::V4(0xc000_0203),
+        port: 5300,
+    },
+];
+
+/// Whether a line of ahost sets them.
+fn sets_later(alloc: Global, line: &str) -> Result<bool, Fail> {
+    let ask = ahost_asked(alloc, line)?;
+    Ok(match &ask.later {
+        Some(later) => later.as_slice() == LATER,
+        None => false,
+    })
+}
+
+/// What an asking of ahost sets of the options.
+fn ahost_settings_of(ask: AhostAsk) -> Settings {
+    ask.settings
+}
+
+/// The options that a line of ahost sets without a resolv.conf.
+fn ahost_options(alloc: Global, line: &str) -> Result<Options, Fail> {
+    let ask = ahost_asked(alloc, line)?;
+    options_of(alloc, ahost_settings_of(ask), &FileRead::Absent)
+}
+
+/// Whether a line of ahost sets the sources, the flags and the server.
+fn sets_options(alloc: Global, line: &str) -> Result<bool, Fail> {
+    let options = ahost_options(alloc, line)?;
+    Ok(
+        options.sources().as_slice() == [Addr::V4(0xc000_0207)].as_slice()
+            && options.flags().nosearch
+            && options.flags().edns
+            && options.servers().as_slice() == [server(0x7f00_0001, 5300)].as_slice(),
+    )
 }
 
 #[test]
 fn ahost_sets_options(rt: HostRuntime) -> Result<(), Fail> {
-    let alloc = rt.alloc();
-    let ask = ahost_asked(alloc, AHOST_SOME)?;
-    let Some(later) = &ask.later else {
-        return Err(Fail::new("later servers"));
-    };
-    let servers = [server(0xc000_0202, 5300), server(0xc000_0203, 5300)];
-    assert!(rt; later.as_slice() == servers.as_slice());
-    let options = options_of(alloc, ask.settings, &FileRead::Absent)?;
-    assert!(rt; options.sources().as_slice() == [Addr::V4(0xc000_0207)].as_slice());
-    assert!(rt; options.flags().nosearch && options.flags().edns);
-    assert!(rt; options.servers().as_slice() == [server(0x7f00_0001, 5300)].as_slice());
+    assert!(rt; sets_later(rt.alloc(), AHOST_SOME)?);
+    assert!(rt; sets_options(rt.alloc(), AHOST_SOME)?);
     Ok(())
+}
+
+/// Whether a line of ahost asks no name, and this load.
+fn asks_load(alloc: Global, line: &str, load: Load) -> Result<bool, Fail> {
+    let ask = ahost_asked(alloc, line)?;
+    Ok(ask.specs.is_empty() && ask.load == Some(load))
 }
 
 #[test]
 fn ahost_asks_for_a_load(rt: HostRuntime) -> Result<(), Fail> {
-    let ask = ahost_asked(rt.alloc(), "--load 12 --seed=7")?;
-    assert!(rt; ask.specs.is_empty() && ask.load == Some(Load { names: 12, seed: 7 }));
+    let load = Load { names: 12, seed: 7 };
+    assert!(rt; asks_load(rt.alloc(), "--load 12 --seed=7", load)?);
     Ok(())
+}
+
+/// How many addresses of localhost a hosts file has.
+fn localhosts(alloc: Global, file: &FileRead) -> Result<usize, Fail> {
+    let name = Name::from_text(alloc, b"localhost")?.name;
+    let hosts = hosts_read(alloc, file)?;
+    Ok(hosts.addresses(alloc, &name, Family::Any)?.len())
+}
+
+/// How often a server is asked by a resolv.conf.
+fn tries_in(alloc: Global, file: &FileRead) -> Result<u32, FileFault> {
+    Ok(u32::from(resolv_file(alloc, file)?.tries()))
+}
+
+/// Whether a hosts file is read, and a resolv.conf that sets nothing.
+fn is_read(alloc: Global, text: &[u8]) -> Result<bool, Fail> {
+    let file = FileRead::Content(Bytes::of(alloc, text)?);
+    Ok(localhosts(alloc, &file)? == 1 && tries_in(alloc, &file)? == 3)
+}
+
+/// Whether reading the file as either kind gives this fault.
+fn has_fault(alloc: Global, file: &FileRead, fault: FileFault) -> bool {
+    resolv_file(alloc, file).err() == Some(fault) && hosts_read(alloc, file).err() == Some(fault)
 }
 
 // A hosts file, an absent one, and files that can't be read.
 #[test]
 fn files_are_read(rt: HostRuntime) -> Result<(), Fail> {
     let alloc = rt.alloc();
-    let file = FileRead::Content(Bytes::of(alloc, b"127.0.0.1 localhost")?);
-    assert!(rt; localhosts(alloc, &file)? == 1);
+    assert!(rt; is_read(alloc, b"127.0.0.1 localhost")?);
     assert!(rt; localhosts(alloc, &FileRead::Absent)? == 0);
-    assert!(rt; resolv_file(alloc, &file)?.tries() == 3);
     assert!(rt; has_fault(alloc, &FileRead::Large, FileFault::TooLarge));
     assert!(rt; has_fault(alloc, &FileRead::Failed, FileFault::Failed));
     Ok(())
-}
-
-/// How many addresses of localhost a hosts file has.
-fn localhosts(alloc: Global, file: &FileRead) -> Result<usize, Fail> {
-    let hosts = hosts_read(alloc, file)?;
-    let name = resolv_options::Name::from_text(alloc, b"localhost")?.name;
-    Ok(hosts.addresses(alloc, &name, Family::Any)?.len())
-}
-
-/// Whether reading the file as either kind gives this fault.
-fn has_fault(alloc: Global, file: &FileRead, fault: FileFault) -> bool {
-    resolv_file(alloc, file).err() == Some(fault) && hosts_read(alloc, file).err() == Some(fault)
 }

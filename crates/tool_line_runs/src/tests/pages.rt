@@ -7,16 +7,16 @@ use net_addr::AddrList;
 use resolv_options::Name;
 
 /// A reply with the address 192.0.2.1 of example.com (RFC 1035, section 4.1).
-const REPLY: &[u8; 45] =
+const REPLY: &[u8] =
     b"\x12\x34\x81\x80\x00\x01\x00\x01\x00\x00\x00\x00\x07example\x03com\x00\x00\x01\x00\x01\xc0\x0c\x00\x01\x00\x01\x00\x00\x01\x2c\x00\x04\xc0\x00\x02\x01";
 
 /// A message of all flags and sections: a record of type 65280, an NS record, an A record, and an OPT record that
 /// extends the response code 3 by 1 and wants DNSSEC (RFC 1035, section 4.1; RFC 3597; RFC 6891, section 6.1).
-const WHOLE: &[u8; 77] =
+const WHOLE: &[u8] =
     b"\x00\x01\x87\x83\x00\x01\x00\x01\x00\x01\x00\x02\x01a\x00\x00\xff\x00\x01\xc0\x0c\xff\x00\x00\x01\x00\x00\x00\x3c\x00\x02\x0a\x0b\xc0\x0c\x00\x02\x00\x01\x00\x00\x00\x05\x00\x05\x02ns\xc0\x0c\xc0\x0c\x00\x01\x00\x01\x00\x00\x00\x00\x00\x04\xc0\x00\x02\x09\x00\x00\x29\x04\xd0\x01\x00\x80\x00\x00\x00";
 
 /// A reply with the name host.test of the address 192.0.2.1 (RFC 1035, section 3.5).
-const NAMES: &[u8; 63] =
+const NAMES: &[u8] =
     b"\x12\x34\x81\x80\x00\x01\x00\x01\x00\x00\x00\x00\x011\x012\x010\x03192\x07in-addr\x04arpa\x00\x00\x0c\x00\x01\xc0\x0c\x00\x0c\x00\x01\x00\x00\x00\x3c\x00\x0b\x04host\x04test\x00";
 
 /// An answer.
@@ -35,17 +35,24 @@ fn answer(
     })
 }
 
-/// Whether adig prints this page of an answer without addresses, to a query of class IN.
+/// A query of class IN by its name and its type, the status and the message of its answer, and the page.
+type Page = (&'static str, u16, Status, &'static [u8], &'static str);
+
+/// Whether adig prints such a page.
+fn is_printed(alloc: Global, row: &Page) -> Result<bool, NoMemory> {
+    let (name, kind, status, message, page) = *row;
+    let answer = answer(alloc, status, message, &[])?;
+    is_page(alloc, (name, kind), &answer, page)
+}
+
+/// Whether adig prints this page of an answer.
 fn is_page(
     alloc: Global,
     asked: (&str, u16),
-    answered: (Status, &[u8]),
+    answer: &Answer,
     page: &str,
-) -> Result<bool, Fail> {
-    let (name, kind) = asked;
-    let (status, message) = answered;
-    let answer = answer(alloc, status, message, &[])?;
-    let printed = adig_page(alloc, name.as_bytes(), kind, 1, &answer)?;
+) -> Result<bool, NoMemory> {
+    let printed = adig_page(alloc, asked.0.as_bytes(), asked.1, 1, answer)?;
     Ok(printed.as_slice() == page.as_bytes())
 }
 
@@ -70,48 +77,57 @@ a. 0 IN A 192.0.2.9
 . OPT size 1232 ext 1 version 0 do 1 \\# 0
 ";
 
+/// Pages with an address, of all flags and sections, and without a message.
+const PAGES: &[Page] = &[
+    ("example.com", 1, Status::Success, REPLY, REPLY_PAGE),
+    ("a", 255, Status::BadResp, WHOLE, WHOLE_PAGE),
+    (
+        "a..b",
+        28,
+        Status::BadName,
+        b"",
+        ";; a..b IN AAAA\n;; status 8 EBADNAME\n",
+    ),
+];
+
 #[test]
 fn adig_prints_pages(rt: HostRuntime) -> Result<(), Fail> {
-    let alloc = rt.alloc();
-    let replied = (Status::Success, REPLY.as_slice());
-    assert!(rt; is_page(alloc, ("example.com", 1), replied, REPLY_PAGE)?);
-    let whole = (Status::BadResp, WHOLE.as_slice());
-    assert!(rt; is_page(alloc, ("a", 255), whole, WHOLE_PAGE)?);
-    let bad = (Status::BadName, b"".as_slice());
-    let page = ";; a..b IN AAAA\n;; status 8 EBADNAME\n";
-    assert!(rt; is_page(alloc, ("a..b", 28), bad, page)?);
+    for page in PAGES {
+        assert!(rt; is_printed(rt.alloc(), page)?);
+    }
     Ok(())
 }
 
 /// The lookup of 192.0.2.1 backwards.
-fn reversed() -> Spec {
-    Spec::Reverse {
-        address: Addr::V4(0xc000_0201),
-    }
+const REVERSED: Spec = Spec::Reverse {
+    address: Addr::V4(0xc000_0201),
+};
+
+/// Whether adig prints this page of that lookup, where it times out.
+fn is_reversed_page(alloc: Global, page: &str) -> Result<bool, NoMemory> {
+    let answer = answer(alloc, Status::TimedOut, b"", &[])?;
+    Ok(page_of(alloc, &REVERSED, &answer)?.as_slice() == page.as_bytes())
 }
 
 #[test]
 fn adig_prints_an_address(rt: HostRuntime) -> Result<(), Fail> {
-    let alloc = rt.alloc();
-    let answer = answer(alloc, Status::TimedOut, b"", &[])?;
     let page = ";; 192.0.2.1 IN PTR\n;; status 12 ETIMEOUT\n";
-    assert!(rt; page_of(alloc, &reversed(), &answer)?.as_slice() == page.as_bytes());
+    assert!(rt; is_reversed_page(rt.alloc(), page)?);
     Ok(())
 }
 
-/// Whether ahost prints these lines, at this depth, of an answer to a request.
-fn is_block(
-    alloc: Global,
-    depth: u32,
-    spec: &Spec,
-    answer: &Answer,
-    lines: &str,
-) -> Result<bool, Fail> {
-    Ok(block_lines(alloc, depth, spec, answer)?.as_slice() == lines.as_bytes())
+/// The status, the message and the addresses of an answer, and the lines that ahost prints of it.
+type Block = (Status, &'static [u8], &'static [Addr], &'static str);
+
+/// Whether ahost prints such lines, at this depth, of an answer to a request.
+fn is_block(alloc: Global, depth: u32, spec: &Spec, row: &Block) -> Result<bool, NoMemory> {
+    let (status, message, addresses, lines) = *row;
+    let answer = answer(alloc, status, message, addresses)?;
+    Ok(block_lines(alloc, depth, spec, &answer)?.as_slice() == lines.as_bytes())
 }
 
 /// The lookup of the addresses of localhost.
-fn host(alloc: Global) -> Result<Spec, Fail> {
+fn host(alloc: Global) -> Result<Spec, NoMemory> {
     Ok(Spec::Address {
         host: Bytes::of(alloc, b"localhost")?,
         family: Family::Any,
@@ -119,25 +135,35 @@ fn host(alloc: Global) -> Result<Spec, Fail> {
     })
 }
 
+/// Whether ahost prints such lines of that lookup.
+fn is_host_block(alloc: Global, row: &Block) -> Result<bool, NoMemory> {
+    let host = host(alloc)?;
+    is_block(alloc, 0, &host, row)
+}
+
+/// The names of an address.
+const NAMES_BLOCK: &Block = &(
+    Status::Success,
+    NAMES,
+    &[],
+    "  192.0.2.1 0 SUCCESS\n    1.2.0.192.in-addr.arpa. 60 IN PTR host.test.\n",
+);
+
+/// The addresses of a name.
+const ADDRESSES_BLOCK: &Block = &(
+    Status::Success,
+    b"",
+    &[Addr::V6(1), Addr::V4(0x7f00_0001)],
+    "localhost 0 SUCCESS\n  ::1\n  127.0.0.1\n",
+);
+
+/// A name that isn't found, with a message that isn't printed.
+const FAILED_BLOCK: &Block = &(Status::NotFound, NAMES, &[], "localhost 4 ENOTFOUND\n");
+
 #[test]
 fn ahost_prints_blocks(rt: HostRuntime) -> Result<(), Fail> {
-    let alloc = rt.alloc();
-    let answered = answer(alloc, Status::Success, NAMES.as_slice(), &[])?;
-    let lines = "  192.0.2.1 0 SUCCESS\n    1.2.0.192.in-addr.arpa. 60 IN PTR host.test.\n";
-    assert!(rt; is_block(alloc, 1, &reversed(), &answered, lines)?);
-    let host = host(alloc)?;
-    let addresses = [Addr::V6(1), Addr::V4(0x7f00_0001)];
-    let found = answer(alloc, Status::Success, b"", addresses.as_slice())?;
-    assert!(rt;
-        is_block(
-            alloc,
-            0,
-            &host,
-            &found,
-            "localhost 0 SUCCESS\n  ::1\n  127.0.0.1\n"
-        )?
-    );
-    let failed = answer(alloc, Status::NotFound, NAMES.as_slice(), &[])?;
-    assert!(rt; is_block(alloc, 0, &host, &failed, "localhost 4 ENOTFOUND\n")?);
+    assert!(rt; is_block(rt.alloc(), 1, &REVERSED, NAMES_BLOCK)?);
+    assert!(rt; is_host_block(rt.alloc(), ADDRESSES_BLOCK)?);
+    assert!(rt; is_host_block(rt.alloc(), FAILED_BLOCK)?);
     Ok(())
 }

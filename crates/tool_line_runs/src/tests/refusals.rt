@@ -128,69 +128,81 @@ x y
 --sources ::1 --hosts h x";
 
 /// Whether adig takes the words.
-fn adig_takes<'a>(alloc: Global, words: &'a [&'a str]) -> Result<bool, Fail> {
+fn adig_takes<'a>(alloc: Global, words: &'a [&'a str]) -> Result<bool, WordFault> {
     match adig_ask(alloc, words) {
         Ok(_) => Ok(true),
         Err(WordFault::Refused) => Ok(false),
-        Err(WordFault::NoMemory) => Err(Fail::new("memory")),
+        Err(WordFault::NoMemory) => Err(WordFault::NoMemory),
     }
 }
 
 /// Whether ahost takes the words.
-fn ahost_takes<'a>(alloc: Global, words: &'a [&'a str]) -> Result<bool, Fail> {
+fn ahost_takes<'a>(alloc: Global, words: &'a [&'a str]) -> Result<bool, WordFault> {
     match ahost_ask(alloc, words) {
         Ok(_) => Ok(true),
         Err(WordFault::Refused) => Ok(false),
-        Err(WordFault::NoMemory) => Err(Fail::new("memory")),
+        Err(WordFault::NoMemory) => Err(WordFault::NoMemory),
     }
 }
 
-/// Whether adig takes the words of a line.
-fn adig_takes_line(alloc: Global, line: &str) -> Result<bool, Fail> {
-    adig_takes(alloc, words_of(alloc, line)?.as_slice())
+/// Whether either tool takes the words: adig, and ahost.
+fn takes<'a>(alloc: Global, words: &'a [&'a str]) -> Result<(bool, bool), WordFault> {
+    Ok((adig_takes(alloc, words)?, ahost_takes(alloc, words)?))
 }
 
-/// Whether ahost takes the words of a line.
-fn ahost_takes_line(alloc: Global, line: &str) -> Result<bool, Fail> {
-    ahost_takes(alloc, words_of(alloc, line)?.as_slice())
+/// Whether either tool takes the words of a line.
+fn takes_line(alloc: Global, line: &str) -> Result<(bool, bool), Fail> {
+    let words = words_of(alloc, line)?;
+    Ok(takes(alloc, words.as_slice())?)
 }
 
 #[test]
 fn words_are_refused(rt: HostRuntime) -> Result<(), Fail> {
-    let alloc = rt.alloc();
     for line in REFUSED.split('\n') {
-        assert!(rt;
-            !adig_takes_line(alloc, line)? && !ahost_takes_line(alloc, line)?,
-            "{line}"
-        );
-    }
-    for line in ADIG_REFUSES.split('\n') {
-        assert!(rt; !adig_takes_line(alloc, line)?, "{line}");
-    }
-    for line in AHOST_REFUSES.split('\n') {
-        assert!(rt; !ahost_takes_line(alloc, line)?, "{line}");
+        assert!(rt; takes_line(rt.alloc(), line)? == (false, false), "{line}");
     }
     Ok(())
 }
 
-// No word at all, and an address with a blank before it, which no line of the tables can say.
+#[test]
+fn adig_refuses_words(rt: HostRuntime) -> Result<(), Fail> {
+    for line in ADIG_REFUSES.split('\n') {
+        assert!(rt; !takes_line(rt.alloc(), line)?.0, "{line}");
+    }
+    Ok(())
+}
+
+#[test]
+fn ahost_refuses_words(rt: HostRuntime) -> Result<(), Fail> {
+    for line in AHOST_REFUSES.split('\n') {
+        assert!(rt; !takes_line(rt.alloc(), line)?.1, "{line}");
+    }
+    Ok(())
+}
+
+/// An address with a blank before it, which no line of the tables can say.
+const SPACED: &[&str] = &["--server", "192.0.2.1, 192.0.2.2", "x"];
+
+// Nor can one say no word at all.
 #[test]
 fn no_words_and_blanks_are_refused(rt: HostRuntime) -> Result<(), Fail> {
-    let alloc = rt.alloc();
-    assert!(rt; !adig_takes(alloc, &[])? && !ahost_takes(alloc, &[])?);
-    let spaced = ["--server", "192.0.2.1, 192.0.2.2", "x"];
-    assert!(rt; !adig_takes(alloc, spaced.as_slice())? && !ahost_takes(alloc, spaced.as_slice())?);
+    assert!(rt; takes(rt.alloc(), &[])? == (false, false));
+    assert!(rt; takes(rt.alloc(), SPACED)? == (false, false));
     Ok(())
 }
 
 #[test]
-fn words_are_taken(rt: HostRuntime) -> Result<(), Fail> {
-    let alloc = rt.alloc();
+fn adig_takes_words(rt: HostRuntime) -> Result<(), Fail> {
     for line in ADIG_TAKES.split('\n') {
-        assert!(rt; adig_takes_line(alloc, line)?, "{line}");
+        assert!(rt; takes_line(rt.alloc(), line)?.0, "{line}");
     }
+    Ok(())
+}
+
+#[test]
+fn ahost_takes_words(rt: HostRuntime) -> Result<(), Fail> {
     for line in AHOST_TAKES.split('\n') {
-        assert!(rt; ahost_takes_line(alloc, line)?, "{line}");
+        assert!(rt; takes_line(rt.alloc(), line)?.1, "{line}");
     }
     Ok(())
 }
