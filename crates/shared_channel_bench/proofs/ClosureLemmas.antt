@@ -4,7 +4,7 @@ use base.Fml.{Lft}
 use mir.Syntax.{ty_unit, w64}
 use denote.Array.{Array}
 use denote.Exit.{no}
-use denote.Plain.{UInt}
+use denote.Plain.{Boolean, UInt}
 use denote.RattleType.{RattleType}
 use denote.Param.{arg, param}
 use denote.Param.Send.{IsSend, IsSync, arg_send, param_send, sendable}
@@ -16,20 +16,23 @@ use Rattle.shared_channel.proofs.Theorems.{Own, lent, lent_send, pass_send, tupl
 number_send : IsSend (UInt w64)
 number_send = search sendable
 
+way_send : IsSend Boolean
+way_send = search sendable
+
 numbers_send : IsSend (Array (UInt w64) 4)
 numbers_send = search sendable
 
--- one that asks so many requests through a pass
-pub asker_send : (handle channel : Lft) (R : RattleType) → IsSync R → IsSend (param 1 (arg ty_unit no (TupleAt [] (lent handle channel R (Own ∷ Global.the_row ∷ UInt w64 ∷ [])))))
-asker_send handle channel R shared = lent_send handle channel R (Own ∷ Global.the_row ∷ UInt w64 ∷ []) shared (pass_send, (global.the_send, (number_send, tt)))
+-- one that asks so many requests through a pass, one by one or under a hold
+pub asker_send : (handle channel : Lft) (R : RattleType) → IsSync R → IsSend (param 1 (arg ty_unit no (TupleAt [] (lent handle channel R (Own ∷ Global.the_row ∷ UInt w64 ∷ Boolean ∷ [])))))
+asker_send handle channel R shared = lent_send handle channel R (Own ∷ Global.the_row ∷ UInt w64 ∷ Boolean ∷ []) shared (pass_send, (global.the_send, (number_send, (way_send, tt))))
 
 -- one that has two passes for two threads more, and a count for each
-pub pair_send : (handle channel : Lft) (R : RattleType) → IsSync R → IsSend (param 1 (arg ty_unit no (TupleAt [] (lent handle channel R (Own ∷ Own ∷ Global.the_row ∷ UInt w64 ∷ UInt w64 ∷ [])))))
-pair_send handle channel R shared = lent_send handle channel R (Own ∷ Own ∷ Global.the_row ∷ UInt w64 ∷ UInt w64 ∷ []) shared (pass_send, (pass_send, (global.the_send, (number_send, (number_send, tt)))))
+pub pair_send : (handle channel : Lft) (R : RattleType) → IsSync R → IsSend (param 1 (arg ty_unit no (TupleAt [] (lent handle channel R (Own ∷ Own ∷ Global.the_row ∷ UInt w64 ∷ UInt w64 ∷ Boolean ∷ [])))))
+pair_send handle channel R shared = lent_send handle channel R (Own ∷ Own ∷ Global.the_row ∷ UInt w64 ∷ UInt w64 ∷ Boolean ∷ []) shared (pass_send, (pass_send, (global.the_send, (number_send, (number_send, (way_send, tt))))))
 
 -- one that has four passes for four threads more, and the counts of all of them
-pub four_send : (handle channel : Lft) (R : RattleType) → IsSync R → IsSend (param 1 (arg ty_unit no (TupleAt [] (lent handle channel R (Own ∷ Own ∷ Own ∷ Own ∷ Global.the_row ∷ Array (UInt w64) 4 ∷ [])))))
-four_send handle channel R shared = lent_send handle channel R (Own ∷ Own ∷ Own ∷ Own ∷ Global.the_row ∷ Array (UInt w64) 4 ∷ []) shared (pass_send, (pass_send, (pass_send, (pass_send, (global.the_send, (numbers_send, tt))))))
+pub four_send : (handle channel : Lft) (R : RattleType) → IsSync R → IsSend (param 1 (arg ty_unit no (TupleAt [] (lent handle channel R (Own ∷ Own ∷ Own ∷ Own ∷ Global.the_row ∷ Array (UInt w64) 4 ∷ Boolean ∷ [])))))
+four_send handle channel R shared = lent_send handle channel R (Own ∷ Own ∷ Own ∷ Own ∷ Global.the_row ∷ Array (UInt w64) 4 ∷ Boolean ∷ []) shared (pass_send, (pass_send, (pass_send, (pass_send, (global.the_send, (numbers_send, (way_send, tt)))))))
 
 -- what two threads give back, and what four do
 abbrev pub Two : RattleType

@@ -28,6 +28,14 @@ impl Backoff {
         self.wait = self.wait.saturating_mul(2).min(LONGEST);
     }
 
+    /// Waits, where nothing was found.
+    pub fn look<R: Clock>(&mut self, rt: &R, found: u64) {
+        match found {
+            0 => self.snooze(rt),
+            _ => self.reset(),
+        }
+    }
+
     /// Something was found.
     pub fn reset(&mut self) {
         self.wait = FIRST;

@@ -1,12 +1,14 @@
 //! What a request costs at a channel that threads share, beside a channel with one owner.
 //! `alone N` asks, answers and delivers N requests at a channel with one owner, and `one N` at a shared one, in one
 //! thread. `times T N` does the first, and then asks and delivers N requests in T threads beside one that replies, and
-//! tells how long both took. With no words it does a few in two threads, and tells how many were accepted and called.
+//! tells how long both took; `many T N` is the same with ten calls under one hold of the lock. With no words it does a
+//! few in two threads, both ways, and tells how many were accepted and called.
 #![tactic(auto)]
 
 mod alone;
 mod asking;
 mod backoff;
+mod held;
 mod place;
 mod threads;
 
@@ -34,12 +36,13 @@ fn times<R: Threads + Wait + Sync + Clock>(
     alloc: Global,
     threads: u64,
     count: u64,
+    held: bool,
 ) -> io::Result<(u128, u128, u64)> {
     let start = Instant::now(rt)?;
     let _called = run_alone(alloc, count).is_ok();
     let alone = start.elapsed(rt)?.as_nanos();
     let start = Instant::now(rt)?;
-    let (_, called) = counts_of(run_shared(rt, alloc, threads, count));
+    let (_, called) = counts_of(run_shared(rt, alloc, threads, count, held));
     Ok((alone, start.elapsed(rt)?.as_nanos(), called))
 }
 
@@ -55,7 +58,9 @@ fn main(rt: HostRuntime) -> io::Result<()> {
     let alloc = rt.alloc();
     let mut words = env::args(&rt)?.skip(1);
     let Some(kind) = words.next() else {
-        let (accepted, called) = counts_of(run_shared(&rt, alloc, 2, 1000));
+        let (accepted, called) = counts_of(run_shared(&rt, alloc, 2, 1000, false));
+        println!(rt; "{accepted} {called}")?;
+        let (accepted, called) = counts_of(run_shared(&rt, alloc, 2, 1000, true));
         return println!(rt; "{accepted} {called}");
     };
     match kind.as_str() {
@@ -67,10 +72,11 @@ fn main(rt: HostRuntime) -> io::Result<()> {
             let (_, called) = counts_of(run_one(&rt, alloc, number(words.next(), 1000)));
             println!(rt; "{called}")
         }
-        _ => {
+        kind => {
+            let held = kind == "many";
             let threads = number(words.next(), 2);
             let count = number(words.next(), 1000);
-            let (alone, shared, called) = times(&rt, alloc, threads, count)?;
+            let (alone, shared, called) = times(&rt, alloc, threads, count, held)?;
             println!(rt; "{threads} {called} {alone} {shared}")
         }
     }

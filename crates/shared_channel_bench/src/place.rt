@@ -43,10 +43,10 @@ fn ask_some<R: Wait>(place: &mut Place<'_, Scripted, R>, alloc: Global, count: u
 
 /// An attempt that began: its server, its link and its identifier.
 #[derive(Clone, Copy)]
-struct Attempt {
-    server: u32,
-    link: u64,
-    id: u16,
+pub struct Attempt {
+    pub server: u32,
+    pub link: u64,
+    pub id: u16,
 }
 
 /// Begins an attempt, where a leg waits.
@@ -57,7 +57,7 @@ fn begun<R: Wait>(place: &mut Place<'_, Scripted, R>) -> Option<Attempt>
 }
 
 /// What began, if something did.
-fn attempt_of(begun: Result<Begun, NoMemory>) -> Option<Attempt> {
+pub fn attempt_of(begun: Result<Begun, NoMemory>) -> Option<Attempt> {
     match begun {
         Ok(
             Begun::Started {

@@ -6,6 +6,7 @@ ghost use Rattle.shared_channel.specs.Making.{IsNewChannel};
 ghost use Rattle.shared_channel.specs.Staying.{AreAt, StaysSettled};
 
 use crate::asking::{NONE, count_of};
+use crate::held::{reply_all_held, rounds_held};
 use crate::place::{reply_all, rounds, whole_rounds};
 use chan_types::NoMemory;
 use completion_ticket::Scripted;
@@ -60,11 +61,15 @@ fn replied<R: Wait + Clock>(
     channel: &Channel<Scripted>,
     pass: Pass<Scripted>,
     count: u64,
+    held: bool,
 ) -> Pass<Scripted>
     requires { pass.lock ≡ channel.now }
     ensures { StaysSettled pass result }
 {
     let mut place = channel.place(rt, pass);
+    if held {
+        return reply_all_held(rt, place, count).leave();
+    }
     reply_all(rt, &mut place, count);
     place.leave()
 }
@@ -76,11 +81,15 @@ fn asked<R: Wait + Clock>(
     pass: Pass<Scripted>,
     alloc: Global,
     count: u64,
+    held: bool,
 ) -> Pass<Scripted>
     requires { pass.lock ≡ channel.now }
     ensures { StaysSettled pass result }
 {
     let mut place = channel.place(rt, pass);
+    if held {
+        return rounds_held(rt, place, alloc, count).leave();
+    }
     rounds(rt, &mut place, alloc, count);
     place.leave()
 }
@@ -93,6 +102,7 @@ fn asked_by_two<R: Threads + Wait + Sync + Clock>(
     right: Pass<Scripted>,
     alloc: Global,
     counts: [u64; 2],
+    held: bool,
 ) -> (Pass<Scripted>, Pass<Scripted>)
     requires left { left.lock ≡ channel.now }
     requires right { right.lock ≡ channel.now }
@@ -105,11 +115,11 @@ fn asked_by_two<R: Threads + Wait + Sync + Clock>(
         move ||
             requires { left.lock ≡ channel.now }
             ensures { StaysSettled left result }
-        { asked(rt, channel, left, alloc, one) },
+        { asked(rt, channel, left, alloc, one, held) },
         move ||
             requires { right.lock ≡ channel.now }
             ensures { StaysSettled right result }
-        { asked(rt, channel, right, alloc, other) },
+        { asked(rt, channel, right, alloc, other, held) },
     )
 }
 
@@ -121,6 +131,7 @@ fn asked_by_four<R: Threads + Wait + Sync + Clock>(
     right: (Pass<Scripted>, Pass<Scripted>),
     alloc: Global,
     counts: [u64; 4],
+    held: bool,
 ) -> (
     (Pass<Scripted>, Pass<Scripted>),
     (Pass<Scripted>, Pass<Scripted>),
@@ -138,11 +149,11 @@ fn asked_by_four<R: Threads + Wait + Sync + Clock>(
         move ||
             requires { (first.lock ≡ channel.now) × (second.lock ≡ channel.now) }
             ensures { StaysSettled first result.0 × StaysSettled second result.1 }
-        { asked_by_two(rt, channel, first, second, alloc, [one, two]) },
+        { asked_by_two(rt, channel, first, second, alloc, [one, two], held) },
         move ||
             requires { (third.lock ≡ channel.now) × (fourth.lock ≡ channel.now) }
             ensures { StaysSettled third result.0 × StaysSettled fourth result.1 }
-        { asked_by_two(rt, channel, third, fourth, alloc, [three, four]) },
+        { asked_by_two(rt, channel, third, fourth, alloc, [three, four], held) },
     )
 }
 
@@ -155,6 +166,7 @@ fn asked_and_replied<R: Threads + Wait + Sync + Clock>(
     replying: Pass<Scripted>,
     alloc: Global,
     counts: [u64; 4],
+    held: bool,
 ) -> (
     (
         (Pass<Scripted>, Pass<Scripted>),
@@ -179,11 +191,21 @@ fn asked_and_replied<R: Threads + Wait + Sync + Clock>(
                 × (third.lock ≡ channel.now) × (fourth.lock ≡ channel.now) }
             ensures { (StaysSettled first result.0.0 × StaysSettled second result.0.1)
                 × (StaysSettled third result.1.0 × StaysSettled fourth result.1.1) }
-        { asked_by_four(rt, channel, (first, second), (third, fourth), alloc, counts) },
+        {
+            asked_by_four(
+                rt,
+                channel,
+                (first, second),
+                (third, fourth),
+                alloc,
+                counts,
+                held,
+            )
+        },
         move ||
             requires { replying.lock ≡ channel.now }
             ensures { StaysSettled replying result }
-        { replied(rt, channel, replying, all) },
+        { replied(rt, channel, replying, all, held) },
     )
 }
 
@@ -202,12 +224,14 @@ fn shares(threads: u64, count: u64) -> [u64; 4] {
     }
 }
 
-/// Requests of one, two or four threads, beside one that replies.
+/// Requests of one, two or four threads, beside one that replies. Each thread makes the calls that it has at hand one by
+/// one, or under one hold of the lock.
 pub fn run_shared<R: Threads + Wait + Sync + Clock>(
     rt: &R,
     alloc: Global,
     threads: u64,
     count: u64,
+    held: bool,
 ) -> Result<Ended, NoMemory> {
     let (channel, mut passes) = plain_channel(alloc, 5)?;
     let fifth = last_pass(&channel, &mut passes);
@@ -224,6 +248,7 @@ pub fn run_shared<R: Threads + Wait + Sync + Clock>(
         fifth,
         alloc,
         counts,
+        held,
     );
     let (left, right) = asking;
     passes.push_reserved(left.0);

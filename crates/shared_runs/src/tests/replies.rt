@@ -20,9 +20,9 @@ const NAME_REPLY: [u8; 63] =
 /// An attempt that began: its server, its link and its identifier.
 #[derive(Clone, Copy)]
 pub struct Attempt {
-    server: u32,
-    link: u64,
-    id: u16,
+    pub server: u32,
+    pub link: u64,
+    pub id: u16,
 }
 
 /// Begins an attempt, where a leg waits, and takes in the reply 192.0.2.1 to it. Tells whether one was begun.
@@ -61,7 +61,7 @@ pub fn begun<R: Wait>(place: &mut Place<'_, Scripted, R>, at: u64) -> Option<Att
 }
 
 /// What began, if something did.
-fn attempt_of(begun: Result<Begun, NoMemory>) -> Option<Attempt> {
+pub fn attempt_of(begun: Result<Begun, NoMemory>) -> Option<Attempt> {
     match begun {
         Ok(
             Begun::Started {

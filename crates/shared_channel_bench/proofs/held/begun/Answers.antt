@@ -1,0 +1,5 @@
+use Rattle.shared_channel.proofs.Theorems.{stays_start}
+use Rattle.shared_channel_bench.proofs.held.begun.Goals as goal
+
+pub returns : goal.returns
+returns g c = stays_start 1 0 0 c.start.result c.args.held.now c.start.new.self c.start.ensures.done

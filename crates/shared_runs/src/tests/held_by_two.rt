@@ -1,0 +1,107 @@
+//! Two threads at one channel, each of which asks and replies under holds of the lock, and delivers several at once.
+
+ghost use Rattle.std.specs.Prelude.{◌≡◌};
+ghost use Rattle.shared_channel.specs.Staying.{StaysSettled};
+
+use super::holds::{asked_at_once, delivered_some};
+use super::telling::has_called_each;
+use super::{FOLLOW, last_pass, plain_channel};
+use chan_types::{Entry, NoMemory, What};
+use completion_ticket::Scripted;
+use shared_channel::{Channel, Finished, Pass, Place, finish};
+use std::alloc::Global;
+use std::sync::Wait;
+use std::test::*;
+use std::thread::{Threads, join};
+
+/// Asks ten requests and replies to ten under one hold, and then delivers up to ten.
+#[tactic(auto, using(shared_channel::proofs::Theorems::stays_more))]
+fn round<'c, R: Wait>(place: Place<'c, Scripted, R>, alloc: Global) -> Place<'c, Scripted, R>
+    ensures { StaysSettled place.entry result }
+{
+    let mut place = asked_at_once(place, alloc, 10);
+    delivered_some(&mut place, alloc, 10);
+    place
+}
+
+/// A hundred rounds.
+#[tactic(auto, using(shared_channel::proofs::Theorems::stays_more, shared_channel::proofs::Theorems::stays_none))]
+fn rounds<R: Wait>(
+    rt: &R,
+    channel: &Channel<Scripted>,
+    pass: Pass<Scripted>,
+    alloc: Global,
+) -> Pass<Scripted>
+    requires { pass.lock ≡ channel.now }
+    ensures { StaysSettled pass result }
+{
+    let mut place = channel.place(rt, pass);
+    for _ in 0..100u64 {
+        place = round(place, alloc);
+    }
+    place.leave()
+}
+
+/// The rounds of both threads.
+fn rounds_of_both<R: Threads + Wait + Sync>(
+    rt: &R,
+    channel: &Channel<Scripted>,
+    left: Pass<Scripted>,
+    right: Pass<Scripted>,
+    alloc: Global,
+) -> (Pass<Scripted>, Pass<Scripted>)
+    requires left { left.lock ≡ channel.now }
+    requires right { right.lock ≡ channel.now }
+    ensures left { StaysSettled left result.0 }
+    ensures right { StaysSettled right result.1 }
+{
+    join(
+        rt,
+        move ||
+            requires { left.lock ≡ channel.now }
+            ensures { StaysSettled left result }
+        { rounds(rt, channel, left, alloc) },
+        move ||
+            requires { right.lock ≡ channel.now }
+            ensures { StaysSettled right result }
+        { rounds(rt, channel, right, alloc) },
+    )
+}
+
+/// What is left of a channel behind both threads.
+fn shared_by_two<R: Threads + Wait + Sync>(rt: &R, alloc: Global) -> Result<Finished, NoMemory> {
+    let (channel, mut passes) = plain_channel(alloc, 2)?;
+    let right = last_pass(&channel, &mut passes);
+    let left = last_pass(&channel, &mut passes);
+    let (left, right) = rounds_of_both(rt, &channel, left, right, alloc);
+    passes.push_reserved(left);
+    passes.push_reserved(right);
+    Ok(finish(rt, channel, passes, FOLLOW))
+}
+
+/// Whether each accept stands among ten of one seat, one behind the other.
+fn stand_in_tens(entries: &[Entry]) -> bool {
+    let mut seat: u64 = 0;
+    let mut left: u64 = 0;
+    for entry in entries {
+        match (&entry.what, left) {
+            (What::Accept { .. }, 0) => {
+                seat = entry.seat;
+                left = 9;
+            }
+            (What::Accept { .. }, _) if entry.seat == seat => left = left.saturating_sub(1),
+            (_, 0) => {}
+            _ => return false,
+        }
+    }
+    left == 0
+}
+
+// 2,000 requests are accepted, and each is called once. No contract says that nobody comes between the calls of a hold.
+#[test]
+fn two_threads_hold_the_lock(rt: HostRuntime) -> Result<(), Fail> {
+    let finished = shared_by_two(&rt, rt.alloc())?;
+    assert!(rt; has_called_each(rt.alloc(), &finished, 2000)?);
+    assert!(rt; stand_in_tens(finished.journal.entries()));
+    Ok(())
+}
