@@ -57,7 +57,7 @@ pub record IsTraffic (setting : Setting) (turns : ℕ) (end : Exit) (journal : L
   pub made : ℕ
   pub few : made ≤ turns
   pub readings : turns_in calls ≡ made
-  -- Journal and calls fall into these turns: the servers of the setting are told before the first, nothing waits before it, and between two there is one wait, up to the first deadline, or none where there is something to do. Want of memory alone cuts this short.
+  -- Journal and calls fall into these turns: the servers of the setting are told before the first, nothing waits before it, and between two there is one wait, up to the first deadline, where there is nothing to do, or none where there is something. Want of memory alone cuts this short.
   pub course : end ≢ OutOfMemory → IsCourse setting 0 longest_slice journal calls made 0
   pub course_so_far : IsCourseSoFar setting 0 longest_slice journal calls made 0
   -- So what the journal notes of messages, queries, links and faults is what these calls tell; where memory was wanting, but for one call.

@@ -1,4 +1,4 @@
--- What stands between two turns: a wait up to its moment, or one of three reasons to go on without; something pending, and nothing ready.
+-- What stands between two turns: a wait up to its moment where there is no reason to go on without, or one of the three reasons; something pending, and nothing ready.
 use Rattle.std.proofs.Common.{◌≡◌, ℕ, ◌-◌, ◌^◌, ◌≤◌, List, [], ◌∷◌, take, true, false, Option, Some, None, refl, arith, inl, inr, ◌++◌}
 use Rattle.std.specs.Prelude.{flat_map}
 use Rattle.chan_types.specs.declared.journal.Entry.{Entry}
@@ -78,12 +78,12 @@ unfolding NameText.units_of
 with_wait = refl
 
 -- where nothing is pending no turn comes any more
-pub all_done : (a : Standing) (next : Round) (rounds : List Round) → AreTurns setting 0 20 a (round_at completed (own (Take 1) ∷ []) (until 20) ∷ next ∷ rounds) → ⊥
+pub all_done : (a : Standing) (next : Round) (rounds : List Round) → AreTurns setting 0 20 a (round_at completed (own (Take 1) ∷ []) None ∷ next ∷ rounds) → ⊥
 unfolding NameText.units_of Reading.message_read Reading.question_of Reading.record_of Reading.name_of Reading.run_of
 all_done a next rounds turns = cc turns.3
 
 -- none comes before what is ready was taken
-pub not_delivered : (a : Standing) (next : Round) (rounds : List Round) → AreTurns setting 0 20 a (round_at half_done [] (until 20) ∷ next ∷ rounds) → ⊥
+pub not_delivered : (a : Standing) (next : Round) (rounds : List Round) → AreTurns setting 0 20 a (round_at half_done [] None ∷ next ∷ rounds) → ⊥
 unfolding NameText.units_of Reading.message_read Reading.question_of Reading.record_of Reading.name_of Reading.run_of
 not_delivered a next rounds turns = cc turns.3
 
@@ -94,6 +94,28 @@ delivered = refl
 -- a turn's entry stands in a turn
 pub start_between : (a : Standing) → AreTurns setting 0 20 a (round_at (take 1 flying) (own (Start 1 0 0 0 7 None 0) ∷ []) None ∷ []) → ⊥
 start_between a turns = cc turns.1
+
+-- ---- when a run may wait
+
+-- not where something is ready
+pub ready_waits : (a : Standing) → AreTurns setting 0 20 a (round_at half_done [] (until 20) ∷ []) → ⊥
+unfolding NameText.units_of Reading.message_read Reading.question_of Reading.record_of Reading.name_of Reading.run_of
+ready_waits a turns = cc turns.2
+
+-- but where that was taken
+pub taken_waits : is_timely setting 20 (round_at half_done (own (Take 1) ∷ []) (until 20)) ≡ true
+unfolding NameText.units_of Reading.message_read Reading.question_of Reading.record_of Reading.name_of Reading.run_of
+taken_waits = refl
+
+-- not where a leg waits for its attempt
+pub leg_kept_waiting : (a : Standing) → AreTurns setting 0 20 a (round_at (take 1 flying) [] (until 20) ∷ []) → ⊥
+unfolding NameText.units_of
+leg_kept_waiting a turns = cc turns.2
+
+-- and not where nothing is pending
+pub waits_for_nothing : (a : Standing) → AreTurns setting 0 20 a (round_at (completed ++ own (Take 1) ∷ []) [] (until 20) ∷ []) → ⊥
+unfolding NameText.units_of Reading.message_read Reading.question_of Reading.record_of Reading.name_of Reading.run_of
+waits_for_nothing a turns = cc turns.2
 
 -- ---- the moment of a wait
 

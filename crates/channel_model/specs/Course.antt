@@ -84,10 +84,12 @@ module _ (setting : Setting) where
       let latest = min (reading + slice) (2 ^ 64 - 1) in
       option_map_or (λ due. min due.at latest) (first_due setting past) latest
 
-  -- the wait behind a turn, if there is one, is up to the moment that a position there gives
+  -- the wait behind a turn, if there is one, is called for at a position there, and is up to the moment that a position there gives
   abbrev pub is_timely : ℕ → Round → Bool
   is_timely slice round =
-      option_map_or (λ rest. somewhere (λ past. rest.until == wakes_at round.reading slice past) round.new.past round.between) round.rest true
+      option_map_or (λ rest.
+      somewhere (λ past. not (skips past)) round.new.past round.between
+      && somewhere (λ past. rest.until == wakes_at round.reading slice past) round.new.past round.between) round.rest true
 
   -- behind a turn there is a position at which nothing is ready, one at which a request is pending, and where there is no wait one at which none is called for
   abbrev pub goes_on : Round → Bool

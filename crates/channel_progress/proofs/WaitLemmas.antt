@@ -104,9 +104,13 @@ module _ (setting : Setting) where
             let small = due_small round.new.past due is in
             subst (λ n. due.at ≤ n) (sym at) (le-min (omega arith) (le-min (omega (arith, small)) small))
 
-        by_rest : (o : Option Rest) → round.rest ≡ o → is_some o ≡ true → option_map_or (λ (rest : Rest). somewhere (λ past. rest.until == wakes_at setting round.reading (2 ^ 64 - 1) past) round.new.past round.between) o true ≡ true → Waits round
+        by_rest : (o : Option Rest) → round.rest ≡ o → is_some o ≡ true →
+            option_map_or (λ (rest : Rest).
+            somewhere (λ past. not (skips setting past)) round.new.past round.between
+            && somewhere (λ past. rest.until == wakes_at setting round.reading (2 ^ 64 - 1) past) round.new.past round.between) o true ≡ true → Waits round
         by_rest None is some timely = absurd (true≢false (sym some))
         by_rest (Some rest) is some timely =
             let due = some_due round.new.past (calm_flies round.new.past request lawful pends calm) in
-            let here = subst (λ l. somewhere (λ past. rest.until == wakes_at setting round.reading (2 ^ 64 - 1) past) round.new.past l ≡ true) alone timely in
+            let at = (and_parts (somewhere (λ past. not (skips setting past)) round.new.past round.between) (somewhere (λ past. rest.until == wakes_at setting round.reading (2 ^ 64 - 1) past) round.new.past round.between) timely).1 in
+            let here = subst (λ l. somewhere (λ past. rest.until == wakes_at setting round.reading (2 ^ 64 - 1) past) round.new.past l ≡ true) alone at in
             record { rest = rest; rests = is; due = due.0; first = due.1; until = by_due rest due.0 due.1 (eqb-true rest.until (wakes_at setting round.reading (2 ^ 64 - 1) round.new.past) here) }

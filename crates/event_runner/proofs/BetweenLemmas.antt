@@ -18,12 +18,12 @@ use Rattle.event_runner.specs.Goes.{Goes, Leads}
 use Rattle.event_runner.specs.Running.{HasWaited, PausesBy, Running, run_of, wakes_by}
 use Rattle.event_runner.specs.State.{IsTurnOwner}
 use Rattle.event_runner.specs.Turning.{MakesTurn}
-use Rattle.event_runner.specs.UnderWay.{IsUnderWay, LogGets, Reach, RunsSince, delivered, following, rested, turned}
+use Rattle.event_runner.specs.UnderWay.{IsUnderWay, LogGets, Reach, RunsSince, awaiting, delivered, following, rested, turned}
 use Rattle.event_runner.proofs.GoesLemmas.{owner_before, told_as, told_by, told_trans}
 use Rattle.event_runner.proofs.RoundLemmas.{AreBetween}
-use Rattle.event_runner.proofs.RunLemmas.{WayWith, facts_of, way_behind, way_broken, way_of, way_rested, way_turned}
+use Rattle.event_runner.proofs.RunLemmas.{WayWith, facts_of, waited_here, way_behind, way_broken, way_of, way_rested, way_turned}
 use Rattle.event_runner.proofs.TrailLemmas.{trail_of}
-use Rattle.event_runner.proofs.UnderWayLemmas.{Facts, facts_delivered, facts_following, facts_skipped, pending_behind}
+use Rattle.event_runner.proofs.UnderWayLemmas.{Facts, facts_awaiting, facts_delivered, facts_following, facts_skipped, pending_behind}
 
 -- no turns
 none_between : (holds : Past → List Entry → Type 0) (rounds : List Round) → length rounds ≡ 0 → AreBetween holds rounds
@@ -109,10 +109,12 @@ module _ (holds : Past → List Entry → Type 0) (slice : ℕ) where
         waited : (outcome : Waited) → HasWaited latest outcome known known m n → RunsWith turns asides rested known running l n
         waited outcome w =
             let until : ℕ = wakes_by known.setting latest (past_of known.seen) in
-            told_trans (λ calls. IsTurnOwner known → WayWith slice turns asides holds delivered known running calls) (λ calls. calls ≡ Wait until outcome ∷ []) (λ calls. IsTurnOwner known → WayWith slice turns asides holds rested known running calls)
+            let called : RunsWith turns asides awaiting known running l m = with_further delivered awaiting known running
+            (λ calls first first_asides rounds. facts_awaiting known.setting known.seat slice turns asides first first_asides known.seen running calls rounds (waited_here latest outcome known m n w)) before in
+            told_trans (λ calls. IsTurnOwner known → WayWith slice turns asides holds awaiting known running calls) (λ calls. calls ≡ Wait until outcome ∷ []) (λ calls. IsTurnOwner known → WayWith slice turns asides holds rested known running calls)
             (λ cs ds way waits owner.
             subst (λ ds. WayWith slice turns asides holds rested known running (cs ++ ds)) (sym waits) (way_rested slice turns asides holds known running cs until outcome some refl owner (way owner)))
-            l m n before (told_by (λ calls. calls ≡ Wait until outcome ∷ []) (Wait until outcome ∷ []) refl m n w.waits)
+            l m n called (told_by (λ calls. calls ≡ Wait until outcome ∷ []) (Wait until outcome ∷ []) refl m n w.waits)
 
         by_answer : (answer : Paused) → PausesBy latest answer known known m n → RunsWith turns asides rested known running l n
         by_answer Skipped skips_it =

@@ -2,20 +2,19 @@
 use Rattle.std.proofs.Common.{◌≡◌, ◌∙◌, ℕ, ◌==◌, ◌&&◌, ◌||◌, Bool, true, false, List, [], ◌∷◌, ◌++◌, length, map, not, refl, ap, sym}
 use Rattle.std.specs.Prelude.{Option, Some, None, flat_map, is_none, is_some, ⊤}
 use Rattle.std.specs.List.{AllByRecursion, list_all}
-use Rattle.std.specs.Option.{option_map_or}
 use Rattle.std.proofs.lemmas.Bool.{and_from, and_parts}
 use Rattle.std.proofs.lemmas.List.{append_assoc, flat_map_more}
 use Rattle.std.proofs.lemmas.List.Folds.{list_all-append}
 use Rattle.chan_types.specs.declared.journal.Entry.{Entry}
 use Rattle.resolv_options.specs.Lasts.{last_or}
-use Rattle.channel_model.specs.Course.{AreTurns, Rest, Round, goes_on, has_no_turn, is_of_turn, may_follow, skips, standing_after, wakes_at}
+use Rattle.channel_model.specs.Course.{AreTurns, Rest, Round, goes_on, has_no_turn, is_of_turn, is_timely, may_follow, skips, standing_after, wakes_at}
 use Rattle.channel_model.specs.Completion.{pending, ready}
 use Rattle.channel_model.specs.Endings.{somewhere_behind}
 use Rattle.channel_model.specs.Journal.{Past, followed_by}
 use Rattle.channel_model.specs.Setting.{Setting}
 use Rattle.channel_model.specs.Stretch.{Standing, behind}
 use Rattle.channel_model.specs.Turn.{somewhere}
-use Rattle.event_runner.specs.UnderWay.{Reach, delivered, following, has_come, has_rested, is_delivered, rested, turned}
+use Rattle.event_runner.specs.UnderWay.{Reach, awaiting, delivered, following, has_come, has_rested, is_delivered, may_rest, rested, turned}
 
 -- no turns, or turns with a last one
 pub by_last : (P : List Round → Type 0) → P [] → ((before : List Round) (round : Round) → P (before ++ round ∷ [])) → (rounds : List Round) → P rounds
@@ -152,22 +151,34 @@ module _ (setting : Setting) where
     turn_more s more round none turns =
         (turns.0, no_turn-append round.between more turns.1 none, timely round.rest turns.2, refl, tt)
       where
-        timely : (rest : Option Rest) → option_map_or (λ r. somewhere (λ past. r.until == wakes_at setting round.reading slice past) round.new.past round.between) rest true ≡ true →
-            option_map_or (λ r. somewhere (λ past. r.until == wakes_at setting round.reading slice past) round.new.past (round.between ++ more)) rest true ≡ true
+        timely : (rest : Option Rest) → is_timely setting slice (record round { rest = rest }) ≡ true → is_timely setting slice (record round { between = round.between ++ more; rest = rest }) ≡ true
         timely None h = h
-        timely (Some r) h = somewhere-grows (λ past. r.until == wakes_at setting round.reading slice past) round.new.past round.between more h
+        timely (Some r) h =
+            let called : Past → Bool = λ past. not (skips setting past) in
+            let in_time : Past → Bool = λ past. r.until == wakes_at setting round.reading slice past in
+            let parts = and_parts (somewhere called round.new.past round.between) (somewhere in_time round.new.past round.between) h in
+            and_from (somewhere called round.new.past (round.between ++ more)) (somewhere in_time round.new.past (round.between ++ more))
+            (somewhere-grows called round.new.past round.between more parts.0) (somewhere-grows in_time round.new.past round.between more parts.1)
 
   -- two of which the second holds where the first does
   or_grows : (b c d : Bool) → (c ≡ true → d ≡ true) → (b || c) ≡ true → (b || d) ≡ true
   or_grows b c d grows h = by_either b c h (λ p. either_first b d p) (λ p. either_second b d (grows p))
 
-  -- so far as a turn has come, it has come with more entries behind it
-  pub come_more : (reach : Reach) (more : List Entry) (round : Round) → has_come setting reach round ≡ true → has_come setting reach (with_more more round) ≡ true
-  come_more turned more round come = come
-  come_more delivered more round come =
+  -- where all was delivered and nothing waits behind a turn, it is so with more entries behind it
+  delivered_more : (more : List Entry) (round : Round) → has_come setting delivered round ≡ true → has_come setting delivered (with_more more round) ≡ true
+  delivered_more more round come =
       let parts = and_parts (is_none round.rest) (is_delivered setting round) come in
       and_from (is_none round.rest) (is_delivered setting (with_more more round)) parts.0
       (somewhere-grows (λ past. length (ready setting past) == 0) round.new.past round.between more parts.1)
+
+  -- so far as a turn has come, it has come with more entries behind it
+  pub come_more : (reach : Reach) (more : List Entry) (round : Round) → has_come setting reach round ≡ true → has_come setting reach (with_more more round) ≡ true
+  come_more turned more round come = come
+  come_more delivered more round come = delivered_more more round come
+  come_more awaiting more round come =
+      let parts = and_parts (has_come setting delivered round) (may_rest setting round) come in
+      and_from (has_come setting delivered (with_more more round)) (may_rest setting (with_more more round)) (delivered_more more round parts.0)
+      (somewhere-grows (λ past. not (skips setting past)) round.new.past round.between more parts.1)
   come_more rested more round come =
       let parts = and_parts (is_delivered setting round) (has_rested setting round) come in
       and_from (is_delivered setting (with_more more round)) (has_rested setting (with_more more round))

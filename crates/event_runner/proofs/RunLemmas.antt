@@ -3,7 +3,7 @@ use Rattle.std.proofs.Common.{◌≡◌, ◌≢◌, ◌∙◌, ℕ, ◌+◌, ◌
 use Rattle.std.specs.Prelude.{IsTrue, Option, Some, None, filter_map, option_map, min, ◌^◌, ⊤}
 use Rattle.std.specs.List.{list_all}
 use Rattle.std.proofs.lemmas.Bool.{and_from, and_parts}
-use Rattle.std.proofs.lemmas.List.{append-nil, append_cancel_left}
+use Rattle.std.proofs.lemmas.List.{append-nil, append_assoc, append_cancel_left}
 use Rattle.std.proofs.lemmas.List.Elements.{filter_map-append}
 use mathlib.Core.List.{IsPrefix}
 use Rattle.chan_types.specs.declared.journal.Entry.{Entry}
@@ -27,14 +27,14 @@ use Rattle.event_runner.specs.Goes.{Goes, Leads, Leaves, Stops}
 use Rattle.event_runner.specs.Running.{HasLooked, HasWaited, PausesBy, Running, run_of, wakes_by}
 use Rattle.event_runner.specs.State.{Holds, IsTurnOwner}
 use Rattle.event_runner.specs.Turning.{IsCutShort, MakesTurn}
-use Rattle.event_runner.specs.UnderWay.{IsSoFar, IsUnderWay, LogGets, RanSince, Reach, RunsSince, delivered, following, rested, turned}
+use Rattle.event_runner.specs.UnderWay.{IsSoFar, IsUnderWay, LogGets, RanSince, Reach, RunsSince, awaiting, delivered, following, rested, turned}
 use Rattle.event_runner.proofs.CallLemmas.{owner_of}
 use Rattle.event_runner.proofs.CourseLemmas.{course_of, is_seats}
 use Rattle.event_runner.proofs.GoesLemmas.{owner_before, told_as, told_by, told_trans}
 use Rattle.event_runner.proofs.RoundLemmas.{AreBetween, all_go_on, between_any, between_last, by_last, with_more, with_rest}
 use Rattle.event_runner.proofs.SoundLemmas.{holds_of, sound_of, Sound}
 use Rattle.event_runner.proofs.TrailLemmas.{Trail, trail_of}
-use Rattle.event_runner.proofs.UnderWayLemmas.{Facts, ends_here, facts_begun, facts_delivered, facts_first_more, facts_following, facts_last_more, facts_skipped, facts_turned, facts_waited, pending_behind}
+use Rattle.event_runner.proofs.UnderWayLemmas.{Facts, ends_here, facts_awaiting, facts_begun, facts_delivered, facts_first_more, facts_following, facts_last_more, facts_skipped, facts_turned, facts_waited, pending_behind}
 
 -- a seat that owns the turns and made none of these entries in one: no turn made them
 none_of_turn : (seat : ℕ) (es : List Entry) → list_all (is_seats seat) es ≡ true → has_no_turn (own_entries seat es) ≡ true → has_no_turn es ≡ true
@@ -126,21 +126,21 @@ module _ (slice turns asides : ℕ) where
   -- a wait stands behind the last turn
   pub way_rested : (holds : Past → List Entry → Type 0) (known : Known) (running : Running) (calls : List WorldCall) (until : ℕ) (outcome : Waited) → 1 ≤ turns →
       until ≡ wakes_by known.setting (min (running.reading + slice) (2 ^ 64 - 1)) (past_of known.seen) →
-      IsTurnOwner known → WayWith holds delivered known running calls → WayWith holds rested known running (calls ++ Wait until outcome ∷ [])
+      IsTurnOwner known → WayWith holds awaiting known running calls → WayWith holds rested known running (calls ++ Wait until outcome ∷ [])
   way_rested holds known running calls until outcome some wakes owner way =
       let first = way.0.course.first in
       let first_asides = way.0.course.first_asides in
-      by_last (λ rounds. Facts known.setting known.seat slice turns asides delivered known.seen running calls first first_asides rounds → AreBetween holds rounds → WayWith holds rested known running (calls ++ Wait until outcome ∷ []))
+      by_last (λ rounds. Facts known.setting known.seat slice turns asides awaiting known.seen running calls first first_asides rounds → AreBetween holds rounds → WayWith holds rested known running (calls ++ Wait until outcome ∷ []))
       (λ f all. let none : 0 ≡ turns = f.plain.count in absurd (omega arith))
       (λ before round f all. let rests : Round = with_rest (record { until = until; outcome = outcome }) round in (
         way_of rested known running (calls ++ Wait until outcome ∷ []) first first_asides (before ++ rests ∷ []) owner
             (facts_waited known.setting known.seat slice turns asides first first_asides known.seen running calls until outcome before round wakes f),
         between_last holds before round rests (λ h. h) all,
       ))
-      way.0.course.rounds (facts_of delivered known running calls way.0) way.1
+      way.0.course.rounds (facts_of awaiting known running calls way.0) way.1
 
   way_waited : (known : Known) (running : Running) (calls : List WorldCall) (until : ℕ) (outcome : Waited) → 1 ≤ turns → until ≡ wakes_by known.setting (min (running.reading + slice) (2 ^ 64 - 1)) (past_of known.seen) →
-      IsTurnOwner known → IsUnderWay slice turns asides delivered known running calls → IsUnderWay slice turns asides rested known running (calls ++ Wait until outcome ∷ [])
+      IsTurnOwner known → IsUnderWay slice turns asides awaiting known running calls → IsUnderWay slice turns asides rested known running (calls ++ Wait until outcome ∷ [])
   way_waited known running calls until outcome some wakes owner way =
       (way_rested (λ past es. ⊤) known running calls until outcome some wakes owner (way, between_any way.course.rounds)).0
 
@@ -292,16 +292,27 @@ module _ (slice : ℕ) where
         (λ calls. IsTurnOwner new → IsSoFar slice (turns + 1) asides new calls)
         (λ cs ds way leaves owner. way_cut slice turns asides old new es trail owner running m cs ds (way (owner_before old new es trail owner)) (leaves owner)) l m n before stops.told
 
+    -- a wait is called for
+    runs_awaiting : (known : Known) (running : Running) → skips known.setting (past_of known.seen) ≡ false → RunsSince slice turns asides delivered known running l m → RunsSince slice turns asides awaiting known running l m
+    runs_awaiting known running none =
+        told_as (λ calls. IsTurnOwner known → IsUnderWay slice turns asides delivered known running calls) (λ calls. IsTurnOwner known → IsUnderWay slice turns asides awaiting known running calls)
+        (λ calls way owner.
+        let w = way owner in
+        way_of slice turns asides awaiting known running calls w.course.first w.course.first_asides w.course.rounds owner
+        (facts_awaiting known.setting known.seat slice turns asides w.course.first w.course.first_asides known.seen running calls w.course.rounds none
+        (facts_of slice turns asides delivered known running calls w))) l m
+
     -- a look at the channel, and then a wait
     runs_waited : (old new : Known) (running : Running) (n : Option (List WorldCall)) (outcome : Waited) → 1 ≤ turns → HasWaited (min (running.reading + slice) (2 ^ 64 - 1)) outcome old new m n →
         RunsSince slice turns asides delivered old running l m → RunsSince slice turns asides rested new running l n
     runs_waited old new running n outcome some waited before =
         let one = runs_behind delivered old waited.middle running waited.looked.goes_on (looked_none old waited.middle waited.looked) before in
-        let two = runs_behind delivered waited.middle new running waited.looked_again.goes_on (looked_none waited.middle new waited.looked_again) one in
+        let called = runs_awaiting waited.middle running (ap (λ setting. skips setting (past_of waited.middle.seen)) waited.looked.goes_on.desk.setting ∙ waited.not_skipped) one in
+        let two = runs_behind awaiting waited.middle new running waited.looked_again.goes_on (looked_none waited.middle new waited.looked_again) called in
         let latest : ℕ = min (running.reading + slice) (2 ^ 64 - 1) in
         let until : ℕ = wakes_by old.setting latest (past_of new.seen) in
         let same : new.setting ≡ old.setting = waited.looked_again.goes_on.desk.setting ∙ waited.looked.goes_on.desk.setting in
-        told_trans (λ calls. IsTurnOwner new → IsUnderWay slice turns asides delivered new running calls) (λ calls. calls ≡ Wait until outcome ∷ []) (λ calls. IsTurnOwner new → IsUnderWay slice turns asides rested new running calls)
+        told_trans (λ calls. IsTurnOwner new → IsUnderWay slice turns asides awaiting new running calls) (λ calls. calls ≡ Wait until outcome ∷ []) (λ calls. IsTurnOwner new → IsUnderWay slice turns asides rested new running calls)
         (λ cs ds way is owner.
         subst (λ ds. IsUnderWay slice turns asides rested new running (cs ++ ds)) (sym is)
         (way_waited slice turns asides new running cs until outcome some (ap (λ setting. wakes_by setting latest (past_of new.seen)) (sym same)) owner (way owner)))
@@ -335,6 +346,21 @@ module _ (slice : ℕ) where
     runs_unpaused old new running n looked before =
         subst (λ k. RanSince slice turns asides new l k) (sym looked.1)
         (ran_so_far delivered new running (runs_behind delivered old new running looked.0.goes_on (looked_none old new looked.0) before))
+
+-- the first of two lists that are nothing is nothing
+front_empty : (xs ys : List Entry) → xs ++ ys ≡ [] → xs ≡ []
+front_empty [] ys none = refl
+front_empty (x ∷ xs) ys none = absurd (cc none)
+
+-- a wait that left the desk as it was is called for where the desk stands
+pub waited_here : (latest : ℕ) (outcome : Waited) (known : Known) (m n : Option (List WorldCall)) → HasWaited latest outcome known known m n → skips known.setting (past_of known.seen) ≡ false
+waited_here latest outcome known m n waited =
+    let one = waited.looked.goes_on in
+    let two = waited.looked_again.goes_on in
+    let all : known.seen ++ (one.since ++ two.since) ≡ known.seen = sym (append_assoc known.seen one.since two.since) ∙ ap (λ l. l ++ two.since) (sym one.seen) ∙ sym two.seen in
+    let none : one.since ≡ [] = front_empty one.since two.since (append_cancel_left known.seen (one.since ++ two.since) [] (all ∙ sym (append-nil known.seen))) in
+    let middle : waited.middle.seen ≡ known.seen = one.seen ∙ ap (λ l. known.seen ++ l) none ∙ append-nil known.seen in
+    ap (λ l. skips known.setting (past_of l)) (sym middle) ∙ waited.not_skipped
 
 -- two things of what a log got
 pub told_both : (P Q : List WorldCall → Type 0) (l m : Option (List WorldCall)) → LogGets P l m → LogGets Q l m → LogGets (λ calls. P calls × Q calls) l m

@@ -20,7 +20,7 @@ use Rattle.channel_model.specs.Stretch.{Standing, beginning, behind}
 use Rattle.channel_model.specs.Turn.{IsTurn, somewhere}
 use Rattle.chan_types.specs.declared.server_key.ServerKey.{ServerKey}
 use Rattle.event_runner.specs.Running.{Running, wakes_by}
-use Rattle.event_runner.specs.UnderWay.{Reach, delivered, following, has_come, has_rested, is_delivered, rested, turned}
+use Rattle.event_runner.specs.UnderWay.{Reach, awaiting, delivered, following, has_come, has_rested, is_delivered, may_rest, rested, turned}
 use Rattle.event_runner.proofs.CallLemmas.{begins_none}
 use Rattle.event_runner.proofs.CourseLemmas.{Plain, first_more, last_more, last_rest, one_turn_more}
 use Rattle.event_runner.proofs.RoundLemmas.{all_go_on, by_last, come_more, either_second, last_or-snoc, somewhere-end, somewhere_behind-snoc, standing_after-snoc, with_more, with_rest}
@@ -167,12 +167,13 @@ module _ (setting : Setting) (seat slice : ℕ) where
 
       -- a wait stands behind the last turn
       pub facts_waited : (until : ℕ) (outcome : Waited) (before : List Round) (round : Round) → until ≡ wakes_by setting (min (running.reading + slice) (2 ^ 64 - 1)) (past_of seen) →
-          Facts turns asides delivered seen running calls first first_asides (before ++ round ∷ []) →
+          Facts turns asides awaiting seen running calls first first_asides (before ++ round ∷ []) →
           Facts turns asides rested seen running (calls ++ Wait until outcome ∷ []) first first_asides (before ++ with_rest (record { until = until; outcome = outcome }) round ∷ [])
       facts_waited until outcome before round wakes f =
           let rest : Rest = record { until = until; outcome = outcome } in
-          let come = and_parts (is_none round.rest) (is_delivered setting round) (last_come delivered before round f) in
-          let here : followed_by round.new.past round.between ≡ past_of seen = ends_here delivered before round f in
+          let called = and_parts (has_come setting delivered round) (may_rest setting round) (last_come awaiting before round f) in
+          let come = and_parts (is_none round.rest) (is_delivered setting round) called.0 in
+          let here : followed_by round.new.past round.between ≡ past_of seen = ends_here awaiting before round f in
           let reads : round.reading ≡ running.reading = sym (last_or-snoc (λ r. r.reading) 0 before round) ∙ f.reading in
           let is : until ≡ wakes_at setting round.reading slice (followed_by round.new.past round.between) =
           wakes ∙ ap (λ r. wakes_by setting (min (r + slice) (2 ^ 64 - 1)) (past_of seen)) (sym reads) ∙ ap (wakes_by setting (min (round.reading + slice) (2 ^ 64 - 1))) (sym here) in
@@ -180,7 +181,8 @@ module _ (setting : Setting) (seat slice : ℕ) where
           standing_after-snoc (behind beginning first) before (with_rest rest round) ∙ sym (standing_after-snoc (behind beginning first) before round) in
           record {
             plain = last_rest setting seat slice seen calls turns asides first first_asides rest before round (none_is round.rest come.0)
-                (somewhere-end (λ past. until == wakes_at setting round.reading slice past) round.new.past round.between (eq-eqb until (wakes_at setting round.reading slice (followed_by round.new.past round.between)) is))
+                (and_from (may_rest setting round) (somewhere (λ past. until == wakes_at setting round.reading slice past) round.new.past round.between) called.1
+                (somewhere-end (λ past. until == wakes_at setting round.reading slice past) round.new.past round.between (eq-eqb until (wakes_at setting round.reading slice (followed_by round.new.past round.between)) is)))
                 f.plain;
             come = last_or-snoc (has_come setting rested) true before (with_rest rest round) ∙ and_from (is_delivered setting round) true come.1 refl;
             reading = last_or-snoc (λ r. r.reading) 0 before (with_rest rest round) ∙ reads;
@@ -211,6 +213,12 @@ module _ (setting : Setting) (seat slice : ℕ) where
       facts_delivered rounds none = facts_further turned delivered (λ before round f.
           and_from (is_none round.rest) (is_delivered setting round) (last_come turned before round f)
           (holds_behind (λ past. length (ready setting past) == 0) turned before round (ap (λ l. length l == 0) none) f)) rounds
+
+      -- a wait is called for
+      pub facts_awaiting : (rounds : List Round) → skips setting (past_of seen) ≡ false → Facts turns asides delivered seen running calls first first_asides rounds → Facts turns asides awaiting seen running calls first first_asides rounds
+      facts_awaiting rounds none = facts_further delivered awaiting (λ before round f.
+          and_from (has_come setting delivered round) (may_rest setting round) (last_come delivered before round f)
+          (holds_behind (λ past. not (skips setting past)) delivered before round (ap not none) f)) rounds
 
       -- no wait was called for
       pub facts_skipped : (rounds : List Round) → skips setting (past_of seen) ≡ true → Facts turns asides delivered seen running calls first first_asides rounds → Facts turns asides rested seen running calls first first_asides rounds

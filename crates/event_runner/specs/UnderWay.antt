@@ -1,5 +1,5 @@
 -- A run under way: where it stands between two calls of its runner, and how far it has come behind its last turn.
-use Rattle.std.specs.Prelude.{Bool, IsTrue, List, MatchOption, None, Option, Some, is_none, is_some, length, map, true, ℕ, ◌&&◌, ◌++◌, ◌==◌, ◌||◌, ◌≡◌, ◌≤◌}
+use Rattle.std.specs.Prelude.{Bool, IsTrue, List, MatchOption, None, Option, Some, is_none, is_some, length, map, not, true, ℕ, ◌&&◌, ◌++◌, ◌==◌, ◌||◌, ◌≡◌, ◌≤◌}
 use Rattle.net_world.specs.declared.log.WorldCall.{WorldCall}
 use Rattle.channel_model.specs.Completion.{ready}
 use Rattle.channel_model.specs.Course.{IsCourse, IsCourseSoFar, Round, goes_on, skips, standing_after}
@@ -17,6 +17,8 @@ pub data Reach : Type 0 where
   turned : Reach
   -- then nothing was ready any more
   delivered : Reach
+  -- then a wait was called for
+  awaiting : Reach
   -- then it waited, or had no reason to
   rested : Reach
   -- then a request was pending: another turn may follow
@@ -27,6 +29,10 @@ module _ (setting : Setting) where
   abbrev pub is_delivered : Round → Bool
   is_delivered round = somewhere (λ past. length (ready setting past) == 0) round.new.past round.between
 
+  -- behind the turn there is a position at which a wait is called for
+  abbrev pub may_rest : Round → Bool
+  may_rest round = somewhere (λ past. not (skips setting past)) round.new.past round.between
+
   -- behind the turn stands a wait, or a position at which none is called for
   abbrev pub has_rested : Round → Bool
   has_rested round = is_some round.rest || somewhere (skips setting) round.new.past round.between
@@ -35,6 +41,7 @@ module _ (setting : Setting) where
   abbrev pub has_come : Reach → Round → Bool
   has_come turned round = is_none round.rest
   has_come delivered round = is_none round.rest && is_delivered round
+  has_come awaiting round = is_none round.rest && is_delivered round && may_rest round
   has_come rested round = is_delivered round && has_rested round
   has_come following round = goes_on setting round
 

@@ -1,7 +1,7 @@
 -- What a call of a channel's one owner did: the journal has nobody else's entries.
-use Rattle.std.proofs.Common.{◌≡◌, ◌≢◌, ◌∙◌, ℕ, ◌==◌, ◌||◌, Bool, false, List, [], ◌∷◌, ◌++◌, length, refl, ap, sym, subst}
+use Rattle.std.proofs.Common.{◌≡◌, ◌≢◌, ◌∙◌, ℕ, ◌==◌, ◌||◌, Bool, false, List, [], ◌∷◌, length, refl, ap, sym, subst}
 use Rattle.std.specs.Prelude.{Option}
-use Rattle.std.proofs.lemmas.List.{append-nil, append_assoc, append_cancel_left, append_cancel_right}
+use Rattle.std.proofs.lemmas.List.{append_cancel_left, append_cancel_right}
 use Rattle.chan_types.specs.declared.journal.Entry.{Entry}
 use Rattle.net_world.specs.declared.answers.Waited.{Waited}
 use Rattle.net_world.specs.declared.log.WorldCall.{WorldCall}
@@ -16,6 +16,7 @@ use Rattle.channel_table.specs.Calling.{Owned, known_by_owner}
 use Rattle.event_runner.specs.declared.answers.Paused.{Paused}
 use Rattle.event_runner.specs.declared.answers.Paused.TheVariants.{Skipped, WaitFault, Woken}
 use Rattle.event_runner.specs.Running.{HasLooked, HasWaited, PausesBy}
+use Rattle.event_runner.proofs.Theorems.{waited_here}
 
 -- the channel as its table has it
 abbrev pub seen_by : Owned → Seen
@@ -62,11 +63,6 @@ paused_same latest Skipped a b l m skipped = looked_same a b skipped.looked
 paused_same latest Woken a b l m waited = waited_same latest _ a b l m waited
 paused_same latest WaitFault a b l m waited = waited_same latest _ a b l m waited
 
--- the first of two lists that are nothing is nothing
-front_empty : (xs ys : List Entry) → xs ++ ys ≡ [] → xs ≡ []
-front_empty [] ys none = refl
-front_empty (x ∷ xs) ys none = absurd (cc none)
-
 -- where a run doesn't go on without a wait, a request is pending
 unskipped : (xs : List ℕ) (rest others : Bool) → ((length xs == 0) || rest || others) ≡ false → xs ≢ []
 unskipped [] rest others fails none = absurd (cc fails)
@@ -79,13 +75,6 @@ paused_ready latest answer a b l m pauses none = subst (λ c. ready c.setting (p
 -- behind a wait a request is pending
 pub waited_pending : (latest : ℕ) (outcome : Waited) (a b : Owned) (l m : Option (List WorldCall)) → HasWaited latest outcome (known_by_owner a) (known_by_owner b) l m → pending b.setting (past_of b.seen) ≢ []
 waited_pending latest outcome a b l m waited =
-    let one = waited.looked in
-    let two = waited.looked_again in
-    let es : List Entry = one.goes_on.since in
-    let fs : List Entry = two.goes_on.since in
-    let all : a.seen ++ [] ≡ a.seen ++ (es ++ fs) =
-    append-nil a.seen ∙ sym (two.own ∙ one.own) ∙ two.goes_on.seen ∙ ap (λ j. j ++ fs) one.goes_on.seen ∙ append_assoc a.seen es fs in
-    let none : es ≡ [] = front_empty es fs (sym (append_cancel_left a.seen [] (es ++ fs) all)) in
-    let middle : waited.middle.seen ≡ a.seen = one.goes_on.seen ∙ ap (λ l. a.seen ++ l) none ∙ append-nil a.seen in
-    let here : skips a.setting (past_of a.seen) ≡ false = sym (ap (λ j. skips a.setting (past_of j)) middle) ∙ waited.not_skipped in
-    subst (λ c. pending c.setting (past_of c.seen) ≢ []) (sym (waited_same latest outcome a b l m waited)) (unskipped (pending a.setting (past_of a.seen)) _ _ here)
+    let same : b ≡ a = waited_same latest outcome a b l m waited in
+    let here : skips a.setting (past_of a.seen) ≡ false = waited_here latest outcome (known_by_owner a) l m (subst (λ c. HasWaited latest outcome (known_by_owner a) (known_by_owner c) l m) same waited) in
+    subst (λ c. pending c.setting (past_of c.seen) ≢ []) (sym same) (unskipped (pending a.setting (past_of a.seen)) _ _ here)
