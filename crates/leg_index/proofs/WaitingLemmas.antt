@@ -18,7 +18,7 @@ use Rattle.std.proofs.lemmas.List.Folds.{list_any-append}
 use Rattle.timeout_queue.specs.Key.{key_cmp, key_eq}
 use Rattle.timeout_queue.specs.declared.key.Key.{Key}
 use Rattle.timeout_queue.proofs.Theorems.{key_cmp_total, key_cmp-IsAntisymmetric, tied_keys}
-use Rattle.leg_index.specs.Waiting.{Legs, WaitsFirst, IsBelow, IsBehind, IsAhead, IsRising, begins_with, lesser_of}
+use Rattle.leg_index.specs.Waiting.{Legs, WaitsFirst, IsBelow, IsBehind, IsAhead, IsRising, LeavesTree, begins_with, lesser_of}
 
 -- ---- the order of legs
 
@@ -168,12 +168,12 @@ module _ (row : List Key) (rest : BTreeSet Key) (legs : Legs) (seen : set.from_l
       or_cond false false c = refl
 
   -- the first leg leaves both
-  module _ (leg : Key) (first : WaitsFirst legs leg) (new : List Key) (other : BTreeSet Key) (updates : tree.Updates key_cmp rest other leg false)
+  module _ (leg : Key) (first : WaitsFirst legs leg) (new : List Key) (other : BTreeSet Key) (updates : LeavesTree leg rest other)
       (left : (q : Key) → list_any (is_key q) new ≡ (not (is_key q leg) && list_any (is_key q) row)) where
     pub seen_dropped : set.from_list (new ++ other.keys) ≡ set.remove legs leg
     seen_dropped = seen_by_has new other (set.remove legs leg) (λ q.
         ap (λ b. b || tree.contains key_cmp other q) (left q)
-        ∙ ap (λ b. (not (is_key q leg) && list_any (is_key q) row) || b) (updates.0 q ∙ ap (λ b. cond b false (tree.contains key_cmp rest q)) ((eq_by_cmp_equiv key_cmp_total).symm leg q))
+        ∙ ap (λ b. (not (is_key q leg) && list_any (is_key q) row) || b) (updates q ∙ ap (λ b. cond b false (tree.contains key_cmp rest q)) ((eq_by_cmp_equiv key_cmp_total).symm leg q))
         ∙ and_both (is_key q leg) (list_any (is_key q) row) (tree.contains key_cmp rest q)
         ∙ ap (λ b. not (is_key q leg) && b) (sym (has-seen q)) ∙ sym (set.contains-remove key_cmp_total legs leg q))
       where
@@ -184,6 +184,18 @@ module _ (row : List Key) (rest : BTreeSet Key) (legs : Legs) (seen : set.from_l
   -- the first of all is no later than a leg of the row
   pub first_upto : (leg : Key) → WaitsFirst legs leg → (q : Key) → list_any (is_key q) row ≡ true → IsUpto leg q
   first_upto leg first q has = first.least q (has-seen q ∙ ap (λ b. b || tree.contains key_cmp rest q) has)
+
+-- an empty tree is without the leg
+pub none_leaves : (leg : Key) (rest : BTreeSet Key) → length rest.keys ≡ 0 → LeavesTree leg rest rest
+none_leaves leg rest none q = unless (eq_by_cmp key_cmp leg q) _ (absent rest.keys none)
+  where
+    absent : (keys : List Key) → length keys ≡ 0 → list_any (is_key q) keys ≡ false
+    absent [] empty = refl
+    absent (k ∷ ks) empty = absurd (omega (arith, empty))
+
+    unless : (b has : Bool) → has ≡ false → has ≡ cond b false has
+    unless true has is = is
+    unless false has is = refl
 
 -- a row that begins with the leg is without it when its first is gone
 pub left_popped : (row : List Key) (leg : Key) → IsRising row → begins_with leg row ≡ true → (q : Key) → list_any (is_key q) (drop 1 row) ≡ (not (is_key q leg) && list_any (is_key q) row)

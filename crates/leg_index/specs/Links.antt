@@ -1,5 +1,5 @@
 -- How many legs are in flight over a link.
-use Rattle.std.specs.Prelude.{◌≡◌, ◌≢◌, ◌<◌, ◌==◌, ◌&&◌, ℕ, Bool, cond, not, List, Option, None, Some, length, slice_index_or}
+use Rattle.std.specs.Prelude.{◌≡◌, ◌≢◌, ◌<◌, ◌==◌, ◌&&◌, ℕ, Bool, true, cond, not, List, Option, None, Some, length, slice_index_or}
 use Rattle.std.specs.List.{sum_by}
 use Rattle.leg_index.specs.declared.links.LinkUse.{LinkUse}
 
@@ -24,6 +24,16 @@ pub record UseAt (server link : ℕ) (items : List LinkUse) (index : ℕ) : Type
 abbrev pub FindsUse : ℕ → ℕ → List LinkUse → Option ℕ → Type 0
 FindsUse server link items None = used server link items ≡ 0
 FindsUse server link items (Some index) = UseAt server link items index
+
+-- the item at an index is of the link
+pub record IsOfLink (server link : ℕ) (items : List LinkUse) (index : ℕ) : Type 0 where
+  pub inside : index < length items
+  pub is : (d : LinkUse) → is_link (slice_index_or items index d).server (slice_index_or items index d).link server link ≡ true
+
+-- the item at an index counts no leg
+pub record IsSpare (items : List LinkUse) (index : ℕ) : Type 0 where
+  pub inside : index < length items
+  pub counts : (d : LinkUse) → (slice_index_or items index d).count ≡ 0
 
 -- the item counts a leg on the server over TCP
 abbrev pub counts_tcp : ℕ → LinkUse → Bool

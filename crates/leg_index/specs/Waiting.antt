@@ -1,5 +1,6 @@
 -- The legs that wait as a finite set, which of them is the first, and how they stand in a row.
 use Rattle.std.specs.Prelude.{◌≡◌, ◌&&◌, ⊤, Bool, true, false, not, List, [], ◌∷◌, cond, Option, None, Some, IsTrue}
+use Rattle.std.specs.BTreeSet.{BTreeSet, contains}
 use Rattle.std.specs.Coded.{Coded}
 use Rattle.std.specs.FinSet as set
 use Rattle.std.specs.List.{AllByRecursion, list_any}
@@ -49,6 +50,10 @@ IsUptoAll leg row = (other : Key) → has_leg other row ≡ true → is_le (key_
 -- the row has all that it had but the leg
 abbrev pub Leaves : Key → List Key → List Key → Type 0
 Leaves leg old new = (other : Key) → has_leg other new ≡ (not (eq_by_cmp key_cmp other leg) && has_leg other old)
+
+-- the tree has all that it had but the leg
+abbrev pub LeavesTree : Key → BTreeSet Key → BTreeSet Key → Type 0
+LeavesTree leg old new = (other : Key) → contains key_cmp new other ≡ cond (eq_by_cmp key_cmp leg other) false (contains key_cmp old other)
 
 -- the row begins with the leg
 abbrev pub begins_with : Key → List Key → Bool

@@ -1,6 +1,6 @@
 //! The links over which legs are in flight.
-ghost use Rattle.std.specs.Prelude.{◌≡◌, ◌+◌, ◌-◌, ◌^◌, ◌<◌, ◌==◌, ℕ, [], not, cond, MatchOption, OnOk, OnErr};
-ghost use Rattle.leg_index.specs.Links.{used, used_in, counts_tcp, is_link, FindsUse, IsOverTcp, NoneOverTcp};
+ghost use Rattle.std.specs.Prelude.{◌≡◌, ◌+◌, ◌-◌, ◌^◌, ◌<◌, ◌==◌, ℕ, [], not, cond, IfOk, IfSome, MatchOption, OnOk, OnErr};
+ghost use Rattle.leg_index.specs.Links.{used, used_in, counts_tcp, is_link, FindsUse, IsOfLink, IsOverTcp, IsSpare, NoneOverTcp};
 
 use crate::link_ids::LinkIds;
 use std::alloc::{AllocError, Global};
@@ -15,11 +15,12 @@ pub struct LinkUse {
 }
 
 /// The links over which legs are in flight, with how many those are. They are few: for each server its socket for UDP
-/// and mostly one connection. Contracts see the counts alone.
+/// and mostly one connection. An item whose legs have ended stays until another link takes it. Contracts see the counts
+/// alone.
 #[derive(Drop)]
 pub struct Links {
     uses: Vec<LinkUse>,
-    /// The identifiers of the attempts of these legs.
+    /// The identifiers of the attempts of these legs, by the indexes of the items.
     ids: LinkIds,
 }
 
@@ -58,46 +59,85 @@ impl Links {
         count_uses(self.uses.as_slice(), server, link)
     }
 
+    /// The links over which legs are in flight, with how many those are.
+    pub fn uses(&self) -> &[LinkUse]
+        ensures { result.now ≡ self.now }
+    {
+        self.uses.as_slice()
+    }
+
     /// The identifiers of the attempts on this server over this link, as they were told. No clause says that these are
     /// they: whoever reads one looks whether its attempt is over the link, and whether there are as many as `count` says.
     pub fn ids(&self, alloc: Global, server: u32, link: u64) -> Result<Vec<u16>, AllocError> {
-        self.ids.over(alloc, server, link)
+        match find_link(self.uses.as_slice(), server, link) {
+            Some(index) => self.ids.over(alloc, index),
+            None => Ok(Vec::new(alloc)),
+        }
     }
 
     /// One leg more is in flight on this server over this link, whose attempt has this identifier. `AllocError` is want
     /// of memory.
+    #[inline]
     pub fn begin(&mut self, server: u32, link: u64, id: u16) -> Result<(), AllocError>
         requires fits { used server link self.old + 1 < 2 ^ 64 }
         ensures ok { OnOk result ((s l : ℕ)
             → used s l self.new ≡ cond (is_link server link s l) 1 0 + used s l self.old) }
         ensures err { OnErr result (self.new ≡ self.old) }
     {
-        self.ids.put(server, link, id)?;
-        match find_use(self.uses.as_slice(), server, link) {
-            Some(index) => self.uses[index].count += 1,
-            None => self.uses.push(LinkUse {
-                server,
-                link,
-                count: 1,
-            })?,
-        }
+        let index = self.item_of(server, link)?;
+        self.uses[index].count += 1;
+        self.ids.put(index, id);
         Ok(())
     }
 
     /// One leg less is, whose attempt had this identifier. Where none was, nothing changes. It takes no memory.
+    #[inline]
     pub fn end(&mut self, server: u32, link: u64, id: u16)
         ensures { (s l : ℕ)
             → used s l self.new ≡ used s l self.old - cond (is_link server link s l) 1 0 }
     {
-        self.ids.drop_id(server, link, id);
         let Some(index) = find_use(self.uses.as_slice(), server, link) else {
             return;
         };
-        if self.uses[index].count == 1 {
-            self.uses.swap_remove(index);
-        } else {
-            self.uses[index].count -= 1;
+        self.uses[index].count -= 1;
+        self.ids.drop_id(index, id);
+    }
+
+    /// The index of this link's item: its own, or a new one.
+    #[inline(always)]
+    fn item_of(&mut self, server: u32, link: u64) -> Result<usize, AllocError>
+        ensures at { IfOk result (IsOfLink server link self.new) }
+        ensures ok { OnOk result ((s l : ℕ) → used s l self.new ≡ used s l self.old) }
+        ensures err { OnErr result (self.new ≡ self.old) }
+    {
+        match find_link(self.uses.as_slice(), server, link) {
+            Some(index) => Ok(index),
+            None => self.make_item(server, link),
         }
+    }
+
+    // Apart, so that `begin` is short where the link has its item.
+    /// The index of a new item for this link: one that counts no leg any longer, or one behind the others.
+    #[inline(never)]
+    fn make_item(&mut self, server: u32, link: u64) -> Result<usize, AllocError>
+        ensures at { IfOk result (IsOfLink server link self.new) }
+        ensures ok { OnOk result ((s l : ℕ) → used s l self.new ≡ used s l self.old) }
+        ensures err { OnErr result (self.new ≡ self.old) }
+    {
+        let item = LinkUse {
+            server,
+            link,
+            count: 0,
+        };
+        if let Some(index) = find_spare(self.uses.as_slice()) {
+            self.uses[index] = item;
+            return Ok(index);
+        }
+        self.uses.reserve(1)?;
+        self.ids.push()?;
+        let index = self.uses.len();
+        self.uses.push_reserved(item);
+        Ok(index)
     }
 
     /// A link over TCP to this server over which a leg is in flight.
@@ -151,11 +191,45 @@ fn counts_tcp(item: LinkUse, server: u32) -> bool
 }
 
 // The first item for this server and this link that counts a leg.
+#[inline(always)]
 fn find_use(uses: &[LinkUse], server: u32, link: u64) -> Option<usize>
     ensures { FindsUse server link uses.now result }
 {
     for index in 0..uses.len() {
         if used_in(uses[index], server, link) != 0 {
+            return Some(index);
+        }
+    }
+    None
+}
+
+// The first item for this server and this link.
+#[inline(always)]
+fn find_link(uses: &[LinkUse], server: u32, link: u64) -> Option<usize>
+    ensures { IfSome result (IsOfLink server link uses.now) }
+{
+    for index in 0..uses.len() {
+        if is_of(uses[index], server, link) {
+            return Some(index);
+        }
+    }
+    None
+}
+
+// Whether the item is for this server and this link.
+#[inline(always)]
+fn is_of(item: LinkUse, server: u32, link: u64) -> bool
+    ensures { result ≡ is_link item.server item.link server link }
+{
+    item.server == server && item.link == link
+}
+
+// The first item that counts no leg.
+fn find_spare(uses: &[LinkUse]) -> Option<usize>
+    ensures { IfSome result (IsSpare uses.now) }
+{
+    for index in 0..uses.len() {
+        if uses[index].count == 0 {
             return Some(index);
         }
     }

@@ -3,7 +3,9 @@ ghost use Rattle.std.specs.Prelude.{◌≡◌, true, MatchOption, OnOk, OnErr};
 ghost use Rattle.std.specs.FinSet as set;
 ghost use Rattle.std.specs.List.{slice_get};
 ghost use Rattle.std.specs.Option.{option_copied};
-ghost use Rattle.leg_index.specs.Waiting.{WaitsFirst, IsRising, IsBehind, IsUptoAll, Leaves, begins_with, lesser_of};
+ghost use Rattle.std.specs.BTreeSet as tree;
+ghost use Rattle.timeout_queue.specs.Key.{key_cmp};
+ghost use Rattle.leg_index.specs.Waiting.{WaitsFirst, IsRising, IsBehind, IsUptoAll, Leaves, LeavesTree, begins_with, lesser_of};
 
 use std::alloc::{AllocError, Global};
 use std::collections::{BTreeSet, VecDeque};
@@ -57,7 +59,7 @@ impl Waiting {
     }
 
     /// The leg waits from now on. `AllocError` is want of memory.
-    #[inline]
+    #[inline(always)]
     pub fn put(&mut self, leg: Key) -> Result<(), AllocError>
         ensures ok { OnOk result (self.new ≡ set.insert self.old leg) }
         ensures err { OnErr result (self.new ≡ self.old) }
@@ -66,8 +68,7 @@ impl Waiting {
             self.row.push_back(leg)?;
             return Ok(());
         }
-        self.rest.insert(leg)?;
-        Ok(())
+        put_apart(&mut self.rest, leg)
     }
 
     /// The leg, which is the first that waits, waits no longer. It takes no memory.
@@ -77,7 +78,7 @@ impl Waiting {
         ensures { self.new ≡ set.remove self.old leg }
     {
         drop_front(&mut self.row, leg);
-        self.rest.remove(&leg);
+        drop_apart(&mut self.rest, leg);
     }
 
     /// No leg waits any longer. It takes no memory.
@@ -87,6 +88,36 @@ impl Waiting {
         self.row.clear();
         self.rest.clear();
     }
+}
+
+// The tree's calls are functions of their own, so that a call on a row is short.
+// Puts the leg into the tree.
+#[inline(never)]
+fn put_apart(rest: &mut BTreeSet<Key>, leg: Key) -> Result<(), AllocError>
+    ensures ok { OnOk result (tree.Updates key_cmp rest.old rest.new leg true) }
+    ensures err { OnErr result (rest.new.keys ≡ rest.old.keys) }
+{
+    rest.insert(leg)?;
+    Ok(())
+}
+
+// Takes the leg out of the tree, if it is there.
+#[inline(always)]
+fn drop_apart(rest: &mut BTreeSet<Key>, leg: Key)
+    ensures { LeavesTree leg rest.old rest.new }
+{
+    if rest.is_empty() {
+        return;
+    }
+    drop_held(rest, leg);
+}
+
+// The same, where the tree has some.
+#[inline(never)]
+fn drop_held(rest: &mut BTreeSet<Key>, leg: Key)
+    ensures { LeavesTree leg rest.old rest.new }
+{
+    rest.remove(&leg);
 }
 
 // The first of the row.

@@ -2,3 +2,4 @@ pub mod Theorems
 mod KeyLemmas
 mod RowsLemmas
 mod MomentLemmas
+mod StandLemmas

@@ -1,6 +1,8 @@
 -- What the moments by their keys stand for, and which deadlines are live by them.
-use Rattle.std.proofs.Common.{◌≡◌, ℕ, ◌⊎◌, inl, inr, Bool, true, false, cond, Some, None, Option, Result, Ok, Err, OnOk, OnErr, List, [], ◌∷◌, arith, ap, refl, sym, ◌∙◌, subst}
+use Rattle.std.proofs.Common.{◌≡◌, ℕ, ◌⊎◌, inl, inr, ⊎_elim, Bool, true, false, cond, Some, None, Option, Result, Ok, Err, OnOk, OnErr, List, [], ◌∷◌, arith, ap, refl, sym, ◌∙◌, subst, ◌||◌}
 use Rattle.std.specs.Prelude.{nat_eq}
+use Rattle.std.specs.Ordering.{eq_by_cmp}
+use Rattle.std.specs.Cmp.{Equal-is}
 use Rattle.std.specs.FinMap as map
 use Rattle.std.specs.HashMap.{HashMap, get}
 use Rattle.std.specs.Map.{lookup}
@@ -10,10 +12,10 @@ use Rattle.std.proofs.lemmas.Cmp.{eq_by_cmp_equiv, nat_eq_equiv}
 use Rattle.timeout_queue.specs.declared.key.Key.{Key}
 use Rattle.timeout_queue.specs.declared.key.Deadline.{Deadline}
 use Rattle.timeout_queue.specs.declared.rows.Rows.{Rows}
-use Rattle.timeout_queue.specs.Key.{key_cmp, key_eq}
+use Rattle.timeout_queue.specs.Key.{deadline_cmp, key_cmp, key_eq}
 use Rattle.timeout_queue.specs.Queue.{Deadlines, IsFirst}
 use Rattle.timeout_queue.specs.Rows.{is_live, AddsLive, DropsLive, HaveLive, IsFirstLive}
-use Rattle.timeout_queue.proofs.KeyLemmas.{key_cmp_total, key_cmp-IsAntisymmetric, eq_by_key_cmp, key_eq-refl, same_key}
+use Rattle.timeout_queue.proofs.KeyLemmas.{deadline_cmp_total, deadline_cmp-IsAntisymmetric, key_cmp_total, key_cmp-IsAntisymmetric, eq_by_key_cmp, key_eq-refl, same_key}
 
 -- ---- what the moments stand for
 
@@ -50,14 +52,14 @@ module _ {S : Type 0} (old new : HashMap Key ℕ S) (deadlines : Deadlines) (see
 
 -- ---- which deadlines are live
 
-abbrev at : Key → ℕ → Deadline
+abbrev pub at : Key → ℕ → Deadline
 at key due = record { due = due; key = key }
 
 moment_from : (moment : Option ℕ) (due : ℕ) → option_eq nat_eq moment (Some due) ≡ true → moment ≡ Some due
 moment_from None due is = absurd (false≢true is)
 moment_from (Some moment) due is = ap Some (eqb-true moment due is)
 
-is_moment : (moment : Option ℕ) (due : ℕ) → moment ≡ Some due → option_eq nat_eq moment (Some due) ≡ true
+pub is_moment : (moment : Option ℕ) (due : ℕ) → moment ≡ Some due → option_eq nat_eq moment (Some due) ≡ true
 is_moment moment due is = ap (λ m. option_eq nat_eq m (Some due)) is ∙ nat_eq_equiv.refl due
 
 pub none_live : {S : Type 0} (moments : HashMap Key ℕ S) → moments.entries ≡ [] → (d : Deadline) → is_live moments d ≡ true → ⊥
@@ -104,6 +106,41 @@ module _ {S : Type 0} (old new : HashMap Key ℕ S) where
         only : (d : Deadline) → is_live new d ≡ true → (b : Bool) → key_eq key d.key ≡ b → is_live old d ≡ true
         only d live true same = absurd (false≢true (sym (ap (λ m. option_eq nat_eq m (Some d.due)) (sets d.key ∙ ap (λ b. cond b None (get key_eq old d.key)) same)) ∙ live))
         only d live false else = ap (λ m. option_eq nat_eq m (Some d.due)) (sym (sets d.key ∙ ap (λ b. cond b None (get key_eq old d.key)) else)) ∙ live
+
+-- live besides is this deadline
+abbrev pub with_one : Deadline → (Deadline → Bool) → Deadline → Bool
+with_one one live d = eq_by_cmp deadline_cmp one d || live d
+
+module _ (one : Deadline) (live : Deadline → Bool) where
+  with_left : (d : Deadline) → live d ≡ true → with_one one live d ≡ true
+  with_left d is = by_test (eq_by_cmp deadline_cmp one d)
+    where
+      by_test : (b : Bool) → (b || live d) ≡ true
+      by_test true = refl
+      by_test false = is
+
+  one_or : (d : Deadline) → with_one one live d ≡ true → (one ≡ d) ⊎ (live d ≡ true)
+  one_or d = by_test (eq_by_cmp deadline_cmp one d) refl
+    where
+      by_test : (b : Bool) → eq_by_cmp deadline_cmp one d ≡ b → (b || live d) ≡ true → (one ≡ d) ⊎ (live d ≡ true)
+      by_test true tie _ = inl (deadline_cmp-IsAntisymmetric one d ((Equal-is (deadline_cmp one d)).0 tie))
+      by_test false tie is = inr is
+
+  -- it was taken in
+  pub adds_one : AddsLive live one (with_one one live)
+  adds_one = record {
+    itself = ap (λ b. b || live one) ((eq_by_cmp_equiv deadline_cmp_total).refl one);
+    kept = with_left;
+    only = one_or;
+  }
+
+  -- and leaves again
+  pub drops_one : (after : Deadline → Bool) → ((d : Deadline) → after d ≡ live d) → (live one ≡ true → ⊥) → DropsLive (with_one one live) one after
+  drops_one after same none = record {
+    gone = λ is. none (sym (same one) ∙ is);
+    kept = λ d is. ⊎_elim (λ (e : one ≡ d). inl e) (λ (l : live d ≡ true). inr (same d ∙ l)) (one_or d is);
+    only = λ d is. with_left d (sym (same d) ∙ is);
+  }
 
 -- ---- the first
 

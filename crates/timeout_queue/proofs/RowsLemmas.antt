@@ -15,7 +15,7 @@ use Rattle.std.proofs.lemmas.Cmp.{eq_by_cmp_equiv}
 use Rattle.timeout_queue.specs.declared.key.Deadline.{Deadline}
 use Rattle.timeout_queue.specs.declared.rows.Rows.{Rows}
 use Rattle.timeout_queue.specs.Key.{deadline_cmp}
-use Rattle.timeout_queue.specs.Rows.{IsIn, IsBehind, IsRising, IsLed, KeepsLive, Thins, AddsLive, DropsLive, Extends, HaveLive, IsFirstLive, sooner_of}
+use Rattle.timeout_queue.specs.Rows.{AreLed, HoldsAll, LeavesTree, IsIn, IsBehind, IsRising, IsLed, KeepsLive, Thins, AddsLive, DropsLive, Extends, HaveLive, IsFirstLive, sooner_of}
 use Rattle.timeout_queue.proofs.KeyLemmas.{deadline_cmp_total, deadline_cmp-IsAntisymmetric}
 
 -- ---- the order of deadlines
@@ -248,29 +248,43 @@ module _ (live : Deadline → Bool) (old new : Rows) (h : HaveLive live old) whe
   }
 
   -- a deadline left
-  pub have_without : (d : Deadline) (after : Deadline → Bool) → DropsLive live d after
-      → KeepsLive after old.row.items new.row.items → IsLed (λ q. after q ≡ true) new.row.items
-      → KeepsLive after old.other.items new.other.items → IsLed (λ q. after q ≡ true) new.other.items
-      → set.Updates deadline_cmp old.rest new.rest d false → HaveLive after new
-  have_without d after drops row led other other_led updates = record {
-    rising = row.rising h.rising;
-    led = led;
-    other_rising = other.rising h.other_rising;
-    other_led = other_led;
-    rest = λ q there. from_rest q (eq_by_cmp deadline_cmp d q) refl (sym (updates.0 q) ∙ there);
-    all = λ q l. ⊎_elim (λ (i : IsIn q old.row.items). inl (row.kept q l i))
+  module _ (d : Deadline) (after : Deadline → Bool) (drops : DropsLive live d after) (row : KeepsLive after old.row.items new.row.items)
+      (other : KeepsLive after old.other.items new.other.items) (leaves : LeavesTree d old.rest new.rest) where
+    pub holds_without : HoldsAll after new
+    holds_without = λ q l. ⊎_elim (λ (i : IsIn q old.row.items). inl (row.kept q l i))
         (λ (i : IsIn q old.other.items ⊎ (contains deadline_cmp old.rest q ≡ true)).
-        ⊎_elim (λ (j : IsIn q old.other.items). inr (inl (other.kept q l j))) (λ (j : contains deadline_cmp old.rest q ≡ true). inr (inr (updates.0 q ∙ still q l j (eq_by_cmp deadline_cmp d q) refl))) i)
-        (h.all q (drops.only q l));
-  }
-    where
-      from_rest : (q : Deadline) (b : Bool) → eq_by_cmp deadline_cmp d q ≡ b → cond b false (contains deadline_cmp old.rest q) ≡ true → after q ≡ true
-      from_rest q true tie there = absurd (false≢true there)
-      from_rest q false tie there = ⊎_elim (λ (e : d ≡ q). absurd (false≢true (sym tie ∙ (ap (eq_by_cmp deadline_cmp d) (sym e) ∙ (eq_by_cmp_equiv deadline_cmp_total).refl d)))) (λ (l : after q ≡ true). l) (drops.kept q (h.rest q there))
+        ⊎_elim (λ (j : IsIn q old.other.items). inr (inl (other.kept q l j))) (λ (j : contains deadline_cmp old.rest q ≡ true). inr (inr (leaves q ∙ still q l j (eq_by_cmp deadline_cmp d q) refl))) i)
+        (h.all q (drops.only q l))
+      where
+        still : (q : Deadline) → after q ≡ true → contains deadline_cmp old.rest q ≡ true → (b : Bool) → eq_by_cmp deadline_cmp d q ≡ b → cond b false (contains deadline_cmp old.rest q) ≡ true
+        still q l there true tie = absurd (drops.gone (subst (λ z. after z ≡ true) (sym (deadline_cmp-IsAntisymmetric d q ((Equal-is (deadline_cmp d q)).0 tie))) l))
+        still q l there false tie = there
 
-      still : (q : Deadline) → after q ≡ true → contains deadline_cmp old.rest q ≡ true → (b : Bool) → eq_by_cmp deadline_cmp d q ≡ b → cond b false (contains deadline_cmp old.rest q) ≡ true
-      still q l there true tie = absurd (drops.gone (subst (λ z. after z ≡ true) (sym (deadline_cmp-IsAntisymmetric d q ((Equal-is (deadline_cmp d q)).0 tie))) l))
-      still q l there false tie = there
+    pub have_without : AreLed after new → HaveLive after new
+    have_without led = record {
+      rising = row.rising h.rising;
+      led = led.0;
+      other_rising = other.rising h.other_rising;
+      other_led = led.1;
+      rest = λ q there. from_rest q (eq_by_cmp deadline_cmp d q) refl (sym (leaves q) ∙ there);
+      all = holds_without;
+    }
+      where
+        from_rest : (q : Deadline) (b : Bool) → eq_by_cmp deadline_cmp d q ≡ b → cond b false (contains deadline_cmp old.rest q) ≡ true → after q ≡ true
+        from_rest q true tie there = absurd (false≢true there)
+        from_rest q false tie there = ⊎_elim (λ (e : d ≡ q). absurd (false≢true (sym tie ∙ (ap (eq_by_cmp deadline_cmp d) (sym e) ∙ (eq_by_cmp_equiv deadline_cmp_total).refl d)))) (λ (l : after q ≡ true). l) (drops.kept q (h.rest q there))
+
+-- an empty tree is without the deadline
+pub none_leaves : (d : Deadline) (rest : BTreeSet Deadline) → length rest.keys ≡ 0 → LeavesTree d rest rest
+none_leaves d rest none q = unless (eq_by_cmp deadline_cmp d q) _ (absent rest.keys none)
+  where
+    absent : (keys : List Deadline) → length keys ≡ 0 → list_any (λ k. eq_by_cmp deadline_cmp q k) keys ≡ false
+    absent [] empty = refl
+    absent (k ∷ ks) empty = absurd (omega (arith, empty))
+
+    unless : (b has : Bool) → has ≡ false → has ≡ cond b false has
+    unless true has is = is
+    unless false has is = refl
 
 -- ---- the first
 

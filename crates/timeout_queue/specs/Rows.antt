@@ -1,10 +1,10 @@
 -- How the deadlines of a queue stand in rows: what was dropped may stand there still, but never in front.
-use Rattle.std.specs.Prelude.{◌≡◌, ◌⊎◌, ⊤, Bool, true, List, [], ◌∷◌, cond, ℕ, nat_eq, Option, None, Some}
-use Rattle.std.specs.BTreeSet.{contains}
+use Rattle.std.specs.Prelude.{◌≡◌, ◌⊎◌, ⊤, Bool, false, true, List, [], ◌∷◌, cond, ℕ, nat_eq, Option, None, Some}
+use Rattle.std.specs.BTreeSet.{BTreeSet, contains}
 use Rattle.std.specs.HashMap.{HashMap, get}
 use Rattle.std.specs.List.{AllByRecursion}
 use Rattle.std.specs.Option.{option_eq}
-use Rattle.std.specs.Ordering.{is_le}
+use Rattle.std.specs.Ordering.{eq_by_cmp, is_le}
 use Rattle.timeout_queue.specs.declared.key.Key.{Key}
 use Rattle.timeout_queue.specs.declared.key.Deadline.{Deadline}
 use Rattle.timeout_queue.specs.declared.rows.Rows.{Rows}
@@ -57,6 +57,11 @@ pub record Extends (live : Deadline → Bool) (deadline : Deadline) (old new : L
   pub has : IsIn deadline new
   pub led : (after : Deadline → Bool) → AddsLive live deadline after → IsLed (λ d. live d ≡ true) old → IsLed (λ d. after d ≡ true) new
 
+-- each live deadline stands in a row or in the tree
+abbrev pub HoldsAll : (Deadline → Bool) → Rows → Type 0
+HoldsAll live rows = (d : Deadline) → live d ≡ true
+    → IsIn d rows.row.items ⊎ IsIn d rows.other.items ⊎ (contains deadline_cmp rows.rest d ≡ true)
+
 -- each live deadline stands in a row or in the tree; rows rise, and are led by live ones; in the tree all are live
 pub record HaveLive (live : Deadline → Bool) (rows : Rows) : Type 0 where
   pub rising : IsRising rows.row.items
@@ -64,8 +69,15 @@ pub record HaveLive (live : Deadline → Bool) (rows : Rows) : Type 0 where
   pub other_rising : IsRising rows.other.items
   pub other_led : IsLed (λ d. live d ≡ true) rows.other.items
   pub rest : (d : Deadline) → contains deadline_cmp rows.rest d ≡ true → live d ≡ true
-  pub all : (d : Deadline) → live d ≡ true
-      → IsIn d rows.row.items ⊎ IsIn d rows.other.items ⊎ (contains deadline_cmp rows.rest d ≡ true)
+  pub all : HoldsAll live rows
+
+-- both rows are led by live ones
+abbrev pub AreLed : (Deadline → Bool) → Rows → Type 0
+AreLed live rows = IsLed (λ d. live d ≡ true) rows.row.items × IsLed (λ d. live d ≡ true) rows.other.items
+
+-- the tree has all that it had but the deadline
+abbrev pub LeavesTree : Deadline → BTreeSet Deadline → BTreeSet Deadline → Type 0
+LeavesTree d old new = (q : Deadline) → contains deadline_cmp new q ≡ cond (eq_by_cmp deadline_cmp d q) false (contains deadline_cmp old q)
 
 -- the deadline is live no longer, and all others are as they were
 pub record DropsLive (before : Deadline → Bool) (deadline : Deadline) (after : Deadline → Bool) : Type 0 where

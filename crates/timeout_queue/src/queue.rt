@@ -55,11 +55,15 @@ impl Queue {
         ensures ok { OnOk result (self.new ≡ map.insert self.old key due) }
         ensures err { OnErr result (self.new ≡ self.old) }
     {
-        self.moments.reserve(1)?;
-        self.rows.add(&self.moments, Deadline { due, key })?;
-        let taken_in: Result<_, _> = self.moments.insert(key, due);
-        taken_in.unwrap();
-        Ok(())
+        let deadline = Deadline { due, key };
+        self.rows.add(&self.moments, deadline)?;
+        match self.moments.insert(key, due) {
+            Ok(_) => Ok(()),
+            Err(failed) => {
+                self.rows.remove(&self.moments, deadline);
+                Err(AllocError::from(failed))
+            }
+        }
     }
 
     /// Takes the key out, and answers whether it was in the queue.

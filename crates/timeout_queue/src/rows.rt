@@ -4,10 +4,10 @@
 //! A deadline that is dropped stays in its row until it is the first there. Moments mostly rise, so that a put and a
 //! drop are a few steps at the ends of a row. The second row takes what is due sooner than the last of the first one,
 //! as first attempts are beside repeated ones, which wait longer.
-ghost use Rattle.std.specs.Prelude.{◌≡◌, ◌⊎◌, Bool, true, false, MatchOption, OnOk, OnErr};
+ghost use Rattle.std.specs.Prelude.{◌≡◌, ◌⊎◌, Bool, true, false, get_or, MatchOption, OnOk, OnErr};
 ghost use Rattle.std.specs.List.{slice_get};
 ghost use Rattle.std.specs.Option.{option_copied};
-ghost use Rattle.timeout_queue.specs.Rows.{is_live, IsBehind, IsRising, IsLed, KeepsLive, Thins, AddsLive, DropsLive, Extends, HaveLive, IsFirstLive, sooner_of};
+ghost use Rattle.timeout_queue.specs.Rows.{AreLed, HoldsAll, LeavesTree, is_live, IsBehind, IsRising, IsLed, KeepsLive, Thins, AddsLive, DropsLive, Extends, HaveLive, IsFirstLive, sooner_of};
 ghost use Rattle.timeout_queue.specs.declared.key.Deadline.{Deadline};
 
 use crate::key::{Deadline, Key};
@@ -63,9 +63,24 @@ impl Rows {
             × DropsLive before deadline (is_live moments.now) }
         ensures { HaveLive (is_live moments.now) self.new }
     {
-        leave(&mut self.row, moments, deadline);
-        leave(&mut self.other, moments, deadline);
-        self.rest.remove(&deadline);
+        let first = leave(&mut self.row, deadline);
+        let second = leave(&mut self.other, deadline);
+        drop_apart(&mut self.rest, deadline);
+        if self.all_stand(moments) {
+            return;
+        }
+        settle(&mut self.row, moments, first);
+        settle(&mut self.other, moments, second);
+    }
+
+    // No deadline that was dropped is left: there are as many as there are keys.
+    #[inline(always)]
+    fn all_stand(&self, moments: &HashMap<Key, u64>) -> bool
+        ensures { result ≡ true → HoldsAll (is_live moments.now) self.now
+            → AreLed (is_live moments.now) self.now }
+    {
+        let in_rows = self.row.len() + self.other.len();
+        in_rows.saturating_add(self.rest.len()) == moments.len()
     }
 
     /// The first deadline.
@@ -140,23 +155,50 @@ fn stands(moments: &HashMap<Key, u64>, deadline: Deadline) -> bool
     }
 }
 
-// Takes a dropped deadline out where it is the first, with those behind it that were dropped before.
+// Takes a dropped deadline out where it is the first, and answers whether it was.
 #[inline(always)]
-fn leave(row: &mut VecDeque<Deadline>, moments: &HashMap<Key, u64>, deadline: Deadline)
-    requires { IsLed (λ d. (deadline ≡ d) ⊎ (is_live moments.now d ≡ true)) row.old.items }
-    ensures keeps { KeepsLive (is_live moments.now) row.old.items row.new.items }
-    ensures led { IsLed (λ d. is_live moments.now d ≡ true) row.new.items }
+fn leave(row: &mut VecDeque<Deadline>, deadline: Deadline) -> bool
+    ensures keeps { (live : Deadline → Bool) → (live deadline ≡ true → ⊥)
+        → KeepsLive live row.old.items row.new.items }
+    ensures led { result ≡ false → (live : Deadline → Bool)
+        → IsLed (λ d. (deadline ≡ d) ⊎ (live d ≡ true)) row.old.items
+        → IsLed (λ d. live d ≡ true) row.new.items }
 {
-    let leads = match row.front() {
+    if !begins_with(row, deadline) {
+        return false;
+    }
+    row.pop_front();
+    true
+}
+
+// Whether the deadline is the first of the row.
+#[inline(always)]
+fn begins_with(row: &VecDeque<Deadline>, deadline: Deadline) -> bool
+    ensures yes { result ≡ true → deadline ≡ get_or row.now.items 0 deadline }
+    ensures no { result ≡ false → (live : Deadline → Bool)
+        → IsLed (λ d. (deadline ≡ d) ⊎ (live d ≡ true)) row.now.items
+        → IsLed (λ d. live d ≡ true) row.now.items }
+{
+    match row.front() {
         Some(first) => *first == deadline,
         None => false,
-    };
-    if leads {
+    }
+}
+
+// Takes out what was dropped before the first that wasn't, where the first of the row has left.
+#[inline(always)]
+fn settle(row: &mut VecDeque<Deadline>, moments: &HashMap<Key, u64>, left: bool)
+    ensures keeps { KeepsLive (is_live moments.now) row.old.items row.new.items }
+    ensures led { (left ≡ false → IsLed (λ d. is_live moments.now d ≡ true) row.old.items)
+        → IsLed (λ d. is_live moments.now d ≡ true) row.new.items }
+{
+    if left {
         drop_stale(row, moments);
     }
 }
 
 // Takes out what was dropped, up to the first that wasn't.
+#[inline(never)]
 fn drop_stale(row: &mut VecDeque<Deadline>, moments: &HashMap<Key, u64>)
     ensures keeps { KeepsLive (is_live moments.now) row.old.items row.new.items }
     ensures led { IsLed (λ d. is_live moments.now d ≡ true) row.new.items }
@@ -167,6 +209,26 @@ fn drop_stale(row: &mut VecDeque<Deadline>, moments: &HashMap<Key, u64>)
         }
         row.pop_front();
     }
+}
+
+// The tree's calls are functions of their own, so that a call on a row is short.
+// Takes the deadline out of the tree, if it is there.
+#[inline(always)]
+fn drop_apart(rest: &mut BTreeSet<Deadline>, deadline: Deadline)
+    ensures { LeavesTree deadline rest.old rest.new }
+{
+    if rest.is_empty() {
+        return;
+    }
+    drop_held(rest, deadline);
+}
+
+// The same, where the tree has some.
+#[inline(never)]
+fn drop_held(rest: &mut BTreeSet<Deadline>, deadline: Deadline)
+    ensures { LeavesTree deadline rest.old rest.new }
+{
+    rest.remove(&deadline);
 }
 
 // The one that comes first, or the only one.

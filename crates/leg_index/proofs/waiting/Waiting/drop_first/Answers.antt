@@ -6,4 +6,4 @@ pub drop_front-requires-clause-first : goal.drop_front-requires-clause-first
 drop_front-requires-clause-first c = first_upto c.self.inside.row.items c.self.inside.rest _ c.self.view_is c.args.leg c.requires.first
 
 pub returns : goal.returns
-returns c = seen_dropped c.self.inside.row.items c.self.inside.rest _ c.self.view_is c.args.leg c.requires.first c.drop_front.new.row.items c.remove.new.self c.remove.ensures.updates c.drop_front.ensures.left
+returns c = seen_dropped c.self.inside.row.items c.self.inside.rest _ c.self.view_is c.args.leg c.requires.first c.drop_front.new.row.items c.drop_apart.new.rest c.drop_apart.ensures c.drop_front.ensures.left

@@ -1,5 +1,6 @@
 use Rattle.std.proofs.Common.{◌++◌, ap, sym, subst, ◌∙◌}
 use Rattle.std.specs.FinSet as set
+use Rattle.std.proofs.lemmas.Result.{on_ok_weaker}
 use Rattle.leg_index.specs.Waiting.{IsRising}
 use Rattle.leg_index.proofs.WaitingLemmas.{rising_push, seen_pushed, seen_inserted}
 use Rattle.leg_index.proofs.waiting.Waiting.put.Goals as goal
@@ -13,4 +14,4 @@ returns-then-fits-clause-ok c = ap (λ row. set.from_list (row ++ c.self.inside.
 
 -- or in the tree
 pub returns-clause-ok : goal.returns-clause-ok
-returns-clause-ok c = seen_inserted c.self.inside.row.items c.self.inside.rest _ c.self.view_is c.insert.new.self c.args.leg c.in_ok-insert.ensures.updates
+returns-clause-ok c = on_ok_weaker c.put_apart.result (λ updates. seen_inserted c.self.inside.row.items c.self.inside.rest _ c.self.view_is c.put_apart.new.rest c.args.leg updates) c.put_apart.ensures.ok
