@@ -19,7 +19,8 @@ use Rattle.channel_model.specs.Commands.{AllBecame, ArePerformed, IsPerformed, O
 use Rattle.channel_model.specs.Completion.{occurrences, taken, taken_by}
 use Rattle.channel_model.specs.Journal.{Past, followed_by, past_of}
 use Rattle.channel_model.specs.Setting.{Setting}
-use Rattle.ahost_tool.specs.Performing.{IsCommanded, IsOfCommand}
+use Rattle.channel_table.specs.Commanded.{IsOfCommand}
+use Rattle.ahost_tool.specs.Performing.{IsCommanded}
 use Rattle.ahost_tool.proofs.ListLemmas.{all_pass, all_positions, any_front, any_last, apart_by, each_differs, each_of, each_passes, no_positions, or_other, or_right, positions-append, positions_below}
 use Rattle.ahost_tool.proofs.ObeyLemmas.{IsDone, are_performed_longer, before_none, commands_of_done, done_later, past_on, spares, takes_it}
 use Rattle.ahost_tool.proofs.PerformLemmas.{behind_end, earlier}

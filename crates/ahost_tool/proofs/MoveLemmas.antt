@@ -26,7 +26,8 @@ use Rattle.completion_ticket.specs.States.{CallbackState, CalledState}
 use Rattle.event_runner.specs.Goes.{AreMadeInTurns, is_made_in_turn}
 use Rattle.ahost_tool.specs.Delivering.{DeliversAll, DeliversOne, DeliversSome, IsIdle, Spends, plan_of}
 use Rattle.ahost_tool.specs.Kinds.{has_servers, is_cancel, is_of_session, is_ruled, is_servers}
-use Rattle.ahost_tool.specs.Performing.{IsCommanded, IsOfCommand}
+use Rattle.channel_table.specs.Commanded.{IsOfCommand}
+use Rattle.ahost_tool.specs.Performing.{IsCommanded}
 use Rattle.ahost_tool.specs.Session.{HasObeyed, IsKept}
 use Rattle.ahost_tool.specs.Weight.{weight}
 use Rattle.ahost_tool.specs.declared.caller.Caller.{Caller}

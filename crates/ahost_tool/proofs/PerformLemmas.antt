@@ -26,7 +26,8 @@ use Rattle.channel_model.proofs.Theorems.{all_became_append, all_became_longer, 
 use Rattle.channel_table.specs.Calling.{Owned, known_by_owner}
 use Rattle.completion_ticket.specs.States.{CallbackState}
 use Rattle.ahost_tool.specs.Delivering.{plan_of}
-use Rattle.ahost_tool.specs.Performing.{IsCommanded, IsOfCommand, Performs, lost_by, lost_for}
+use Rattle.channel_table.specs.Commanded.{IsOfCommand, lost_by, lost_for}
+use Rattle.ahost_tool.specs.Performing.{IsCommanded, Performs}
 use Rattle.ahost_tool.specs.Weight.{command_size, commands_size, script_size, scripts_size}
 use Rattle.ahost_tool.proofs.ListLemmas.{each_of, positions-append}
 use Rattle.owner_laws.proofs.Owner.{owner_called, seen_by}

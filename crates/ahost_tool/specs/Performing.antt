@@ -1,29 +1,13 @@
 -- How the commands of a callback are performed by a channel's one owner.
 use Rattle.std.specs.List.{AllByRecursion}
-use Rattle.std.specs.Prelude.{Err, List, Ok, Result, count_by, length, min, true, ℕ, ◌++◌, ◌+◌, ◌-◌, ◌^◌, ◌≡◌, ◌≤◌, ⊤}
+use Rattle.std.specs.Prelude.{List, count_by, length, min, true, ℕ, ◌++◌, ◌+◌, ◌-◌, ◌^◌, ◌≡◌, ◌≤◌}
 use Rattle.chan_types.specs.declared.command.Command.{Command}
 use Rattle.chan_types.specs.declared.journal.Entry.{Entry}
-use Rattle.chan_types.specs.declared.journal.What.{What}
-use Rattle.chan_types.specs.declared.journal.What.TheVariants.{Accept, Arrive, Cancel, Destroy, Expire, Fault, Servers, Start, Take}
-use Rattle.chan_types.specs.declared.refusal.Refusal.{Refusal}
-use Rattle.chan_types.specs.declared.refusal.Refusal.TheVariants.{Closed, NoMemory}
 use Rattle.channel_model.specs.Commands.{AllBecame, Outcome, is_lost, positions_from, positions_left}
 use Rattle.channel_model.specs.Lawful.{IsLawful}
-use Rattle.channel_model.specs.declared.answers.Refused.{Refused}
 use Rattle.channel_table.specs.Calling.{Owned}
+use Rattle.channel_table.specs.Commanded.{IsOfCommand}
 use Rattle.ahost_tool.specs.Weight.{commands_size, scripts_size}
-
--- the entry is one that a command leaves
-abbrev pub IsOfCommand : What → Type 0
-IsOfCommand (Accept number spec script) = ⊤
-IsOfCommand Cancel = ⊤
-IsOfCommand Destroy = ⊤
-IsOfCommand (Take number) = ⊥
-IsOfCommand (Start number leg server link id mix moment) = ⊥
-IsOfCommand (Arrive server link bytes) = ⊥
-IsOfCommand (Expire number leg moment) = ⊥
-IsOfCommand (Fault server link moment) = ⊥
-IsOfCommand (Servers list) = ⊥
 
 -- the owner made the entry on the command of this request's callback
 abbrev pub IsCommanded : ℕ → Entry → Type 0
@@ -46,13 +30,3 @@ pub record Performs (commands : List Command) (old new : Owned) (lost_old lost_n
   pub lawful : IsLawful old.setting old.seen → IsLawful new.setting new.seen
   pub setting : new.setting ≡ old.setting
   pub voice : new.voice ≡ old.voice
-
--- a refusal for want of memory loses the request
-abbrev pub lost_for : Refusal → ℕ
-lost_for Closed = 0
-lost_for NoMemory = 1
-
--- how many requests were lost at an accept with this reply: one, where it was refused for want of memory
-abbrev pub lost_by : {T : Type 0} → Result ℕ (Refused T) → ℕ
-lost_by (Ok number) = 0
-lost_by (Err refused) = lost_for refused.why

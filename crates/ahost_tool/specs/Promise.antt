@@ -61,7 +61,7 @@ pub record IsTraffic (setting : Setting) (later : Option (List ServerAddr)) (tur
   pub made : ℕ
   pub few : made ≤ turns
   pub readings : turns_in calls ≡ made
-  -- Journal and calls fall into these turns: the servers of the setting are told before the first, nothing waits before it, and between two there is one wait, up to the first deadline, or none where there is something to do. Want of memory alone cuts this short.
+  -- Journal and calls fall into these turns: the servers of the setting are told before the first, nothing waits before it, and between two there is one wait, up to the first deadline, where there is nothing to do, or none where there is something. Want of memory alone cuts this short.
   pub course : end ≢ OutOfMemory → IsCourse setting 0 longest_slice journal calls made 0
   -- The later servers, if there are some, are set behind the first turn and before the second, unless the channel was destroyed before that.
   pub sets_behind : end ≢ OutOfMemory → SetsBehindFirst setting later made journal calls

@@ -1,7 +1,8 @@
 //! Performing the commands of a callback.
 
 ghost use Rattle.std.specs.Prelude.{◌≡◌, ◌∷◌, [], ℕ};
-ghost use Rattle.ahost_tool.specs.Performing.{Performs, lost_by};
+ghost use Rattle.channel_table.specs.Commanded.{lost_by};
+ghost use Rattle.ahost_tool.specs.Performing.{Performs};
 
 use chan_types::{Command, Refusal, Script, Spec};
 use channel_model::{Desk, Refused};

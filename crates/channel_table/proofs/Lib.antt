@@ -46,3 +46,4 @@ mod LinkedLemmas
 mod StrayLemmas
 mod MarkLemmas
 mod FailSteps
+mod LeaveLemmas

@@ -3,18 +3,22 @@ use Rattle.std.proofs.Common.{◌≡◌, ◌∙◌, ℕ, zero, suc, ◌+◌, ◌
 use Rattle.std.proofs.lemmas.List.{length-append}
 use Rattle.std.proofs.lemmas.List.Sums.{sum_by-append, sum_by-cons, sum_by_push}
 use Rattle.std.specs.List.{sum_by}
-use Rattle.std.specs.Prelude.{count_by, option_to_list}
+use Rattle.std.specs.Prelude.{IfSome, IsSomeAnd, count_by, option_map, option_to_list}
 use Rattle.chan_types.specs.declared.answer.Answer.{Answer}
 use Rattle.chan_types.specs.declared.ticket.Ticket.{Ticket}
 use Rattle.channel_model.specs.declared.judged.Judged.{Judged}
+use Rattle.query_machine.specs.Legs.{IsWaiting}
 use Rattle.query_machine.specs.declared.leg.Flying.{Flying}
+use Rattle.query_machine.specs.declared.leg.Phase.{Phase}
+use Rattle.query_machine.specs.declared.leg.Phase.TheVariants as phases
 use Rattle.resolv_options.specs.declared.flags.Flags.{Flags}
 use Rattle.channel_table.specs.After.{after}
+use Rattle.channel_table.specs.Apart.{IsApart, NoneFlies}
 use Rattle.channel_table.specs.Ends.{Becomes, EndsRow}
-use Rattle.channel_table.specs.Rows.{begun_row, flying_in, sides, waiting_in}
-use Rattle.channel_table.specs.Sides.{is_flying, waits}
-use Rattle.channel_table.specs.Starting.{BeginsRow}
-use Rattle.channel_table.specs.Tally.{IsTally, IsTallyLeft, Moves, no_tally, tally_of}
+use Rattle.channel_table.specs.Rows.{all_sides, begun_row, flying_in, forced_in, side_at, sides, waiting_in}
+use Rattle.channel_table.specs.Sides.{begun_side, is_flying, is_forced, leg_of_side, waits}
+use Rattle.channel_table.specs.Starting.{BeginsRow, WaitsAt}
+use Rattle.channel_table.specs.Tally.{HasMoved, IsTally, IsTallyLeft, Moves, no_tally, one_flying, one_waiting, tally_of}
 use Rattle.channel_table.specs.declared.row.After.{After}
 use Rattle.channel_table.specs.declared.row.After.TheVariants.{Ends, Stays}
 use Rattle.channel_table.specs.declared.row.Row.{Row}
@@ -73,54 +77,119 @@ module _ {T : Type 0} (rows new_rows : List (Row T)) (short : length new_rows < 
       omega (arith, sum, moves (omega (arith, part, is)) (omega (arith, sum, most, short)))
 
   -- the tally that has moved so is that of the rows
-  pub tally_moved : (tally before behind new : Tally) → before.waiting ≤ sum_by waiting_in rows → before.flying ≤ sum_by flying_in rows → IsTally rows tally
-      → sum_by waiting_in new_rows + before.waiting ≡ sum_by waiting_in rows + behind.waiting → sum_by flying_in new_rows + before.flying ≡ sum_by flying_in rows + behind.flying
-      → Moves tally.waiting before.waiting behind.waiting new.waiting → Moves tally.flying before.flying behind.flying new.flying → IsTally new_rows new
-  tally_moved tally before behind new part_waiting part_flying is waiting flying moves_waiting moves_flying = record {
-    waiting = count_moved waiting_in (two_sides waits) tally.waiting before.waiting behind.waiting new.waiting part_waiting is.waiting waiting moves_waiting;
-    flying = count_moved flying_in (two_sides is_flying) tally.flying before.flying behind.flying new.flying part_flying is.flying flying moves_flying;
-  }
+  pub tally_moved : (tally before behind new : Tally) → IsTally rows tally → HasMoved tally before behind new
+      → ((f : Row T → ℕ) (g : Tally → ℕ) → ((row : Row T) → g (tally_of row) ≡ f row) → g no_tally ≡ 0 → (g before ≤ sum_by f rows) × (sum_by f new_rows + g before ≡ sum_by f rows + g behind)) → IsTally new_rows new
+  tally_moved tally before behind new is moves changes =
+      let waiting = changes waiting_in (λ (t : Tally). t.waiting) (λ r. refl) refl in
+      let flying = changes flying_in (λ (t : Tally). t.flying) (λ r. refl) refl in
+      let forced = changes forced_in (λ (t : Tally). t.forced) (λ r. refl) refl in
+      record {
+        waiting = count_moved waiting_in (two_sides waits) tally.waiting before.waiting behind.waiting new.waiting waiting.0 is.waiting waiting.1 moves.waiting;
+        flying = count_moved flying_in (two_sides is_flying) tally.flying before.flying behind.flying new.flying flying.0 is.flying flying.1 moves.flying;
+        forced = count_moved forced_in (two_sides is_forced) tally.forced before.forced behind.forced new.forced forced.0 is.forced forced.1 moves.forced;
+      }
 
   -- where a row of the one tally has become one of the other, or has left
   pub tally_changed : (tally behind new : Tally) (row : Row T) (before : Tally) → before ≡ tally_of row → IsTally rows tally
       → ((f : Row T → ℕ) → f row ≤ sum_by f rows) → ((f : Row T → ℕ) → (g : Tally → ℕ) → ((r : Row T) → g (tally_of r) ≡ f r) → g no_tally ≡ 0 → sum_by f new_rows + f row ≡ sum_by f rows + g behind)
-      → Moves tally.waiting before.waiting behind.waiting new.waiting → Moves tally.flying before.flying behind.flying new.flying → IsTally new_rows new
-  tally_changed tally behind new row before same is part sums moves_waiting moves_flying =
-      let had : before.waiting ≡ waiting_in row = ap (λ (t : Tally). t.waiting) same in
-      let flew : before.flying ≡ flying_in row = ap (λ (t : Tally). t.flying) same in
-      tally_moved tally before behind new (omega (arith, had, part waiting_in)) (omega (arith, flew, part flying_in)) is
-      (omega (arith, had, sums waiting_in (λ (t : Tally). t.waiting) (λ r. refl) refl)) (omega (arith, flew, sums flying_in (λ (t : Tally). t.flying) (λ r. refl) refl))
-      moves_waiting moves_flying
+      → HasMoved tally before behind new → IsTally new_rows new
+  tally_changed tally behind new row before same is part sums moves = tally_moved tally before behind new is moves (λ f g told none.
+      let had : g before ≡ f row = ap g same ∙ told row in
+      (omega (arith, had, part f), omega (arith, had, sums f g told none)))
 
 -- with a row more
 pub push_tally : {T : Type 0} (rows : List (Row T)) (row : Row T) → length (rows ++ row ∷ []) < 2 ^ 63 → (tally before behind new : Tally) → before ≡ no_tally → behind ≡ tally_of row → IsTally rows tally
-    → Moves tally.waiting before.waiting behind.waiting new.waiting → Moves tally.flying before.flying behind.flying new.flying → IsTally (rows ++ row ∷ []) new
-push_tally rows row short tally before behind new none same is =
-    let no_waiting : before.waiting ≡ 0 = ap (λ (t : Tally). t.waiting) none in
-    let no_flying : before.flying ≡ 0 = ap (λ (t : Tally). t.flying) none in
-    let has : behind.waiting ≡ waiting_in row = ap (λ (t : Tally). t.waiting) same in
-    let flies : behind.flying ≡ flying_in row = ap (λ (t : Tally). t.flying) same in
-    tally_moved rows (rows ++ row ∷ []) short tally before behind new (omega (arith, no_waiting)) (omega (arith, no_flying)) is
-    (omega (arith, no_waiting, has, sum_by_push waiting_in rows row)) (omega (arith, no_flying, flies, sum_by_push flying_in rows row))
+    → HasMoved tally before behind new → IsTally (rows ++ row ∷ []) new
+push_tally rows row short tally before behind new none same is moves = tally_moved rows (rows ++ row ∷ []) short tally before behind new is moves (λ f g told nought.
+    let had : g before ≡ 0 = ap g none ∙ nought in
+    let has : g behind ≡ f row = ap g same ∙ told row in
+    (omega (arith, had), omega (arith, had, has, sum_by_push f rows row)))
 
--- with the attempt of a row begun
-pub begins_tally : {T : Type 0} (flying : Flying) (index : ℕ) (second : Bool) (rows new_rows : List (Row T)) (begins : BeginsRow flying index second rows new_rows) → index < length rows → length new_rows < 2 ^ 63
-    → (tally before behind new : Tally) (one two : Row T) → before ≡ tally_of one → one ≡ get_or rows index one → behind ≡ tally_of two → two ≡ get_or new_rows index two → IsTally rows tally
-    → Moves tally.waiting before.waiting behind.waiting new.waiting → Moves tally.flying before.flying behind.flying new.flying → IsTally new_rows new
-begins_tally flying index second rows new_rows begins inside short tally before behind new one two same at same_behind at_behind is =
+-- with another row in the place of one
+pub becomes_tally : {T : Type 0} (index : ℕ) (rows new_rows : List (Row T)) (row new : Row T) → ((d : Row T) → get_or rows index d ≡ row) → rows ≡ take index rows ++ row ∷ drop (index + 1) rows → new_rows ≡ take index rows ++ new ∷ drop (index + 1) rows → index < length rows → length new_rows < 2 ^ 63
+    → (tally before behind next : Tally) (one two : Row T) → before ≡ tally_of one → one ≡ get_or rows index one → behind ≡ tally_of two → two ≡ get_or new_rows index two → IsTally rows tally → HasMoved tally before behind next → IsTally new_rows next
+becomes_tally index rows new_rows row new row_is parts becomes inside short tally before behind next one two same at same_behind at_behind is =
     let front = take index rows in
     let back = drop (index + 1) rows in
-    let row = begun_row flying second begins.row in
-    let here : two ≡ row = at_behind ∙ ap (λ rs. get_or rs index two) begins.becomes ∙ at_part rows back index row two inside in
-    tally_changed rows new_rows short tally behind new begins.row before (same ∙ ap tally_of (at ∙ begins.is one)) is (λ f. subst (λ rs. f begins.row ≤ sum_by f rs) (sym begins.parts) (within f front back begins.row))
-    (λ f g told none. ap (λ rs. sum_by f rs + f begins.row) begins.becomes ∙ replaced f front back begins.row row ∙ ap (λ rs. sum_by f rs + f row) (sym begins.parts)
-    ∙ ap (λ n. sum_by f rows + n) (sym (told row) ∙ ap g (sym (same_behind ∙ ap tally_of here))))
+    let here : two ≡ new = at_behind ∙ ap (λ rs. get_or rs index two) becomes ∙ at_part rows back index new two inside in
+    tally_changed rows new_rows short tally behind next row before (same ∙ ap tally_of (at ∙ row_is one)) is (λ f. subst (λ rs. f row ≤ sum_by f rs) (sym parts) (within f front back row))
+    (λ f g told none. ap (λ rs. sum_by f rs + f row) becomes ∙ replaced f front back row new ∙ ap (λ rs. sum_by f rs + f new) (sym parts)
+    ∙ ap (λ n. sum_by f rows + n) (sym (told new) ∙ ap g (sym (same_behind ∙ ap tally_of here))))
+
+-- the side in another phase of its leg
+abbrev in_phase : Side → Phase → Side
+in_phase side phase = record side { leg = record side.leg { phase = phase } }
+
+-- a side that waits has no attempt in flight
+idle_side : (side : Side) → IsWaiting side.leg.phase → (waits side ≡ true) × (is_flying side ≡ false)
+idle_side side = by_phase side.leg.phase
+  where
+    by_phase : (phase : Phase) → IsWaiting phase → (waits (in_phase side phase) ≡ true) × (is_flying (in_phase side phase) ≡ false)
+    by_phase phases.Waiting waiting = (refl, refl)
+    by_phase (phases.InFlight flying) waiting = absurd waiting
+    by_phase (phases.Ended status) waiting = absurd waiting
+
+-- 1 where it is so
+abbrev one_if : Bool → ℕ
+one_if so = cond so 1 0
+
+-- what is counted of a row before and behind the attempt of a side that waited
+abbrev Begun : {T : Type 0} → Row T → Row T → Type 0
+Begun row begun = (waiting_in begun + 1 ≡ waiting_in row) × (flying_in begun ≡ flying_in row + 1) × (forced_in begun ≡ forced_in row)
+
+-- a side that waited has its attempt in flight
+begun_counts : {T : Type 0} (flying : Flying) (second : Bool) (row : Row T) (Q : Side → Type 0) → IsSomeAnd (side_at second row) Q → IfSome (side_at second row) (λ (side : Side). IsWaiting side.leg.phase)
+    → Begun row (begun_row flying second row)
+begun_counts flying false row Q has waiting = by_second row.second
+  where
+    idle : (one_if (waits row.first) ≡ 1) × (one_if (is_flying row.first) ≡ 0)
+    idle = let both = idle_side row.first waiting in (ap one_if both.0, ap one_if both.1)
+
+    by_second : (o : Option Side) → (count_by waits (begun_side flying row.first ∷ option_to_list o) + 1 ≡ count_by waits (row.first ∷ option_to_list o))
+        × (count_by is_flying (begun_side flying row.first ∷ option_to_list o) ≡ count_by is_flying (row.first ∷ option_to_list o) + 1)
+        × (count_by is_forced (begun_side flying row.first ∷ option_to_list o) ≡ count_by is_forced (row.first ∷ option_to_list o))
+    by_second None = (omega (arith, idle.0), omega (arith, idle.1), refl)
+    by_second (Some side) = (omega (arith, idle.0), omega (arith, idle.1), refl)
+begun_counts flying true row Q has waiting = by_second row.second has waiting
+  where
+    by_second : (o : Option Side) → IsSomeAnd o Q → IfSome o (λ (side : Side). IsWaiting side.leg.phase)
+        → (count_by waits (row.first ∷ option_to_list (option_map (begun_side flying) o)) + 1 ≡ count_by waits (row.first ∷ option_to_list o))
+        × (count_by is_flying (row.first ∷ option_to_list (option_map (begun_side flying) o)) ≡ count_by is_flying (row.first ∷ option_to_list o) + 1)
+        × (count_by is_forced (row.first ∷ option_to_list (option_map (begun_side flying) o)) ≡ count_by is_forced (row.first ∷ option_to_list o))
+    by_second None has waiting = absurd has
+    by_second (Some side) has waiting =
+        let both = idle_side side waiting in
+        let idle : one_if (waits side) ≡ 1 = ap one_if both.0 in
+        let still : one_if (is_flying side) ≡ 0 = ap one_if both.1 in
+        (omega (arith, idle), omega (arith, still), refl)
+
+-- with the attempt of a row begun: a leg that waited has its attempt in flight
+pub begins_tally : {T : Type 0} (flying : Flying) (index : ℕ) (second : Bool) (rows new_rows : List (Row T)) (begins : BeginsRow flying index second rows new_rows) → IsApart index second rows → WaitsAt index second rows → length new_rows < 2 ^ 63
+    → (tally new : Tally) → IsTally rows tally → HasMoved tally one_waiting one_flying new → IsTally new_rows new
+begins_tally {T = T} flying index second rows new_rows begins apart waits_at short tally new is moves = record {
+  waiting = count_moved rows new_rows short waiting_in (two_sides waits) tally.waiting 1 0 new.waiting (omega (arith, part, counts.0)) is.waiting (omega (arith, sums waiting_in, counts.0)) moves.waiting;
+  flying = count_moved rows new_rows short flying_in (two_sides is_flying) tally.flying 0 1 new.flying (omega arith) is.flying (omega (arith, sums flying_in, counts.1)) moves.flying;
+  forced = count_moved rows new_rows short forced_in (two_sides is_forced) tally.forced 0 0 new.forced (omega arith) is.forced (omega (arith, sums forced_in, counts.2)) moves.forced;
+}
+  where
+    row : Row T
+    row = begun_row flying second begins.row
+
+    counts : Begun begins.row row
+    counts = begun_counts flying second begins.row _ (subst (λ r. IsSomeAnd (side_at second r) (λ (side : Side). NoneFlies (leg_of_side side) (all_sides rows))) (begins.is begins.row) (apart begins.row))
+        (subst (λ r. IfSome (side_at second r) (λ (side : Side). IsWaiting side.leg.phase)) (begins.is begins.row) (waits_at begins.row))
+
+    part : waiting_in begins.row ≤ sum_by waiting_in rows
+    part = subst (λ rs. waiting_in begins.row ≤ sum_by waiting_in rs) (sym begins.parts) (within waiting_in (take index rows) (drop (index + 1) rows) begins.row)
+
+    sums : (f : Row T → ℕ) → sum_by f new_rows + f begins.row ≡ sum_by f rows + f row
+    sums f = ap (λ rs. sum_by f rs + f begins.row) begins.becomes ∙ replaced f (take index rows) (drop (index + 1) rows) begins.row row ∙ ap (λ rs. sum_by f rs + f row) (sym begins.parts)
 
 -- with the attempts of a row ended
 pub ends_tally : {T : Type 0} (flags : Flags) (concerned : Hits) (judged : Judged) (reply : List ℕ) (most : ℕ) (answer : Option Answer) (index : ℕ) (rows : List (Row T)) (tickets : List (Ticket T)) (new_rows : List (Row T)) (new_tickets : List (Ticket T))
     (ends : EndsRow flags concerned judged reply most answer index rows tickets new_rows new_tickets) → index < length rows → length new_rows < 2 ^ 63
     → (tally before behind new : Tally) (one : Row T) → before ≡ tally_of one → one ≡ get_or rows index one → IsTallyLeft index (length rows) new_rows behind → IsTally rows tally
-    → Moves tally.waiting before.waiting behind.waiting new.waiting → Moves tally.flying before.flying behind.flying new.flying → IsTally new_rows new
+    → HasMoved tally before behind new → IsTally new_rows new
 ends_tally {T = T} flags concerned judged reply most answer index rows tickets new_rows new_tickets ends inside short tally before behind new one same at left is =
     tally_changed rows new_rows short tally behind new ends.row before (same ∙ ap tally_of (at ∙ ends.is one)) is (λ f. subst (λ rs. f ends.row ≤ sum_by f rs) (sym ends.parts) (within f front back ends.row)) (λ f g told none. by_after f g told none (after flags concerned judged reply most ends.row answer) ends.becomes)
   where

@@ -1,6 +1,6 @@
 -- What a Fault makes of a row.
 use Rattle.std.specs.List.{AllByRecursion}
-use Rattle.std.specs.Prelude.{List, None, Option, Some, [], false, length, ℕ, ◌++◌, ◌∷◌, ◌≡◌}
+use Rattle.std.specs.Prelude.{List, None, Option, Some, [], false, filter_map, length, map, ℕ, ◌++◌, ◌∷◌, ◌≡◌}
 use Rattle.chan_types.specs.declared.answer.Answer.{Answer}
 use Rattle.chan_types.specs.declared.status.Status.TheVariants.{ConnRefused}
 use Rattle.chan_types.specs.declared.ticket.Ticket.{Ticket}
@@ -31,6 +31,11 @@ kept_of (Ends ticket) = None
 abbrev pub ticket_made : {T : Type 0} → After T → Option (Ticket T)
 ticket_made (Stays row) = None
 ticket_made (Ends ticket) = Some ticket
+
+-- what the Fault makes of rows and tickets: the rows that go on are kept in order, and the others become tickets
+pub record FailsOver {T : Type 0} (options : Options) (server link most : ℕ) (rows : List (Row T)) (tickets : List (Ticket T)) (new_rows : List (Row T)) (new_tickets : List (Ticket T)) : Type 0 where
+  pub kept : new_rows ≡ filter_map kept_of (map (fails_at options server link most) rows)
+  pub made : new_tickets ≡ tickets ++ filter_map ticket_made (map (fails_at options server link most) rows)
 
 -- the current candidate of the row has no answer
 abbrev pub IsUnanswered : {T : Type 0} → Options → Row T → Type 0

@@ -25,3 +25,4 @@ pub mod Indexed
 pub mod Listing
 pub mod Sought
 pub mod Calling
+pub mod Commanded

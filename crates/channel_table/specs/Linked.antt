@@ -1,11 +1,14 @@
 -- How many attempts are in flight on each link, and how that follows the rows.
 use Rattle.std.specs.List.{list_any, sum_by}
-use Rattle.std.specs.Prelude.{Bool, List, None, Option, Some, cond, false, flat_map, true, ◌+◌, ◌||◌, ◌≡◌, ◌≢◌, ℕ}
+use Rattle.std.specs.Prelude.{Bool, List, None, Option, Some, cond, false, flat_map, not, true, ◌+◌, ◌||◌, ◌≡◌, ◌≢◌, ℕ}
+use Rattle.chan_types.specs.declared.server_key.ServerKey.{ServerKey}
 use Rattle.channel_model.specs.Lawful.{first}
+use Rattle.channel_model.specs.Servers.{has_key}
 use Rattle.leg_index.specs.Links.{used}
 use Rattle.leg_index.specs.declared.links.LinkUse.{LinkUse}
 use Rattle.query_machine.specs.declared.leg.Flying.{Flying}
-use Rattle.channel_table.specs.Forgotten.{hits_second}
+use Rattle.channel_table.specs.Forgotten.{hits_second, left_second}
+use Rattle.channel_table.specs.Listing.{has_left}
 use Rattle.channel_table.specs.Rows.{over_in, row_over}
 use Rattle.channel_table.specs.Sides.{flying_of, flying_over, hits}
 use Rattle.channel_table.specs.Starting.{row_links}
@@ -41,6 +44,14 @@ over_sides first second server link row = over_if first server link row.first + 
 -- of those that an entry concerns, or of all of them
 abbrev pub over_ended : {T : Type 0} → Hits → Bool → ℕ → ℕ → Row T → ℕ
 over_ended concerned all server link row = over_sides (all || hits concerned false row.first) (all || hits_second concerned row.second) server link row
+
+-- of those on servers that aren't in the list
+abbrev pub over_left : {T : Type 0} → List ServerKey → ℕ → ℕ → Row T → ℕ
+over_left list server link row = over_sides (has_left list row.first) (left_second list row.second) server link row
+
+-- how many attempts on such servers an item of the links counts on servers that aren't in the list
+abbrev pub left_use : List ServerKey → LinkUse → ℕ
+left_use list item = cond (not (has_key item.server list)) item.count 0
 
 -- each link over TCP to the server on which an attempt of the rows is in flight is that of the first one
 abbrev pub HasOneLink : {T : Type 0} → ℕ → List (Row T) → Type 0

@@ -1,7 +1,7 @@
 -- What a new list of servers makes of a row.
 use Rattle.std.specs.Bool.{then_some}
 use Rattle.std.specs.Option.{option_and_then}
-use Rattle.std.specs.Prelude.{count_by, option_map, Bool, List, None, Option, Some, false, if◌then◌else◌, not, ℕ}
+use Rattle.std.specs.Prelude.{count_by, drop, get_or, option_map, take, ◌++◌, ◌+◌, ◌∷◌, ◌≡◌, Bool, List, None, Option, Some, false, if◌then◌else◌, not, ℕ}
 use Rattle.chan_types.specs.declared.server_key.ServerKey.{ServerKey}
 use Rattle.channel_model.specs.Servers.{has_key}
 use Rattle.query_machine.specs.Legs.{flying_in}
@@ -41,3 +41,10 @@ side_set list side = record side { leg = leg_set list side.leg }
 -- the row behind a new list of servers
 abbrev pub row_set : {T : Type 0} → List ServerKey → Row T → Row T
 row_set list row = record row { first = side_set list row.first; second = option_map (side_set list) row.second }
+
+-- the row at this index is behind a new list, and the others are as they were
+pub record SetsRow {T : Type 0} (list : List ServerKey) (index : ℕ) (rows new_rows : List (Row T)) : Type 0 where
+  pub row : Row T
+  pub is : (d : Row T) → get_or rows index d ≡ row
+  pub parts : rows ≡ take index rows ++ row ∷ drop (index + 1) rows
+  pub becomes : new_rows ≡ take index rows ++ row_set list row ∷ drop (index + 1) rows

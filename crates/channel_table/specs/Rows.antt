@@ -22,7 +22,7 @@ use Rattle.query_machine.specs.declared.leg.Flying.{Flying}
 use Rattle.channel_table.specs.Aims.{aim_of, answer_of_ends}
 use Rattle.channel_table.specs.Legs.{LegStands}
 use Rattle.channel_table.specs.Searching.{are_passed}
-use Rattle.channel_table.specs.Sides.{begun_side, end_of_side, flew_over, flown_side, is_flying, leg_of_side, number_of_leg, waits, waits_of}
+use Rattle.channel_table.specs.Sides.{begun_side, end_of_side, flew_over, flown_side, is_flying, is_forced, leg_of_side, number_of_leg, waits, waits_of}
 use Rattle.channel_table.specs.declared.row.Row.{Row}
 use Rattle.channel_table.specs.declared.side.Side.{Side}
 
@@ -61,6 +61,10 @@ flying_in row = count_by is_flying (sides row)
 -- how many legs of the row wait
 abbrev pub waiting_in : {T : Type 0} → Row T → ℕ
 waiting_in row = count_by waits (sides row)
+
+-- how many legs of the row have a server that their next attempt has to go to
+abbrev pub forced_in : {T : Type 0} → Row T → ℕ
+forced_in row = count_by is_forced (sides row)
 
 -- the legs of the row that wait
 abbrev pub row_waits : {T : Type 0} → Row T → List Leg

@@ -53,6 +53,10 @@ waits side = not (is_some (flying_of side) || is_some (status_in side.leg.phase)
 abbrev pub waits_of : Side → List Leg
 waits_of side = if waits side then leg_of_side side ∷ [] else []
 
+-- its leg has a server that its next attempt has to go to
+abbrev pub is_forced : Side → Bool
+is_forced side = is_some side.leg.forced
+
 -- how its leg has ended
 abbrev pub end_of_side : Side → Option LegEnd
 end_of_side side = option_map (λ (s : Status). record { status = s; reply = side.reply }) (status_in side.leg.phase)

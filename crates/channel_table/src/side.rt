@@ -2,7 +2,7 @@
 
 ghost use Rattle.std.specs.Prelude.{◌≡◌, IfOk, option_map};
 ghost use Rattle.query_machine.specs.Legs.{IsWaiting, attempt_from};
-ghost use Rattle.channel_table.specs.Sides.{asked_with_kind, at_side, begun_side, end_of_side, ended_seen, flew_over, hits, is_flying, new_side, next_side, side_behind, waits};
+ghost use Rattle.channel_table.specs.Sides.{asked_with_kind, at_side, begun_side, end_of_side, ended_seen, flew_over, hits, is_flying, is_forced, new_side, next_side, side_behind, waits};
 
 use chan_types::{Bytes, NoMemory, Status};
 use channel_model::Judged;
@@ -135,6 +135,13 @@ impl Side {
             Phase::InFlight(_) => true,
             Phase::Waiting | Phase::Ended(_) => false,
         }
+    }
+
+    /// Its leg has a server that its next attempt has to go to.
+    pub fn is_forced(&self) -> bool
+        ensures { result ≡ is_forced self.now }
+    {
+        self.leg.forced.is_some()
     }
 
     /// It has an attempt in flight on this server over this link.

@@ -11,6 +11,7 @@ mod finding;
 mod flown;
 mod found;
 mod landing;
+mod leaving;
 mod linked;
 mod listing;
 mod marking;
@@ -37,11 +38,13 @@ pub struct Table<T: Token> {
     alloc: Global,
     options: Options,
     hosts: Hosts,
-    entries: Vec<Entry>,
+    // Requests are dropped before the journal: their blocks lie between its own, and freed last they would join all of
+    // these together.
     /// The pending requests, by number.
     rows: Rows<T>,
     /// The completed requests that weren't taken, in the order of their completion.
     ready: VecDeque<Ticket<T>>,
+    entries: Vec<Entry>,
     /// The servers with their keys, in the order of the list.
     list: KeyList,
     /// The counts of their failures.

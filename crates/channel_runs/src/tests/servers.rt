@@ -113,3 +113,53 @@ refused as closed
     assert!(rt; is_answered(rt.alloc(), FIRST_TWO, &BACK, lines)?);
     Ok(())
 }
+
+/// A server leaves that two requests of eight are on, then none leaves, and then one that one request is on.
+const FEW_OF_MANY: [Call<'static>; 19] = [
+    ASK,
+    ASK,
+    ASK,
+    ASK,
+    ASK,
+    ASK,
+    ASK,
+    ASK,
+    Call::Start(1, 0),
+    Call::Start(1, 0),
+    Call::Servers(&[TWO, THREE]),
+    Call::Look,
+    Call::Start(1, 0),
+    Call::Servers(&[THREE, TWO]),
+    Call::Start(1, 0),
+    Call::Start(1, 0),
+    Call::Servers(&[THREE]),
+    Call::Look,
+    Call::Start(1, 0),
+];
+
+/// What was on them waits again, before later requests, and the other attempts stay.
+#[test]
+fn few_of_many_requests_leave_a_server(rt: HostRuntime) -> Result<(), Fail> {
+    let lines = "request 1
+request 2
+request 3
+request 4
+request 5
+request 6
+request 7
+request 8
+start 1 leg 0 on 0 over 0 as 1
+start 2 leg 0 on 0 over 0 as 2
+servers closed 2
+pending 8 ready 0 waiting 8 flying 0 due 0 busy 0
+start 1 leg 0 on 1 over 0 as 1
+servers closed 0
+start 2 leg 0 on 2 over 0 as 2
+start 3 leg 0 on 2 over 0 as 3
+servers closed 1
+pending 8 ready 0 waiting 6 flying 2 due 2000 busy 0
+start 1 leg 0 on 2 over 0 as 1
+";
+    assert!(rt; is_answered(rt.alloc(), FIRST_TWO, &FEW_OF_MANY, lines)?);
+    Ok(())
+}

@@ -5,9 +5,9 @@ ghost use Rattle.std.specs.List.{sum_by};
 ghost use Rattle.channel_model.specs.Meanings.{TellsCounts};
 ghost use Rattle.channel_model.specs.Seen.{Happens};
 ghost use Rattle.channel_table.specs.Listing.{has_left};
-ghost use Rattle.channel_table.specs.Sides.{is_flying, waits};
+ghost use Rattle.channel_table.specs.Sides.{is_flying, is_forced, waits};
 ghost use Rattle.channel_table.specs.Sought.{is_sought, sought_in};
-ghost use Rattle.channel_table.specs.Tally.{IsTally, IsTallyLeft, Moves, no_tally, tally_of};
+ghost use Rattle.channel_table.specs.Tally.{HasMoved, IsTally, IsTallyLeft, Moves, no_tally, one_flying, one_waiting, tally_of};
 
 use super::Table;
 use super::listing::has_key;
@@ -33,11 +33,13 @@ impl<T: Token> Table<T> {
     }
 }
 
-/// How many legs of some requests wait, and how many attempts of theirs are in flight.
+/// How many legs of some requests wait, how many attempts of theirs are in flight, and how many legs have a server that
+/// their next attempt has to go to.
 #[derive(Clone, Copy, Debug, PartialEq, Eq)]
 pub struct Tally {
     pub waiting: u64,
     pub flying: u64,
+    pub forced: u64,
 }
 
 impl Tally {
@@ -48,6 +50,7 @@ impl Tally {
         Tally {
             waiting: 0,
             flying: 0,
+            forced: 0,
         }
     }
 
@@ -58,6 +61,7 @@ impl Tally {
         Tally {
             waiting: one_if(row.first.waits()) + one_if(second_waits(row)),
             flying: one_if(row.first.is_flying()) + one_if(second_flies(row)),
+            forced: one_if(row.first.is_forced()) + one_if(second_is_forced(row)),
         }
     }
 
@@ -68,17 +72,29 @@ impl Tally {
         Tally {
             waiting: count_sides(rows, Sought::Waiting),
             flying: count_sides(rows, Sought::Flying),
+            forced: count_sides(rows, Sought::Forced),
+        }
+    }
+
+    /// The same where a leg that waited has its attempt in flight.
+    pub fn begun(self) -> Tally
+        ensures { HasMoved self one_waiting one_flying result }
+    {
+        Tally {
+            waiting: moved(self.waiting, 1, 0),
+            flying: moved(self.flying, 0, 1),
+            forced: moved(self.forced, 0, 0),
         }
     }
 
     /// The same where a part of it has changed: from this tally to that one.
     pub fn moved(self, before: Tally, behind: Tally) -> Tally
-        ensures waiting { Moves self.waiting before.waiting behind.waiting result.waiting }
-        ensures flying { Moves self.flying before.flying behind.flying result.flying }
+        ensures { HasMoved self before behind result }
     {
         Tally {
             waiting: moved(self.waiting, before.waiting, behind.waiting),
             flying: moved(self.flying, before.flying, behind.flying),
+            forced: moved(self.forced, before.forced, behind.forced),
         }
     }
 }
@@ -105,27 +121,27 @@ pub fn tally_left<T: Token>(rows: &VecDeque<Held<T>>, index: usize, len: usize) 
 
 /// Which sides of the rows are counted.
 #[derive(Clone, Copy)]
-pub enum Sought<'a> {
+pub enum Sought {
     /// Those whose leg waits.
     Waiting,
     /// Those that have an attempt in flight.
     Flying,
-    /// Those that have one on this server over this link.
+    /// Those whose leg has a server that its next attempt has to go to.
+    Forced,
+    /// Those that have an attempt in flight on this server over this link.
     Over(u32, u64),
-    /// Those that have one on a server that isn't in this list.
-    Left(&'a [ServerKey]),
 }
 
-impl Sought<'_> {
+impl Sought {
     /// The side is counted.
     fn counts(self, side: &Side) -> bool
-        ensures { result ≡ is_sought self.entry side.now }
+        ensures { result ≡ is_sought self side.now }
     {
         match self {
             Sought::Waiting => side.waits(),
             Sought::Flying => side.is_flying(),
+            Sought::Forced => side.is_forced(),
             Sought::Over(server, link) => side.flew_over(server, link),
-            Sought::Left(list) => has_left(side, list),
         }
     }
 }
@@ -141,8 +157,8 @@ pub fn has_left(side: &Side, list: &[ServerKey]) -> bool
 }
 
 /// How many sides of the rows are counted.
-pub fn count_sides<T: Token>(rows: &VecDeque<Held<T>>, sought: Sought<'_>) -> u64
-    ensures { result ≡ sum_by (sought_in sought.entry) rows.now.items }
+pub fn count_sides<T: Token>(rows: &VecDeque<Held<T>>, sought: Sought) -> u64
+    ensures { result ≡ sum_by (sought_in sought) rows.now.items }
 {
     let mut count: u64 = 0;
     for index in 0..rows.len() {
@@ -152,8 +168,8 @@ pub fn count_sides<T: Token>(rows: &VecDeque<Held<T>>, sought: Sought<'_>) -> u6
 }
 
 /// How many sides of the row are counted.
-pub fn count_in<T: Token>(row: &Row<T>, sought: Sought<'_>) -> u64
-    ensures value { result ≡ sought_in sought.entry row.now }
+pub fn count_in<T: Token>(row: &Row<T>, sought: Sought) -> u64
+    ensures value { result ≡ sought_in sought row.now }
     ensures few { result ≤ 2 }
 {
     let first = sought.counts(&row.first);
@@ -180,6 +196,16 @@ fn second_flies<T: Token>(row: &Row<T>) -> bool
 {
     match &row.second {
         Some(side) => side.side().is_flying(),
+        None => false,
+    }
+}
+
+/// The row has a second side, whose leg has a server that its next attempt has to go to.
+fn second_is_forced<T: Token>(row: &Row<T>) -> bool
+    ensures { cond result 1 0 ≡ count_by is_forced (option_to_list row.now.second) }
+{
+    match &row.second {
+        Some(side) => side.side().is_forced(),
         None => false,
     }
 }

@@ -1,10 +1,10 @@
 //! A fault of a link: every attempt over it fails.
 
 ghost use Rattle.std.specs.List.{list_any};
-ghost use Rattle.std.specs.Prelude.{◌≡◌, ◌≢◌, ◌≤◌, ◌+◌, ◌==◌, ◌++◌, if◌then◌else◌, IfOk, IsTrue, filter_map, map};
+ghost use Rattle.std.specs.Prelude.{◌≡◌, ◌≢◌, ◌≤◌, ◌+◌, ◌==◌, if◌then◌else◌, IfOk, IsTrue, map};
 ghost use Rattle.std.specs.VecDeque.{deque_capacity, deque_len};
 ghost use Rattle.query_machine.specs.Servers.{one_more, recounted};
-ghost use Rattle.channel_table.specs.Failing.{answer_over, fails_at, kept_of, ticket_made};
+ghost use Rattle.channel_table.specs.Failing.{FailsOver, answer_over};
 
 use super::taking::pop_first;
 use crate::held::{Held, row_at};
@@ -78,10 +78,8 @@ pub fn fail_all<T: Token>(
     requires room_kept { deque_len rows.old ≤ deque_capacity kept }
     requires answers { answers.items ≡ map (answer_over options.now server link most) rows.old.items }
     requires room { deque_len rows.old + deque_len ready.old ≤ deque_capacity ready.old }
-    ensures rows { rows.new.items
-        ≡ filter_map kept_of (map (fails_at options.now server link most) rows.old.items) }
-    ensures tickets { ready.new.items ≡ ready.old.items
-        ++ filter_map ticket_made (map (fails_at options.now server link most) rows.old.items) }
+    ensures fails { FailsOver options.now server link most rows.old.items ready.old.items
+        rows.new.items ready.new.items }
     ensures fewer { deque_len rows.new ≤ deque_len rows.old }
     ensures len { deque_len rows.new + deque_len ready.new ≡ deque_len rows.old + deque_len ready.old }
     ensures capacity { deque_capacity ready.new ≡ deque_capacity ready.old }

@@ -18,6 +18,7 @@ use timeout_queue::Key;
 
 /// The index of the request with this number: at once where none has left the list between it and the first or between
 /// it and the last, else by halves.
+#[inline(always)]
 pub fn find_row<T: Token>(rows: &VecDeque<Held<T>>, number: u64) -> Option<usize>
     requires { IsRising (map number_of rows.now.items) }
     ensures { FindsNumber number rows.now.items result }
@@ -25,6 +26,16 @@ pub fn find_row<T: Token>(rows: &VecDeque<Held<T>>, number: u64) -> Option<usize
     if let Some(index) = count_from_first(rows, number) {
         return Some(index);
     }
+    find_apart(rows, number)
+}
+
+/// The same where requests between it and the first have left the list. Apart, so that the look-up of a request whose
+/// place its number tells is short.
+#[inline(never)]
+fn find_apart<T: Token>(rows: &VecDeque<Held<T>>, number: u64) -> Option<usize>
+    requires { IsRising (map number_of rows.now.items) }
+    ensures { FindsNumber number rows.now.items result }
+{
     if let Some(index) = count_from_last(rows, number) {
         return Some(index);
     }
@@ -32,6 +43,7 @@ pub fn find_row<T: Token>(rows: &VecDeque<Held<T>>, number: u64) -> Option<usize
 }
 
 /// The index of the request with this number, if it is as far behind the first one as their numbers are apart.
+#[inline(always)]
 fn count_from_first<T: Token>(rows: &VecDeque<Held<T>>, number: u64) -> Option<usize>
     ensures { IfSome result (λ index. FindsNumber number rows.now.items (Some index)) }
 {
@@ -53,6 +65,7 @@ fn count_from_last<T: Token>(rows: &VecDeque<Held<T>>, number: u64) -> Option<us
 }
 
 /// The index, if the request there has this number.
+#[inline(always)]
 fn index_if<T: Token>(rows: &VecDeque<Held<T>>, index: usize, number: u64) -> Option<usize>
     ensures { IfSome result (λ index. FindsNumber number rows.now.items (Some index)) }
 {

@@ -91,7 +91,7 @@ impl Flown {
     }
 
     /// Forgets the attempts of the row on servers that aren't in the list. It takes no memory.
-    fn forget_left<T: Token>(&mut self, row: &Row<T>, list: &[ServerKey])
+    pub fn forget_left<T: Token>(&mut self, row: &Row<T>, list: &[ServerKey])
         ensures { self.new
             ≡ left_of (has_left list.now row.now.first) (left_second list.now row.now.second) row.now self.old }
     {

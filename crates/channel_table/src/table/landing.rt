@@ -76,6 +76,7 @@ fn landing_of(side: &Side, index: usize, is_second: bool, judged: Judged) -> Lan
 }
 
 /// What the message means for the side's leg, where it answers its attempt and the answer is made of this.
+#[inline(always)]
 fn judged_of(
     alloc: Global,
     aim: Aim,
@@ -114,6 +115,7 @@ fn kind_wanted(aim: Aim, kind: u16) -> Option<u16>
 }
 
 /// What the bytes mean, where they answer the attempt for this question.
+#[inline(always)]
 fn judged_by(
     alloc: Global,
     question: &Question,

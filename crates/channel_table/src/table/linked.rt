@@ -5,9 +5,8 @@ ghost use Rattle.std.specs.Prelude.{◌≡◌, ◌+◌, ◌-◌, ◌<◌, ◌^�
 ghost use Rattle.leg_index.specs.Links.{is_link, used};
 ghost use Rattle.channel_table.specs.Failing.{answer_over, fails_at, kept_of};
 ghost use Rattle.channel_table.specs.Forgotten.{begun_flown};
-ghost use Rattle.channel_table.specs.Linked.{AreLinked, over_ended, over_of, over_sides};
-ghost use Rattle.channel_table.specs.Listing.{has_left, row_set};
-ghost use Rattle.channel_table.specs.Forgotten.{hits_second, left_second};
+ghost use Rattle.channel_table.specs.Linked.{AreLinked, over_ended, over_left, over_of, over_sides};
+ghost use Rattle.channel_table.specs.Listing.{row_set};
 ghost use Rattle.resolv_options.specs.declared.options.Options.{Options};
 
 use super::counting::has_left;
@@ -123,12 +122,19 @@ pub fn end_left<T: Token>(links: &mut Links, rows: &VecDeque<Held<T>>, list: &[S
         → AreLinked links.new (map (row_set list.now) rows.now.items) }
 {
     for index in 0..rows.len() {
-        let row = row_at(rows, index);
-        end_sides(
-            links,
-            row,
-            has_left(&row.first, list),
-            second_left(row, list),
-        );
+        end_left_in(links, row_at(rows, index), list);
     }
+}
+
+/// The same for one row.
+pub fn end_left_in<T: Token>(links: &mut Links, row: &Row<T>, list: &[ServerKey])
+    ensures { (server link : ℕ) → used server link links.new
+        ≡ used server link links.old - over_left list.now server link row.now }
+{
+    end_sides(
+        links,
+        row,
+        has_left(&row.first, list),
+        second_left(row, list),
+    );
 }

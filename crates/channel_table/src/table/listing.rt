@@ -177,7 +177,7 @@ pub fn set_rows<T: Token>(rows: &mut VecDeque<Held<T>>, list: &[ServerKey])
 }
 
 /// The same for one of them.
-fn set_held<T: Token>(held: &mut Held<T>, list: &[ServerKey])
+pub fn set_held<T: Token>(held: &mut Held<T>, list: &[ServerKey])
     ensures { held.new ≡ row_set list.now held.old }
 {
     set_row(&mut held.body, list);

@@ -1,12 +1,12 @@
 //! The rows of which attempts fail where they are few: they alone are looked at and changed.
 
 ghost use Rattle.std.specs.List.{AllByRecursion, sum_by};
-ghost use Rattle.std.specs.Prelude.{◌≡◌, ◌≢◌, ◌<◌, ◌≤◌, ◌+◌, ◌++◌, [], IfOk, filter_map, map};
+ghost use Rattle.std.specs.Prelude.{◌≡◌, ◌≢◌, ◌<◌, ◌≤◌, ◌+◌, [], IfOk, map};
 ghost use Rattle.std.specs.VecDeque.{deque_capacity, deque_len};
 ghost use Rattle.chan_types.specs.declared.status.Status.TheVariants.{ConnRefused};
 ghost use Rattle.channel_model.specs.declared.judged.Judged.TheVariants.{Failed};
 ghost use Rattle.channel_table.specs.Ends.{EndsRow};
-ghost use Rattle.channel_table.specs.Failing.{AreMarked, IsUnanswered, fails_at, kept_of, ticket_made};
+ghost use Rattle.channel_table.specs.Failing.{AreMarked, FailsOver, IsUnanswered};
 ghost use Rattle.channel_table.specs.Flown.{AreFlown};
 ghost use Rattle.channel_table.specs.Linked.{AreLinked};
 ghost use Rattle.channel_table.specs.Listed.{IsListedOver, IsRising, Keeps};
@@ -131,10 +131,8 @@ pub fn fail_marked<T: Token>(
     requires unanswered { AllByRecursion (IsUnanswered options.now) rows.old.items }
     requires marked { AreMarked options.now server link most marks.items rows.old.items }
     requires room { deque_len rows.old + deque_len ready.old ≤ deque_capacity ready.old }
-    ensures rows { rows.new.items
-        ≡ filter_map kept_of (map (fails_at options.now server link most) rows.old.items) }
-    ensures tickets { ready.new.items ≡ ready.old.items
-        ++ filter_map ticket_made (map (fails_at options.now server link most) rows.old.items) }
+    ensures fails { FailsOver options.now server link most rows.old.items ready.old.items
+        rows.new.items ready.new.items }
     ensures flown { AreFlown flown.old (all_sides rows.old.items)
         → AreFlown flown.new (all_sides rows.new.items) }
     ensures linked { AreLinked links.old rows.old.items → AreLinked links.new rows.new.items }

@@ -2,14 +2,14 @@
 
 ghost use Rattle.std.specs.FinSet as set;
 ghost use Rattle.std.specs.List.{AllByRecursion, list_any, sum_by};
-ghost use Rattle.std.specs.Prelude.{◌≡◌, ◌≤◌, ◌<◌, ◌+◌, ◌++◌, [], ◌∷◌, false, IfErr, IfOk, IfSome, OnErr, OnOk, Some, filter_map, flat_map, get_or, length, map, true};
+ghost use Rattle.std.specs.Prelude.{◌≡◌, ◌≤◌, ◌<◌, ◌+◌, ◌++◌, [], ◌∷◌, false, IfErr, IfOk, IfSome, OnErr, OnOk, Some, flat_map, get_or, length, map, true};
 ghost use Rattle.std.specs.VecDeque.{deque_capacity, deque_len};
 ghost use Rattle.channel_model.specs.Lawful.{first};
 ghost use Rattle.query_machine.specs.Legs.{attempt_from};
 ghost use Rattle.channel_table.specs.Apart.{IsApart};
 ghost use Rattle.channel_table.specs.Arriving.{Finds};
 ghost use Rattle.channel_table.specs.Ends.{EndsRow};
-ghost use Rattle.channel_table.specs.Failing.{IsUnanswered, fails_at, kept_of, ticket_made};
+ghost use Rattle.channel_table.specs.Failing.{FailsOver, IsUnanswered};
 ghost use Rattle.channel_table.specs.Linked.{HasOneLink};
 ghost use Rattle.channel_table.specs.Listed.{key_of};
 ghost use Rattle.channel_table.specs.Listing.{left_in, row_set};
@@ -19,13 +19,14 @@ ghost use Rattle.channel_table.specs.Soonest.{IsSoonest, dues};
 ghost use Rattle.channel_table.specs.Starting.{BeginsRow, FindsIdle, IsFree, WaitsAt, row_has_id, row_links};
 ghost use Rattle.channel_table.specs.Strays.{IsNumbered, IsOnlyWith, id_of};
 
-use super::counting::{Sought, Tally, count_sides};
+use super::counting::Tally;
 use super::ending::complete_all;
 use super::failing::{answers_over, fail_all};
 use super::finding::{find_row, first_idle, key_of, leave_waiting, list_all, list_staying};
 use super::flown::{Flown, forget_all, forget_left, forget_over, key_of_side};
 use super::found::end_found;
 use super::landing::{Landing, id_of, row_landing};
+use super::leaving::{count_left, ids_left, list_number, set_found};
 use super::linked::{add_attempt, end_left, end_over};
 use super::listing::set_rows;
 use super::marking::{are_few, fail_marked, indexes_over, marks_at};
@@ -55,7 +56,8 @@ pub struct Rows<T: Token> {
     links: Links,
     /// Some of which a leg waits may not be among these: many legs may come back at once where no memory may be taken.
     unlisted: bool,
-    /// How many legs wait, and how many attempts are in flight.
+    /// How many legs wait, how many attempts are in flight, and how many legs have a server that their next attempt has
+    /// to go to.
     tally: Tally,
 }
 
@@ -175,7 +177,6 @@ impl<T: Token> Rows<T> {
     {
         let leg = key_of_side(row_at(&self.list, index).side(is_second));
         let due = at.saturating_add(wait);
-        let before = Tally::of_row(row_at(&self.list, index));
         add_attempt(&mut self.flown, &mut self.links, leg, server, link, id, due)?;
         begin(
             &mut self.list,
@@ -189,8 +190,7 @@ impl<T: Token> Rows<T> {
             wait,
         );
         leave_waiting(&self.list, index, &mut self.waiting);
-        let behind = Tally::of_row(row_at(&self.list, index));
-        self.tally = self.tally.moved(before, behind);
+        self.tally = self.tally.begun();
         Ok(())
     }
 
@@ -300,7 +300,7 @@ impl<T: Token> Rows<T> {
     pub fn count_left(&self, list: &[ServerKey]) -> u64
         ensures { result ≡ sum_by (left_in list.now) self.now }
     {
-        count_sides(&self.list, Sought::Left(list))
+        count_left(self.links.uses(), list)
     }
 
     /// Ends the attempts of the row at this index that an entry concerns, which meant this and came with this reply or
@@ -359,10 +359,8 @@ impl<T: Token> Rows<T> {
     ) -> Result<u64, NoMemory>
         requires unanswered { AllByRecursion (IsUnanswered options.now) self.old }
         requires room { length self.old + deque_len ready.old ≤ deque_capacity ready.old }
-        ensures rows { OnOk result (self.new
-            ≡ filter_map kept_of (map (fails_at options.now server link most) self.old)) }
-        ensures tickets { OnOk result (ready.new.items ≡ ready.old.items
-            ++ filter_map ticket_made (map (fails_at options.now server link most) self.old)) }
+        ensures fails { OnOk result (FailsOver options.now server link most self.old ready.old.items
+            self.new ready.new.items) }
         ensures count { IfOk result (λ count. count ≡ sum_by (over_in server link) self.old) }
         ensures err { OnErr result ((self.new ≡ self.old) × (ready.new ≡ ready.old)) }
         ensures fewer { length self.new ≤ length self.old }
@@ -395,10 +393,8 @@ impl<T: Token> Rows<T> {
         requires unanswered { AllByRecursion (IsUnanswered options.now) self.old }
         requires room { length self.old + deque_len ready.old ≤ deque_capacity ready.old }
         requires count { count ≡ sum_by (over_in server link) self.old }
-        ensures rows { IfOk result (λ found. found ≡ true → self.new
-            ≡ filter_map kept_of (map (fails_at options.now server link most) self.old)) }
-        ensures tickets { IfOk result (λ found. found ≡ true → ready.new.items ≡ ready.old.items
-            ++ filter_map ticket_made (map (fails_at options.now server link most) self.old)) }
+        ensures fails { IfOk result (λ found. found ≡ true → FailsOver options.now server link most
+            self.old ready.old.items self.new ready.new.items) }
         ensures not { IfOk result (λ found. found ≡ false
             → (self.new ≡ self.old) × (ready.new ≡ ready.old)) }
         ensures err { OnErr result ((self.new ≡ self.old) × (ready.new ≡ ready.old)) }
@@ -457,10 +453,8 @@ impl<T: Token> Rows<T> {
         most: u32,
     ) -> Result<(), NoMemory>
         requires room { length self.old + deque_len ready.old ≤ deque_capacity ready.old }
-        ensures rows { OnOk result (self.new
-            ≡ filter_map kept_of (map (fails_at options.now server link most) self.old)) }
-        ensures tickets { OnOk result (ready.new.items ≡ ready.old.items
-            ++ filter_map ticket_made (map (fails_at options.now server link most) self.old)) }
+        ensures fails { OnOk result (FailsOver options.now server link most self.old ready.old.items
+            self.new ready.new.items) }
         ensures err { OnErr result ((self.new ≡ self.old) × (ready.new ≡ ready.old)) }
         ensures fewer { length self.new ≤ length self.old }
         ensures len { length self.new + deque_len ready.new ≡ length self.old + deque_len ready.old }
@@ -498,9 +492,73 @@ impl<T: Token> Rows<T> {
         Ok(())
     }
 
-    /// Makes the list that of the rows: attempts on servers that aren't in it end, and no such server is forced. It
-    /// takes no memory.
+    /// Makes the list that of the rows: attempts on servers that aren't in it end, and no such server is forced.
     pub fn set_list(&mut self, list: &[ServerKey])
+        ensures rows { self.new ≡ map (row_set list.now) self.old }
+        ensures len { length self.new ≡ length self.old }
+    {
+        self.set_few(list);
+        if !self.is_set(list) {
+            self.set_each(list);
+        }
+    }
+
+    /// Makes it that of the requests with attempts on servers that aren't in it, where these attempts are few and the
+    /// links tell which they are. Whether those requests are all is told by `is_set`.
+    fn set_few(&mut self, list: &[ServerKey])
+        ensures rows { map (row_set list.now) self.new ≡ map (row_set list.now) self.old }
+        ensures len { length self.new ≡ length self.old }
+    {
+        if !are_few(self.count_left(list), self.list.len()) {
+            return;
+        }
+        let Ok(ids) = ids_left(*self.list.allocator(), &self.links, list) else {
+            return;
+        };
+        for place in 0..ids.len() {
+            self.set_with(ids[place], list);
+        }
+    }
+
+    /// Makes it that of the request that has an attempt with this identifier, if there is one.
+    fn set_with(&mut self, id: u16, list: &[ServerKey])
+        ensures rows { map (row_set list.now) self.new ≡ map (row_set list.now) self.old }
+        ensures len { length self.new ≡ length self.old }
+    {
+        if let Some(leg) = self.flown.flights.leg(id)
+            && let Some(index) = find_row(&self.list, leg.number)
+        {
+            self.set_at(index, list);
+        }
+    }
+
+    /// Makes it that of the request at this index, which is then among those that wait.
+    fn set_at(&mut self, index: usize, list: &[ServerKey])
+        requires { index < length self.old }
+        ensures rows { map (row_set list.now) self.new ≡ map (row_set list.now) self.old }
+        ensures len { length self.new ≡ length self.old }
+    {
+        let number = row_at(&self.list, index).number;
+        self.unlisted |= list_number(&mut self.waiting, number);
+        self.tally = set_found(
+            &mut self.list,
+            &mut self.flown,
+            &mut self.links,
+            self.tally,
+            index,
+            list,
+        );
+    }
+
+    /// The list is that of the rows: no attempt is on a server that isn't in it, and no server is forced.
+    fn is_set(&self, list: &[ServerKey]) -> bool
+        ensures { result ≡ true → map (row_set list.now) self.now ≡ self.now }
+    {
+        self.tally.forced == 0 && self.count_left(list) == 0
+    }
+
+    /// Makes it that of the rows by a look at each of them. It takes no memory.
+    fn set_each(&mut self, list: &[ServerKey])
         ensures rows { self.new ≡ map (row_set list.now) self.old }
         ensures len { length self.new ≡ length self.old }
     {

@@ -63,7 +63,7 @@ invariant_of-self-2 g c =
     let counted = counted_faulted g.T.Token.plan setting past c.args.server c.args.link c.args.at c.most_attempts-most.result may_spend c.most_attempts-most.ensures.few rows tickets
     c.self.inside.list c.self.inside.servers c.self.inside.greatest_key c.self.inside.greatest_link c.self.inside.started c.in_ok-count.count c.self.invariant.stands c.self.invariant.counted small count in
     kept_more g.T.Token.plan c.self.inside _ entry refl added c.self.invariant tt
-    (rw (c.in_ok-count.ensures.rows, c.in_ok-count.ensures.tickets) (table_failed g.T.Token.plan setting past c.args.server c.args.link c.args.at c.most_attempts-most.result may_spend c.most_attempts-most.ensures.few rows tickets c.self.invariant.stands))
+    (rw (c.in_ok-count.ensures.fails.kept, c.in_ok-count.ensures.fails.made) (table_failed g.T.Token.plan setting past c.args.server c.args.link c.args.at c.most_attempts-most.result may_spend c.most_attempts-most.ensures.few rows tickets c.self.invariant.stands))
     (subst (λ (s : List Failing). AreCounted setting (Fault c.args.server c.args.link c.args.at ∷ past) c.self.inside.list s c.self.inside.greatest_key c.self.inside.greatest_link c.self.inside.started) (sym c.count_fault.ensures) counted)
     (no_more (Fault c.args.server c.args.link c.args.at) past refl ∙ c.self.invariant.accepts) c.self.invariant.destroyed
     (omega (arith, c.self.invariant.few, c.push_reserved.ensures.len, c.make_room.ensures.len)) (omega (arith, c.self.invariant.few_links, c.push_reserved.ensures.len, c.make_room.ensures.len)) (omega (arith, c.self.invariant.few_starts, c.push_reserved.ensures.len, c.make_room.ensures.len))

@@ -39,4 +39,4 @@ returns-clause-tally g c = λ is.
     let inside : c.args.index < length c.args.rows.now.items = omega (arith, c.requires.inside) in
     let left = subst (λ (len : ℕ). IsTallyLeft c.args.index len new c.tally_left.result) (c.len-len.ensures ∙ c.args.rows.now.ok.0) c.tally_left.ensures in
     ends_tally c.args.options.now.flags c.args.concerned c.args.judged c.args.reply c.args.most c.args.answer c.args.index rows c.args.ready.now.items new c.end_row.new.ready.items ends inside (omega (arith, c.end_row.new.rows.ok.0, c.end_row.new.rows.small.0, c.end_row.new.rows.small.1))
-    c.args.tally c.of_row-before.result c.tally_left.result c.moved.result c.row_at-row.result.now c.of_row-before.ensures c.row_at-row.ensures left is c.moved.ensures.waiting c.moved.ensures.flying
+    c.args.tally c.of_row-before.result c.tally_left.result c.moved.result c.row_at-row.result.now c.of_row-before.ensures c.row_at-row.ensures left is c.moved.ensures

@@ -1,18 +1,15 @@
-use Rattle.std.proofs.Common.{Bool, List, ap₂, arith, map, subst, ◌++◌, ◌∙◌, ◌-◌}
+use Rattle.std.proofs.Common.{List, ap₂, arith, map, subst, ◌++◌, ◌∙◌}
 use Rattle.std.proofs.lemmas.List.{append-nil, take_all}
-use Rattle.leg_index.specs.Links.{used}
 use Rattle.channel_table.proofs.FlownRows.{drop_none}
 use Rattle.channel_table.proofs.LinkedLemmas.{set_linked}
-use Rattle.channel_table.specs.Linked.{AreLinked, over_sides}
+use Rattle.channel_table.specs.Linked.{AreLinked}
 use Rattle.channel_table.specs.Listing.{row_set}
 use Rattle.channel_table.specs.declared.row.Row.{Row}
 use Rattle.channel_table.proofs.table.linked.end_left.Goals as goal
 
 pub loop-index-preserved : goal.loop-index-preserved
 loop-index-preserved g c = λ are.
-    let row : Row g.row.T.Denot = c.row_at-row.result.now in
-    set_linked c.loop-index.links c.end_sides.new.links c.args.rows.now.items c.loop-index.index row (omega (arith, c.loop-index-test.true, c.len-index-end.ensures)) c.row_at-row.ensures c.args.list.now (c.loop-index.invariant are)
-    (λ server link. c.end_sides.ensures server link ∙ ap₂ (λ (a b : Bool). used server link c.loop-index.links - over_sides a b server link row) c.has_left.ensures c.second_left.ensures)
+    set_linked c.loop-index.links c.end_left_in.new.links c.args.rows.now.items c.loop-index.index c.row_at.result.now (omega (arith, c.loop-index-test.true, c.len-index-end.ensures)) c.row_at.ensures c.args.list.now (c.loop-index.invariant are) c.end_left_in.ensures
 
 pub returns : goal.returns
 returns g c = λ are.

@@ -37,10 +37,8 @@ loop-alloc-preserved g c =
       capacity = omega (arith, c.fail_next-from.ensures.capacity, c.loop-alloc.invariant.capacity);
     }
 
-pub returns-clause-rows : goal.returns-clause-rows
-returns-clause-rows g c =
-    (failed_all c.args.options.now c.args.server c.args.link c.args.most c.loop-alloc.marks.items c.args.rows.now.items c.loop-alloc.rows.items c.args.ready.now.items c.loop-alloc.ready.items c.loop-alloc.from c.loop-alloc.invariant.failed (nil_from_length _ (sym c.loop-alloc.marks.ok.0 ∙ eqb-true _ _ (sym c.is_empty.ensures ∙ c.loop-alloc-test.false)))).0
-
-pub returns-clause-tickets : goal.returns-clause-tickets
-returns-clause-tickets g c =
-    (failed_all c.args.options.now c.args.server c.args.link c.args.most c.loop-alloc.marks.items c.args.rows.now.items c.loop-alloc.rows.items c.args.ready.now.items c.loop-alloc.ready.items c.loop-alloc.from c.loop-alloc.invariant.failed (nil_from_length _ (sym c.loop-alloc.marks.ok.0 ∙ eqb-true _ _ (sym c.is_empty.ensures ∙ c.loop-alloc-test.false)))).1
+pub returns-clause-fails : goal.returns-clause-fails
+returns-clause-fails g c =
+    let all = failed_all c.args.options.now c.args.server c.args.link c.args.most c.loop-alloc.marks.items c.args.rows.now.items c.loop-alloc.rows.items c.args.ready.now.items c.loop-alloc.ready.items c.loop-alloc.from c.loop-alloc.invariant.failed
+    (nil_from_length _ (sym c.loop-alloc.marks.ok.0 ∙ eqb-true _ _ (sym c.is_empty.ensures ∙ c.loop-alloc-test.false))) in
+    record { kept = all.0; made = all.1 }

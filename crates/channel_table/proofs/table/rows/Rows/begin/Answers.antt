@@ -50,6 +50,6 @@ invariant_of-self-2 g c =
           (begin_found c.self.inside.flown c.args.index c.args.is_second rows apart c.self.invariant.flown c.side.result.now flying new begins waits free told);
       linked = begins_linked c.self.inside.links rows c.self.invariant.linked c.add_attempt.new.links flying c.args.index c.args.is_second new begins waits apart c.in_ok-add_attempt.ensures.linked;
       listed = λ on. c.leave_waiting.ensures (begins_listed flying c.args.index c.args.is_second rows new begins c.self.inside.waiting (c.self.invariant.listed on));
-      tally = begins_tally flying c.args.index c.args.is_second rows new begins inside (omega (arith, c.begin.new.rows.ok.0, c.begin.new.rows.small.0, c.begin.new.rows.small.1)) c.self.inside.tally c.of_row-before.result c.of_row-behind.result c.moved-self-inside.result c.row_at-2.result.now c.row_at-3.result.now
-          c.of_row-before.ensures c.row_at-2.ensures c.of_row-behind.ensures c.row_at-3.ensures c.self.invariant.tally c.moved-self-inside.ensures.waiting c.moved-self-inside.ensures.flying;
+      tally = begins_tally flying c.args.index c.args.is_second rows new begins apart waits (omega (arith, c.begin.new.rows.ok.0, c.begin.new.rows.small.0, c.begin.new.rows.small.1)) c.self.inside.tally c.begun-self-inside.result
+          c.self.invariant.tally c.begun-self-inside.ensures;
     }

@@ -8,5 +8,5 @@ invariant_of-self g c = record {
   flown = rw c.complete_all.ensures.none (c.forget_all.ensures c.self.invariant.flown);
   linked = rw c.complete_all.ensures.none (none_linked g.row.T.Denot c.make.result c.make.ensures);
   listed = λ on. rw c.complete_all.ensures.none tt;
-  tally = rw (c.complete_all.ensures.none, c.none-self-inside.ensures) (record { waiting = refl; flying = refl });
+  tally = rw (c.complete_all.ensures.none, c.none-self-inside.ensures) (record { waiting = refl; flying = refl; forced = refl });
 }

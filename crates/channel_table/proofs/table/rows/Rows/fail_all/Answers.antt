@@ -14,15 +14,10 @@ count-count-requires g c =
     let fits = link_fits c.self.inside.links rows c.self.invariant.linked (omega (arith, c.self.inside.list.ok.0, c.self.inside.list.small.0, c.self.inside.list.small.1)) c.args.server c.args.link in
     record { fits = omega (arith, fits) }
 
-pub returns-then-count-eq0-clause-rows : goal.returns-then-count-eq0-clause-rows
-returns-then-count-eq0-clause-rows g c =
-    let rows : List (Row g.row.T.Denot) = c.args.self.now in
-    let none = ap (sum_by (over_in c.args.server c.args.link)) (sym c.self.view_is) ∙ sym (c.self.invariant.linked c.args.server c.args.link) ∙ sym c.count-count.ensures ∙ c.if-count-eq0.true in
-    sym (none_fails c.args.options.now c.args.server c.args.link c.args.most rows c.requires.unanswered none).0
-
-pub returns-then-count-eq0-clause-tickets : goal.returns-then-count-eq0-clause-tickets
-returns-then-count-eq0-clause-tickets g c =
+pub returns-then-count-eq0-clause-fails : goal.returns-then-count-eq0-clause-fails
+returns-then-count-eq0-clause-fails g c =
     let rows : List (Row g.row.T.Denot) = c.args.self.now in
     let tickets : List (Ticket g.row.T.Denot) = c.args.ready.now.items in
     let none = ap (sum_by (over_in c.args.server c.args.link)) (sym c.self.view_is) ∙ sym (c.self.invariant.linked c.args.server c.args.link) ∙ sym c.count-count.ensures ∙ c.if-count-eq0.true in
-    sym (append-nil tickets) ∙ ap (λ ts. tickets ++ ts) (sym (none_fails c.args.options.now c.args.server c.args.link c.args.most rows c.requires.unanswered none).1)
+    let same = none_fails c.args.options.now c.args.server c.args.link c.args.most rows c.requires.unanswered none in
+    record { kept = sym same.0; made = sym (append-nil tickets) ∙ ap (λ ts. tickets ++ ts) (sym same.1) }

@@ -26,5 +26,5 @@ invariant_of-self g c =
       listed = λ on. rw (c.push_back_reserved.ensures.items, c.make_room.ensures.items, c.in-Ok.ensures.listed, c.in_ok-held.ensures.ok)
           (each-append (IsListed (set.insert legs key)) rows (c.args.row ∷ []) (listed_more legs key rows (c.self.invariant.listed on)) ((λ waiting. listed_itself legs c.args.row.number), tt));
       tally = rw (c.push_back_reserved.ensures.items, c.make_room.ensures.items, c.in_ok-held.ensures.ok)
-          (push_tally rows c.args.row (omega (arith, length-append rows (c.args.row ∷ []), c.in-Ok.ensures.room, c.make_room.new.rows.small.0, c.make_room.new.rows.ok.0, ap length c.make_room.ensures.items)) c.self.inside.tally c.none.result c.of_row-more.result c.moved-self-inside.result c.none.ensures c.of_row-more.ensures c.self.invariant.tally c.moved-self-inside.ensures.waiting c.moved-self-inside.ensures.flying);
+          (push_tally rows c.args.row (omega (arith, length-append rows (c.args.row ∷ []), c.in-Ok.ensures.room, c.make_room.new.rows.small.0, c.make_room.new.rows.ok.0, ap length c.make_room.ensures.items)) c.self.inside.tally c.none.result c.of_row-more.result c.moved-self-inside.result c.none.ensures c.of_row-more.ensures c.self.invariant.tally c.moved-self-inside.ensures);
     }

@@ -1,0 +1,8 @@
+use Rattle.std.proofs.Common.{◌≡◌, take}
+use Rattle.std.specs.List.{sum_by}
+use Rattle.channel_table.specs.Linked.{left_use}
+use Rattle.channel_table.proofs.table.leaving.count_left.Given as goal
+
+-- the items before this index are counted
+abbrev pub invariant-loop-index : goal.invariant-loop-index
+invariant-loop-index l = l.count ≡ sum_by (left_use l.list) (take l.index l.uses)

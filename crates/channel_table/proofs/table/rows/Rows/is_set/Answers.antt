@@ -1,0 +1,12 @@
+use Rattle.std.proofs.Common.{List, ap, eqb-true, sym, ◌∙◌}
+use Rattle.std.specs.List.{sum_by}
+use Rattle.channel_table.proofs.LeaveLemmas.{rows_same}
+use Rattle.channel_table.specs.Rows.{forced_in}
+use Rattle.channel_table.specs.declared.row.Row.{Row}
+use Rattle.channel_table.proofs.table.rows.Rows.is_set.Goals as goal
+
+pub returns-then-self-eq0 : goal.returns-then-self-eq0
+returns-then-self-eq0 g c = λ so.
+    let rows : List (Row g.row.T.Denot) = c.args.self.now in
+    let forced = ap (sum_by forced_in) (sym c.self.view_is) ∙ sym c.self.invariant.tally.forced ∙ c.if-self-eq0.true in
+    rows_same c.args.list.now rows (sym c.count_left.ensures ∙ eqb-true c.count_left.result 0 so) forced
