@@ -24,7 +24,7 @@ ratios() {
   done
 }
 
-for word in seat mutex; do
+for word in seat held mutex; do
   a=$(instructions "$word" "$few")
   b=$(instructions "$word" "$many")
   echo "$word: $(((b - a) / (many - few))) instructions a turn"

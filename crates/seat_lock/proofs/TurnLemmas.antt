@@ -8,7 +8,7 @@ use Rattle.atomic_table.specs.Table.{Me}
 use Rattle.atomic_table.specs.Seated.{TableId}
 use Rattle.seat_lock.specs.declared.view.View.{View}
 use Rattle.seat_lock.specs.declared.view.Phase.TheVariants.{Idle, Waits}
-use Rattle.seat_lock.specs.History.{SeatView, AddsAtMostOne, IsSeatTurn, IsJoin, IsAccounted}
+use Rattle.seat_lock.specs.History.{SeatView, AddsAtMostOne, FindsEach, IsSeatTurn, IsJoin, IsAccounted}
 use Rattle.seat_lock.specs.Rule.{seat_view}
 use Rattle.seat_lock.specs.Steps.{TakesStateOut, CatchesUp, IsAware, after_leave, served, in_phase, both, joined_by}
 use Rattle.seat_lock.proofs.EntryLemmas.{behind}
@@ -87,3 +87,9 @@ module _ {S E T : Type 0} (stands : S → List E) (maker : E → ℕ) (setting :
     pub join_is : (one now : TableId) → one ≡ lock → now ≡ one → IsJoin (seat_view lock v) (seat_view other w) (seat_view now caught.0)
     join_is one now merging catching =
         let same : now ≡ lock = catching ∙ merging in subst (λ (k : SeatView E T). IsJoin (seat_view lock v) (seat_view other w) k) (λ i. seat_view (sym same i) (sym is_final i)) join_final
+
+-- one more turn, behind those that found these
+pub finds_more : {E T R : Type 0} (maker : E → ℕ) (means : T → List E → ℕ → Option R → List E → Type 0) (items : List R) (item : R) (old middle new : SeatView E T)
+    → FindsEach maker means old items middle → IsSeatTurn maker means middle (Some item) new → FindsEach maker means old (items ++ item ∷ []) new
+finds_more {E} {T} maker means [] item old middle new same one = (new, subst (λ (k : SeatView E T). IsSeatTurn maker means k (Some item) new) same one, refl)
+finds_more maker means (x ∷ xs) item old middle new each one = (each.0, each.1, finds_more maker means xs item each.0 middle new each.2 one)

@@ -1,5 +1,5 @@
 -- What a reader of the lock's promises believes: one history of entries for all seats, and what each seat knows of it.
-use Rattle.std.specs.Prelude.{ℕ, ◌≡◌, ◌==◌, ◌<◌, ◌⊎◌, List, [], ◌∷◌, ◌++◌, map, length, Option, Some, option_to_list, IfSome, slice_index_or}
+use Rattle.std.specs.Prelude.{ℕ, ◌≡◌, ◌==◌, ◌<◌, ◌⊎◌, List, [], ◌∷◌, ◌++◌, map, length, Option, None, Some, option_to_list, IfSome, slice_index_or}
 use Rattle.std.specs.List.{filter, All, Contains}
 use mathlib.Core.List.{IsPrefix}
 use Rattle.atomic_table.specs.Seated.{TableId}
@@ -55,6 +55,21 @@ pub record IsSeatTurn {E T R : Type 0} (maker : E → ℕ) (means : T → List E
   -- what the seat made is all that the history has of it
   pub filter : new.own ≡ made_by maker old.number new.seen
   pub same : IsSameSeat old new
+
+-- turns of a seat with one operation, one behind the other, of which each found one of these
+abbrev pub FindsEach : {E T R : Type 0} → (E → ℕ) → (T → List E → ℕ → Option R → List E → Type 0) → SeatView E T → List R → SeatView E T → Type 0
+FindsEach maker means old [] new = new ≡ old
+FindsEach {E} {T} maker means old (item ∷ items) new = (middle : SeatView E T) × IsSeatTurn maker means old (Some item) middle × FindsEach maker means middle items new
+
+-- there are as many items as were wanted; or fewer, and then one more turn found none
+abbrev pub EndsFinding : {E T R : Type 0} → (E → ℕ) → (T → List E → ℕ → Option R → List E → Type 0) → ℕ → List R → SeatView E T → SeatView E T → Type 0
+EndsFinding maker means most items old new = ((length items ≡ most) × (new ≡ old)) ⊎ ((length items < most) × IsSeatTurn maker means old None new)
+
+-- turns of a seat with one operation that found up to so many items, as long as there was one
+pub record AreSeatTurns {E T R : Type 0} (maker : E → ℕ) (means : T → List E → ℕ → Option R → List E → Type 0) (most : ℕ) (old : SeatView E T) (items : List R) (new : SeatView E T) : Type 0 where
+  pub middle : SeatView E T
+  pub each : FindsEach maker means old items middle
+  pub ending : EndsFinding maker means most items middle new
 
 -- what a seat leaves as it is joined into another
 abbrev pub left_behind : {E T : Type 0} → SeatView E T → Left E

@@ -9,6 +9,7 @@ mod opened;
 mod rule;
 mod seat;
 mod steps;
+mod turning;
 mod view;
 
 pub use hold::Hold;

@@ -1,12 +1,13 @@
 //! The lock: turns, joined seats, and the state back at the end.
-ghost use Rattle.std.specs.Prelude.{◌≡◌, Some};
-ghost use Rattle.seat_lock.specs.History.{IsSeatTurn, IsJoin, HasAll, IsWholeHistory};
+ghost use Rattle.std.specs.Prelude.{◌≡◌, ◌≤◌, [], Some, vec_capacity, vec_len};
+ghost use Rattle.seat_lock.specs.History.{AreSeatTurns, HasAll, IsJoin, IsSameSeat, IsSeatTurn, IsWholeHistory};
 
 use crate::hold::Hold;
 use crate::kept::{Kept, Op};
 use crate::rule::LockTable;
 use crate::seat::Seat;
 use crate::steps::{catch_up, merge};
+use crate::turning::turn_inside;
 use std::marker::Model;
 use std::sync::{Mutex, Wait};
 
@@ -33,16 +34,13 @@ impl<S: Kept> Model for SeatLock<S> {
 }
 
 impl<S: Kept> SeatLock<S> {
-    /// Waits until no other thread holds the lock, and holds it.
-    pub fn hold<'l, R: Wait>(&'l self, rt: &'l R) -> Hold<'l, S, R>
-        ensures { result ≡ self.now }
+    /// Waits until no other thread holds the lock, and holds it with this seat.
+    pub fn hold<'l, R: Wait>(&'l self, rt: &'l R, seat: Seat<S>) -> Hold<'l, S, R>
+        requires { seat.lock ≡ self.now }
+        ensures { result ≡ seat }
     {
         let inside = self.gate.lock(rt);
-        Hold {
-            rt,
-            lock: self,
-            inside,
-        }
+        Hold::of(rt, self, inside, seat)
     }
 
     /// Waits for the seat's turn, and runs the operation once, alone.
@@ -50,8 +48,34 @@ impl<S: Kept> SeatLock<S> {
         requires { seat.old.lock ≡ self.now }
         ensures { IsSeatTurn S.maker (O.means op) seat.old result seat.new }
     {
-        let mut hold = self.hold(rt);
-        hold.turn(seat, op)
+        let _inside = self.gate.lock(rt);
+        turn_inside(rt, self, seat, op)
+    }
+
+    /// Waits once, and takes turns with the same operation, one behind the other, until one answers nothing or so many
+    /// have answered something.
+    pub fn take_turns<R: Wait, T, O: Op<S, Reply = Option<T>> + Copy>(
+        &self,
+        rt: &R,
+        seat: &mut Seat<S>,
+        op: O,
+        most: u64,
+        found: &mut Vec<T>,
+    )
+        requires lock { seat.old.lock ≡ self.now }
+        requires none { found.old.items ≡ [] }
+        requires room { most ≤ vec_capacity found.old }
+        ensures turns { AreSeatTurns S.maker (O.means op) most seat.old found.new.items seat.new }
+        ensures few { vec_len found.new ≤ most }
+        ensures same { IsSameSeat seat.old seat.new }
+    {
+        let _inside = self.gate.lock(rt);
+        while (found.len() as u64) < most {
+            let Some(item) = turn_inside(rt, self, seat, op) else {
+                return;
+            };
+            found.push_reserved(item);
+        }
     }
 
     /// Joins the right seat into the left one, which then knows what both have seen.

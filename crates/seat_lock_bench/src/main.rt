@@ -1,12 +1,13 @@
 //! What a turn of seat_lock costs beside std's Mutex, on one counter.
-//! `seat N` and `mutex N` take N turns in this thread alone, `times T N` takes N turns in each of T threads and tells
-//! how long both took. With no words it takes a few turns in two threads, and tells what was counted.
+//! `seat N`, `held N` and `mutex N` take N turns in this thread alone, each one by itself, ten in a hold, or under
+//! the Mutex. `times T N` takes N turns in each of T threads and tells how long both took. With no words it takes a few
+//! turns in two threads, and tells what was counted.
 #![tactic(auto)]
 
 mod counter;
 mod race;
 
-use crate::race::{Race, alone_on_mutex, alone_on_seat, run_both};
+use crate::race::{Race, alone_held, alone_on_mutex, alone_on_seat, run_both};
 use std::{env, io};
 
 /// The number that a word spells, or what stands in for it.
@@ -26,6 +27,7 @@ fn main(rt: HostRuntime) -> io::Result<()> {
     };
     match kind {
         "seat" => println!(rt; "{}", alone_on_seat(&rt, number(words.next(), 1000)))?,
+        "held" => println!(rt; "{}", alone_held(&rt, number(words.next(), 1000)))?,
         "mutex" => alone_on_mutex(&rt, number(words.next(), 1000)),
         "times" => {
             let threads = number(words.next(), 2).clamp(1, 64);

@@ -27,6 +27,27 @@ fn raise_on_seat<R: Wait>(rt: &R, lock: &SeatLock<Counter>, seat: &mut Seat<Coun
     }
 }
 
+/// Ten turns under one hold of the lock.
+fn raise_held<R: Wait>(rt: &R, lock: &SeatLock<Counter>, seat: Seat<Counter>) -> Seat<Counter>
+    requires { seat.lock ≡ lock.now }
+    ensures { IsSameSeat seat result }
+{
+    let mut hold = lock.hold(rt, seat);
+    for _ in 0..10u64 {
+        hold.turn(Raise { by: 1 });
+    }
+    hold.release()
+}
+
+fn raise_in_holds<R: Wait>(rt: &R, lock: &SeatLock<Counter>, seat: Seat<Counter>, turns: u64)
+    requires { seat.lock ≡ lock.now }
+{
+    let mut seat = seat;
+    for _ in 0..turns / 10 {
+        seat = raise_held(rt, lock, seat);
+    }
+}
+
 fn raise_on_mutex<R: Wait>(rt: &R, mutex: &Mutex<u64>, turns: u64) {
     for _ in 0..turns {
         let mut value = mutex.lock(rt);
@@ -82,6 +103,15 @@ pub fn alone_on_seat<R: Wait + AllocGlobal>(rt: &R, turns: u64) -> bool {
         return false;
     };
     raise_on_seat(rt, &lock, &mut seats[0], turns);
+    true
+}
+
+/// So many turns under seat_lock, ten in each hold, in this thread.
+pub fn alone_held<R: Wait + AllocGlobal>(rt: &R, turns: u64) -> bool {
+    let Ok((lock, mut seats)) = make(rt.alloc(), Counter { value: 0 }, 1) else {
+        return false;
+    };
+    raise_in_holds(rt, &lock, seats.remove(0), turns);
     true
 }
 

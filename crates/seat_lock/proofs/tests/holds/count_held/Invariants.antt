@@ -1,6 +1,5 @@
-use Rattle.std.proofs.Common.{◌≡◌}
 use Rattle.seat_lock.specs.History.{IsSameSeat}
 use Rattle.seat_lock.proofs.tests.holds.count_held.Given as goal
 
 abbrev pub invariant-loop : goal.invariant-loop
-invariant-loop g l = (l.hold ≡ l.lock) × (l.seat.lock ≡ l.lock) × IsSameSeat l.fn.seat l.seat
+invariant-loop g l = IsSameSeat l.fn.seat l.hold

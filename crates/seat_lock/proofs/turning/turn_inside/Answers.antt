@@ -1,5 +1,5 @@
 use Rattle.seat_lock.proofs.TurnLemmas.{turn_is}
-use Rattle.seat_lock.proofs.hold.Hold.turn.Goals as goal
+use Rattle.seat_lock.proofs.turning.turn_inside.Goals as goal
 
 pub returns-clause-turn : goal.returns-clause-turn
 returns-clause-turn g c =
