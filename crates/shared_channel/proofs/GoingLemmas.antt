@@ -22,7 +22,7 @@ use Rattle.channel_model.proofs.Theorems.{calls_stretch, fate-one, own-others, p
 use Rattle.completion_ticket.specs.States.{CallbackState, CalledState}
 use Rattle.shared_channel.specs.Finishing.{DeliversAll, DeliversSome}
 use Rattle.shared_channel.specs.Passes.{PassView, desk_of}
-use Rattle.shared_channel.specs.Performing.{IsOfCommand}
+use Rattle.channel_table.specs.Commanded.{IsOfCommand}
 use Rattle.shared_channel.specs.Settling.{IsFateSeen, taken_in}
 use Rattle.shared_channel.specs.Spending.{DeliversOne, Spends}
 use Rattle.shared_channel.specs.Under.{plan_of}

@@ -8,6 +8,7 @@ mod AnswerLemmas
 mod EndLemmas
 mod StayLemmas
 mod DeliverLemmas
+mod TakingLemmas
 mod BackLemmas
 mod CallLemmas
 mod SendLemmas

@@ -33,7 +33,8 @@ use Rattle.hosts_file.specs.declared.hosts.Hosts.{Hosts}
 use Rattle.resolv_options.specs.declared.options.Options.{Options}
 use Rattle.seat_lock.specs.History.{SeatView}
 use Rattle.shared_channel.proofs.Telling.{the_same}
-use Rattle.shared_channel.specs.Performing.{IsOfCommand, Performs, lost_by, lost_for}
+use Rattle.channel_table.specs.Commanded.{IsOfCommand, lost_by, lost_for}
+use Rattle.shared_channel.specs.Performing.{Performs}
 use Rattle.shared_channel.specs.Under.{plan_of, setting_by}
 
 -- a desk that is the same is one of a pass that has all that it had
@@ -140,6 +141,7 @@ performs_none by pass few = record {
   lost = omega (arith, few);
   lawful = λ was. was;
   rest = refl;
+  nothing = λ none. refl;
 }
 
 -- one command, by a call of the pass's desk, and by what became of it
@@ -171,7 +173,13 @@ performs_one meaning command by old middle new outcome call is of_command at lea
       lost = ap (λ p. p.lost) is;
       lawful = λ was. subst (λ journal. IsLawful new.setting journal) (sym seen_is) (subst (λ s. IsLawful s middle.seen) (sym (ap (λ p. p.setting) is)) call.lawful);
       rest = is ∙ ap (λ (p : PassView). record p { lost = min (old.lost + count_by is_lost (outcome ∷ [])) (2 ^ 64 - 1) }) kept ∙ (λ i. record old { own = sym own_is i; seen = sym seen_is i; lost = sym (ap (λ p. p.lost) is) i });
+      nothing = λ none. absurd (cc none);
     }
+
+-- two lists that make an empty one are empty
+both_empty : {A : Type 0} (xs ys : List A) → xs ++ ys ≡ [] → (xs ≡ []) × (ys ≡ [])
+both_empty [] ys none = (refl, none)
+both_empty (x ∷ xs) ys none = absurd (cc none)
 
 -- commands, and further ones behind them
 pub performs_more : (cs ds : List Command) (by : ℕ) (old middle new : PassView) → Performs cs by old middle → Performs ds by middle new → Performs (cs ++ ds) by old new
@@ -209,6 +217,7 @@ performs_more cs ds by old middle new first more =
           ∙ ap (λ n. min (old.lost + n) (2 ^ 64 - 1)) (sym (sum_by-append (λ o. cond (is_lost o) 1 0) first.outcomes more.outcomes));
       lawful = λ was. more.lawful (first.lawful was);
       rest = more.rest ∙ ap (λ (p : PassView). record p { own = new.own; seen = new.seen; lost = new.lost }) first.rest;
+      nothing = λ none. more.nothing (both_empty cs ds none).1 ∙ first.nothing (both_empty cs ds none).0;
     }
 
 -- what stands where the journal ended, and what happened before it

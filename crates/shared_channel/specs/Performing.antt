@@ -1,29 +1,13 @@
 -- How the commands of a callback are performed through a pass.
 use Rattle.std.specs.List.{AllByRecursion}
-use Rattle.std.specs.Prelude.{Err, List, Ok, Result, count_by, length, min, ℕ, ◌++◌, ◌+◌, ◌-◌, ◌==◌, ◌^◌, ◌≡◌, ⊤}
+use Rattle.std.specs.Prelude.{List, [], count_by, length, min, ℕ, ◌++◌, ◌+◌, ◌-◌, ◌==◌, ◌^◌, ◌≡◌}
 use Rattle.chan_types.specs.declared.command.Command.{Command}
 use Rattle.chan_types.specs.declared.journal.Entry.{Entry}
-use Rattle.chan_types.specs.declared.journal.What.{What}
-use Rattle.chan_types.specs.declared.journal.What.TheVariants.{Accept, Arrive, Cancel, Destroy, Expire, Fault, Servers, Start, Take}
-use Rattle.chan_types.specs.declared.refusal.Refusal.{Refusal}
-use Rattle.chan_types.specs.declared.refusal.Refusal.TheVariants.{Closed, NoMemory}
 use Rattle.channel_model.specs.Commands.{AllBecame, Outcome, is_lost, positions_from, positions_left}
 use Rattle.channel_model.specs.Journal.{own_entries}
 use Rattle.channel_model.specs.Lawful.{IsLawful}
-use Rattle.channel_model.specs.declared.answers.Refused.{Refused}
+use Rattle.channel_table.specs.Commanded.{IsOfCommand}
 use Rattle.shared_channel.specs.Passes.{PassView}
-
--- the entry is one that a command leaves
-abbrev pub IsOfCommand : What → Type 0
-IsOfCommand (Accept number spec script) = ⊤
-IsOfCommand Cancel = ⊤
-IsOfCommand Destroy = ⊤
-IsOfCommand (Take number) = ⊥
-IsOfCommand (Start number leg server link id mix moment) = ⊥
-IsOfCommand (Arrive server link bytes) = ⊥
-IsOfCommand (Expire number leg moment) = ⊥
-IsOfCommand (Fault server link moment) = ⊥
-IsOfCommand (Servers list) = ⊥
 
 -- commands were performed through a pass, one after the other, on a request's command: each behind all that the pass had seen
 pub record Performs (commands : List Command) (by : ℕ) (old new : PassView) : Type 0 where
@@ -40,13 +24,5 @@ pub record Performs (commands : List Command) (by : ℕ) (old new : PassView) : 
   pub lost : new.lost ≡ min (old.lost + count_by is_lost outcomes) (2 ^ 64 - 1)
   pub lawful : IsLawful old.setting old.seen → IsLawful new.setting new.seen
   pub rest : new ≡ record old { own = new.own; seen = new.seen; lost = new.lost }
-
--- a refusal for want of memory loses the request
-abbrev pub lost_for : Refusal → ℕ
-lost_for Closed = 0
-lost_for NoMemory = 1
-
--- how many requests were lost at an accept with this reply: one, where it was refused for want of memory
-abbrev pub lost_by : {T : Type 0} → Result ℕ (Refused T) → ℕ
-lost_by (Ok number) = 0
-lost_by (Err refused) = lost_for refused.why
+  -- where there was no command, no turn was taken: the pass has seen nothing more
+  pub nothing : commands ≡ [] → new ≡ old

@@ -3,11 +3,12 @@
 ghost use Rattle.std.specs.Prelude.{IsSome, ◌≡◌};
 ghost use Rattle.channel_model.specs.Journal.{own_entries};
 
-use crate::state::SharedTable;
+use crate::state::{ChannelLock, SharedTable};
 use chan_types::Calls;
 use completion_ticket::Done;
-use seat_lock::Seat;
+use seat_lock::{Hold, Seat};
 use std::marker::Model;
+use std::sync::Wait;
 
 /// A seat of the channel's lock, the answers that callbacks were told through it, and how many of the requests that they
 /// asked were lost.
@@ -30,4 +31,55 @@ impl<B: Done + Drop> Model for Account<B> {
     ghost coded = { Prim.hlevel (codes, moves_code) };
 
     ghost view = { λ account. pass_of account.seat account.is_set account.calls account.lost };
+}
+
+impl<B: Done + Drop> Account<B> {
+    /// The same, once its seat holds the lock.
+    pub fn hold<'c, R: Wait>(self, rt: &'c R, lock: &'c ChannelLock<B>) -> HeldAccount<'c, B, R>
+        requires { self.lock ≡ lock.now }
+        ensures { result ≡ self }
+    {
+        let Account { seat, calls, lost } = self;
+        HeldAccount {
+            hold: lock.hold(rt, seat),
+            calls,
+            lost,
+        }
+    }
+}
+
+/// The same with its seat in a hold of the lock.
+#[derive(Drop)]
+pub(crate) struct HeldAccount<'c, B: Done + Drop, R: Wait> {
+    pub hold: Hold<'c, SharedTable<B>, R>,
+    pub calls: Calls,
+    pub lost: u64,
+    ghost is_set: { IsSome hold.setting },
+    ghost aware: { hold.own ≡ own_entries hold.number hold.seen },
+}
+
+impl<'c, B: Done + Drop, R: Wait> Model for HeldAccount<'c, B, R> {
+    ghost use Rattle.std.specs.Coded.{codes};
+    ghost use Rattle.chan_types.specs.PlanCode.{moves_code};
+    ghost use Rattle.shared_channel.specs.Passes.{PassView, pass_of};
+
+    ghost Value = { PassView };
+
+    ghost coded = { Prim.hlevel (codes, moves_code) };
+
+    ghost view = { λ account. pass_of account.hold account.is_set account.calls account.lost };
+}
+
+impl<'c, B: Done + Drop, R: Wait> HeldAccount<'c, B, R> {
+    /// Lets the lock go, and gives the account back.
+    pub fn release(self) -> Account<B>
+        ensures { result ≡ self.entry }
+    {
+        let HeldAccount { hold, calls, lost } = self;
+        Account {
+            seat: hold.release(),
+            calls,
+            lost,
+        }
+    }
 }

@@ -1,4 +1,4 @@
-//! Delivering several ready requests: their tickets are taken under one hold of the lock, and spent with no lock held.
+//! Delivering several ready requests: their tickets are taken with one wait for the lock, and spent with no lock held.
 
 ghost use Rattle.std.specs.Prelude.{◌≡◌, ◌≤◌, [], IfOk, OnErr, vec_capacity, vec_len};
 ghost use Rattle.shared_channel.specs.Delivering.{DeliversUpTo, SpendsEach, TakesUpTo};
@@ -7,15 +7,13 @@ use crate::account::Account;
 use crate::operations::TakeOp;
 use crate::place::Place;
 use crate::spending::spend;
-use crate::state::SharedTable;
-use crate::turns::turn_held;
+use crate::state::ChannelLock;
 use chan_types::{NoMemory, Orders, Ticket};
 use completion_ticket::{Callback, Called, Done};
-use seat_lock::Hold;
 use std::alloc::Global;
 use std::sync::Wait;
 
-/// Takes ready requests, up to so many, under one hold of the lock, and then spends their tickets, one after the other, with
+/// Takes ready requests, up to so many, with one wait for the lock, and then spends their tickets, one after the other, with
 /// no lock held. Answers what is left of their callbacks, which is fewer where no more were ready. For want of memory
 /// nothing is taken.
 pub fn deliver_some<B: Done + Drop, R: Wait>(
@@ -36,7 +34,7 @@ pub fn deliver_some<B: Done + Drop, R: Wait>(
     Ok(called)
 }
 
-/// Takes ready requests, up to so many, under one hold of the lock.
+/// Takes ready requests, up to so many, with one wait for the lock.
 fn take_some<B: Done + Drop, R: Wait>(
     place: &mut Place<'_, B, R>,
     most: u64,
@@ -48,30 +46,25 @@ fn take_some<B: Done + Drop, R: Wait>(
     ensures few { vec_len tickets.new ≤ most }
 {
     let (rt, lock) = (place.rt, place.lock);
-    let mut hold = lock.hold(rt);
-    take_held(&mut hold, &mut place.account, most, tickets);
+    take_through(rt, lock, &mut place.account, most, tickets);
 }
 
-/// Takes ready requests, up to so many, under this hold of the lock.
-fn take_held<B: Done + Drop, R: Wait>(
-    hold: &mut Hold<'_, SharedTable<B>, R>,
+/// Takes ready requests through this account.
+fn take_through<B: Done + Drop, R: Wait>(
+    rt: &R,
+    lock: &ChannelLock<B>,
     account: &mut Account<B>,
     most: u64,
     tickets: &mut Vec<Ticket<Callback<B>>>,
 )
-    requires lock { account.old.lock ≡ hold.old }
+    requires lock { account.old.lock ≡ lock.now }
     requires none { tickets.old.items ≡ [] }
     requires room { most ≤ vec_capacity tickets.old }
     ensures lock { account.new.lock ≡ account.old.lock }
     ensures taken { TakesUpTo most account.old tickets.new.items account.new }
     ensures few { vec_len tickets.new ≤ most }
 {
-    while (tickets.len() as u64) < most {
-        let Some(ticket) = turn_held(hold, account, TakeOp) else {
-            return;
-        };
-        tickets.push_reserved(ticket);
-    }
+    lock.take_turns(rt, &mut account.seat, TakeOp, most, tickets);
 }
 
 /// Spends these tickets, one after the other.

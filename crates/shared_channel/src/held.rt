@@ -2,35 +2,33 @@
 
 ghost use Rattle.std.specs.Prelude.{◌≡◌, length};
 
-use crate::account::Account;
+use crate::account::{Account, HeldAccount};
 use crate::looking::{CountsOp, LinkBusyOp, NextDueOp};
 use crate::operations::{AcceptOp, CancelOp, DestroyOp, TakeOp};
 use crate::place::Place;
 use crate::running::{ArriveOp, ExpireOp, FaultOp, SetServersOp, StartOp};
-use crate::state::{ChannelLock, SharedTable};
+use crate::state::ChannelLock;
 use crate::turns::turn_held;
 use chan_types::{NoMemory, Spec, Ticket};
 use channel_model::{Begun, Counts, Desk, Landed, Lapse, Refused, SetFault};
 use completion_ticket::{Callback, Done, Hand};
 use net_addr::ServerAddr;
-use seat_lock::Hold;
 use std::marker::Model;
 use std::sync::Wait;
 
 /// A place that holds its channel's lock: a desk, whose calls needn't wait for other threads, while those wait for it.
 /// Contracts see the pass.
 ///
-/// The place is inside, so no callback is told an answer through it while the lock is held: what does that takes a
-/// `Place`. The thread that has it must not use another place of the same channel, which would wait for itself.
+/// The place is inside, and its seat is in the hold: so no callback is told an answer through it while the lock is held, and
+/// who has only borrowed a place can't hold the lock. The thread that has it must not use another place of the same channel,
+/// which would wait for itself.
 #[derive(Drop)]
 pub struct HeldPlace<'c, B: Done + Drop, R: Wait> {
     rt: &'c R,
     lock: &'c ChannelLock<B>,
-    hold: Hold<'c, SharedTable<B>, R>,
-    account: Account<B>,
+    account: HeldAccount<'c, B, R>,
     hand: Hand,
     ghost here: { account.lock ≡ lock.now },
-    ghost held: { account.lock ≡ hold },
     ghost empty: { length hand.commands ≡ 0 },
 }
 
@@ -57,12 +55,10 @@ impl<'c, B: Done + Drop, R: Wait> HeldPlace<'c, B, R> {
             account,
             hand,
         } = place;
-        let hold = lock.hold(rt);
         HeldPlace {
             rt,
             lock,
-            hold,
-            account,
+            account: account.hold(rt, lock),
             hand,
         }
     }
@@ -74,15 +70,13 @@ impl<'c, B: Done + Drop, R: Wait> HeldPlace<'c, B, R> {
         let HeldPlace {
             rt,
             lock,
-            hold,
             account,
             hand,
         } = self;
-        drop(hold);
         Place {
             rt,
             lock,
-            account,
+            account: account.release(),
             hand,
         }
     }
@@ -96,32 +90,27 @@ impl<'c, B: Done + Drop, R: Wait> Desk for HeldPlace<'c, B, R> {
     ghost known = { λ held. desk_of held };
 
     fn accept(&mut self, spec: Spec, token: Callback<B>) -> Result<u64, Refused<Callback<B>>> {
-        turn_held(
-            &mut self.hold,
-            &mut self.account,
-            AcceptOp { by: 0, spec, token },
-        )
+        turn_held(&mut self.account, AcceptOp { by: 0, spec, token })
     }
 
     fn cancel(&mut self) -> u64 {
-        turn_held(&mut self.hold, &mut self.account, CancelOp { by: 0 })
+        turn_held(&mut self.account, CancelOp { by: 0 })
     }
 
     fn destroy(&mut self) -> bool {
-        turn_held(&mut self.hold, &mut self.account, DestroyOp { by: 0 })
+        turn_held(&mut self.account, DestroyOp { by: 0 })
     }
 
     fn take(&mut self) -> Option<Ticket<Callback<B>>> {
-        turn_held(&mut self.hold, &mut self.account, TakeOp)
+        turn_held(&mut self.account, TakeOp)
     }
 
     fn start(&mut self, word: u16, mix: u16, at: u64) -> Result<Begun, NoMemory> {
-        turn_held(&mut self.hold, &mut self.account, StartOp { word, mix, at })
+        turn_held(&mut self.account, StartOp { word, mix, at })
     }
 
     fn arrive(&mut self, server: u32, link: u64, bytes: &[u8]) -> Result<Landed, NoMemory> {
         turn_held(
-            &mut self.hold,
             &mut self.account,
             ArriveOp {
                 server,
@@ -132,34 +121,26 @@ impl<'c, B: Done + Drop, R: Wait> Desk for HeldPlace<'c, B, R> {
     }
 
     fn expire(&mut self, at: u64) -> Result<Lapse, NoMemory> {
-        turn_held(&mut self.hold, &mut self.account, ExpireOp { at })
+        turn_held(&mut self.account, ExpireOp { at })
     }
 
     fn fault(&mut self, server: u32, link: u64, at: u64) -> Result<u64, NoMemory> {
-        turn_held(
-            &mut self.hold,
-            &mut self.account,
-            FaultOp { server, link, at },
-        )
+        turn_held(&mut self.account, FaultOp { server, link, at })
     }
 
     fn next_due(&mut self) -> Option<u64> {
-        turn_held(&mut self.hold, &mut self.account, NextDueOp)
+        turn_held(&mut self.account, NextDueOp)
     }
 
     fn counts(&mut self) -> Counts {
-        turn_held(&mut self.hold, &mut self.account, CountsOp)
+        turn_held(&mut self.account, CountsOp)
     }
 
     fn link_busy(&mut self, server: u32, link: u64) -> bool {
-        turn_held(
-            &mut self.hold,
-            &mut self.account,
-            LinkBusyOp { server, link },
-        )
+        turn_held(&mut self.account, LinkBusyOp { server, link })
     }
 
     fn set_servers(&mut self, servers: &[ServerAddr]) -> Result<u64, SetFault> {
-        turn_held(&mut self.hold, &mut self.account, SetServersOp { servers })
+        turn_held(&mut self.account, SetServersOp { servers })
     }
 }

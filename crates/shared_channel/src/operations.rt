@@ -70,7 +70,7 @@ impl<B: Done + Drop> Op<SharedTable<B>> for DestroyOp {
 }
 
 /// Moves out the first ready request.
-#[derive(Drop)]
+#[derive(Clone, Copy)]
 pub(crate) struct TakeOp;
 
 impl<B: Done + Drop> Op<SharedTable<B>> for TakeOp {

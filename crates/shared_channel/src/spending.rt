@@ -2,7 +2,8 @@
 
 ghost use Rattle.std.specs.Prelude.{◌≡◌, ◌<◌, ◌^◌, ◌∷◌, ◌++◌, [], length};
 ghost use Rattle.chan_types.specs.Gives.{gives};
-ghost use Rattle.shared_channel.specs.Performing.{Performs, lost_by};
+ghost use Rattle.channel_table.specs.Commanded.{lost_by};
+ghost use Rattle.shared_channel.specs.Performing.{Performs};
 ghost use Rattle.shared_channel.specs.Spending.{DeliversOne, Spends};
 
 use crate::account::Account;

@@ -3,13 +3,14 @@
 ghost use Rattle.std.specs.Prelude.{◌≡◌};
 ghost use Rattle.shared_channel.specs.Turns.{IsPassTurn};
 
-use crate::account::Account;
+use crate::account::{Account, HeldAccount};
 use crate::state::{ChannelLock, SharedTable};
 use completion_ticket::Done;
-use seat_lock::{Hold, Op};
+use seat_lock::Op;
 use std::sync::Wait;
 
 /// Waits for the turn of the seat, and runs the operation once, alone.
+#[tactic(auto, using(crate::proofs::Telling::still_set))]
 pub(crate) fn turn<B: Done + Drop, R: Wait, O: Op<SharedTable<B>>>(
     rt: &R,
     lock: &ChannelLock<B>,
@@ -20,21 +21,17 @@ pub(crate) fn turn<B: Done + Drop, R: Wait, O: Op<SharedTable<B>>>(
     ensures lock { account.new.lock ≡ account.old.lock }
     ensures turn { IsPassTurn (O.means op) account.old result account.new }
 {
-    let mut hold = lock.hold(rt);
-    turn_held(&mut hold, account, op)
+    lock.turn(rt, &mut account.seat, op)
 }
 
-/// Runs the operation once, alone, as a turn of the seat under this hold of the lock.
+/// Runs the operation once, alone, as a turn of the seat that holds the lock.
 #[tactic(auto, using(crate::proofs::Telling::still_set))]
 pub(crate) fn turn_held<B: Done + Drop, R: Wait, O: Op<SharedTable<B>>>(
-    hold: &mut Hold<'_, SharedTable<B>, R>,
-    account: &mut Account<B>,
+    account: &mut HeldAccount<'_, B, R>,
     op: O,
 ) -> O::Reply
-    requires { account.old.lock ≡ hold.old }
-    ensures hold { hold.new ≡ hold.old }
     ensures lock { account.new.lock ≡ account.old.lock }
     ensures turn { IsPassTurn (O.means op) account.old result account.new }
 {
-    hold.turn(&mut account.seat, op)
+    account.hold.turn(op)
 }

@@ -4,11 +4,12 @@ ghost use Rattle.std.specs.Prelude.{◌≡◌};
 ghost use Rattle.shared_channel.specs.Staying.{StaysSettled};
 
 use super::telling::has_calls;
-use super::{last_pass, plain_channel};
 use chan_types::{Bytes, Family, NoMemory, Orders, Script, Spec};
 use channel_model::Desk;
 use completion_ticket::{Callback, Scripted};
-use shared_channel::{Channel, Finished, Pass, Place, deliver_one, finish};
+use shared_channel::{
+    Channel, Finished, Pass, Place, deliver_one, finish, last_pass, plain_channel,
+};
 use std::alloc::Global;
 use std::sync::Wait;
 use std::test::*;

@@ -3,12 +3,12 @@
 ghost use Rattle.std.specs.Prelude.{◌≡◌};
 ghost use Rattle.shared_channel.specs.Staying.{StaysSettled};
 
+use super::FOLLOW;
 use super::moves::{Move, played};
 use super::telling::has_called_each;
-use super::{FOLLOW, last_pass, plain_channel};
 use chan_types::NoMemory;
 use completion_ticket::Scripted;
-use shared_channel::{Channel, Finished, Pass, finish};
+use shared_channel::{Channel, Finished, Pass, finish, last_pass, plain_channel};
 use std::alloc::Global;
 use std::sync::Wait;
 use std::test::*;

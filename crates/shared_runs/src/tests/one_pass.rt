@@ -3,14 +3,14 @@
 ghost use Rattle.std.specs.Prelude.{◌≡◌, ◌<◌, ◌≤◌};
 ghost use Rattle.shared_channel.specs.Staying.{StaysSettled};
 
+use super::FOLLOW;
 use super::calls::asked_query;
 use super::replies::{ADDRESS_REPLY, replied_address};
 use super::telling::{has_calls, has_journal};
-use super::{FOLLOW, last_pass, plain_channel};
 use chan_types::NoMemory;
 use channel_model::Desk;
 use completion_ticket::Scripted;
-use shared_channel::{Channel, Finished, Pass, Place, finish, spend};
+use shared_channel::{Channel, Finished, Pass, Place, finish, last_pass, plain_channel, spend};
 use std::alloc::Global;
 use std::sync::Wait;
 use std::test::*;

@@ -3,13 +3,13 @@
 ghost use Rattle.std.specs.Prelude.{◌≡◌};
 ghost use Rattle.shared_channel.specs.Staying.{StaysSettled};
 
+use super::FOLLOW;
 use super::calls::asked;
 use super::moves::{Move, play};
 use super::telling::Played;
-use super::{FOLLOW, last_pass, plain_channel};
 use chan_types::{NoMemory, Script, Spec};
 use completion_ticket::Scripted;
-use shared_channel::{Channel, Pass, Place, finish};
+use shared_channel::{Channel, Pass, Place, finish, last_pass, plain_channel};
 use std::alloc::Global;
 use std::sync::Wait;
 
