@@ -175,6 +175,28 @@ exit_refused words status files files_old files_new sink_old sink_new net_old ne
   socket_fault = λ is. absurd (omega (arith, number_is Refused status 6 tells is (λ e. omega (arith, e)) (λ e. omega (arith, e))));
 }
 
+-- no end is that of an output that failed
+not_sink : (end : End) → number_of end ≡ status_sink_fault → ⊥
+not_sink Served is = omega (arith, is)
+not_sink Refused is = omega (arith, is)
+not_sink FileFault is = omega (arith, is)
+not_sink NoMemory is = omega (arith, is)
+not_sink SocketFault is = omega (arith, is)
+not_sink BadZone is = omega (arith, is)
+
+-- the status of its end has its cause in a run whose words were understood
+pub end_cause : (words : List (List ℕ)) (end : End) (files : Option (List ℕ → Option (List ℕ))) (files_old files_new sink_old sink_new net_old net_new : ℕ) (order : Order) →
+    ForWords words (λ other. other ≡ order) → HasCauseOf order end files files_old files_new net_old net_new →
+    HasExitCause words (number_of end) files files_old files_new sink_old sink_new net_old net_new
+end_cause words end files files_old files_new sink_old sink_new net_old net_new order only cause =
+    exit_cause words end (number_of end) files files_old files_new sink_old sink_new net_old net_new (inl refl) (λ is. absurd (not_sink end is)) order only cause
+
+-- status 2 has its cause in a run whose words were refused
+pub end_refused : (words : List (List ℕ)) (files : Option (List ℕ → Option (List ℕ))) (files_old files_new sink_old sink_new net_old net_new : ℕ) →
+    AreRefused words → HasExitCause words status_usage files files_old files_new sink_old sink_new net_old net_new
+end_refused words files files_old files_new sink_old sink_new net_old net_new refused =
+    exit_refused words status_usage files files_old files_new sink_old sink_new net_old net_new refused (inl refl) (λ is. absurd (not_sink Refused is))
+
 -- ---- calls
 
 -- an end behind a zone isn't one without

@@ -24,8 +24,8 @@ GrowsBy old new text = new ≡ option_map (λ bytes. bytes ++ text) old
 abbrev pub GrowsByPart : Option (List ℕ) → Option (List ℕ) → List ℕ → Type 0
 GrowsByPart old new text = (part : List ℕ) × IsPrefix part text × GrowsBy old new part
 
--- what a run put: the text of its exit status; where the output failed, a part of one such text; where memory was wanting, nothing
-pub record IsOutputOf (status : ℕ) (old new : Option (List ℕ)) : Type 0 where
+-- what a run put: the text of its exit status; where the output failed, a part of the text of one that the run had a cause for; where memory was wanting, nothing
+pub record IsOutputOf (HasCause : ℕ → Type 0) (status : ℕ) (old new : Option (List ℕ)) : Type 0 where
   pub whole : status ≢ status_sink_fault → status ≢ status_out_of_memory → GrowsBy old new (text_for status)
-  pub part : (told : ℕ) × GrowsByPart old new (text_for told)
+  pub part : (told : ℕ) × HasCause told × GrowsByPart old new (text_for told)
   pub memory : status ≡ status_out_of_memory → new ≡ old

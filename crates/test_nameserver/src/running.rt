@@ -38,7 +38,10 @@ pub fn run<F: Files, K: Sink, L: Listener>(
     ensures status { HasExitCause (map (λ word. word.now) words.now) result (F.files files.old)
         (F.faults files.old) (F.faults files.new) (K.faults sink.old) (K.faults sink.new)
         (L.faults listener.old) (L.faults listener.new) }
-    ensures output { IsOutputOf result (K.bytes sink.old) (K.bytes sink.new) }
+    ensures output { IsOutputOf (λ told. HasExitCause (map (λ word. word.now) words.now) told
+        (F.files files.old) (F.faults files.old) (F.faults files.new) (K.faults sink.old)
+        (K.faults sink.new) (L.faults listener.old) (L.faults listener.new)) result (K.bytes sink.old)
+        (K.bytes sink.new) }
     ensures files { F.files files.new ≡ F.files files.old }
 
     // Where the listener tells its log, this run listened, took messages and answered them, and nothing else.

@@ -1,13 +1,21 @@
 use Rattle.std.proofs.Common.{rules}
+use Rattle.test_nameserver.specs.Ending.{number_of}
 use Rattle.test_nameserver.specs.Order.{order_seen}
 use Rattle.test_nameserver.specs.Service.{GoesOnWith, IsServiceOf}
-use Rattle.test_nameserver.proofs.EndLemmas.{exit_cause, exit_refused, for_none, only_order, none_ordered, service_said}
+use Rattle.test_nameserver.proofs.EndLemmas.{end_cause, end_refused, exit_cause, exit_refused, for_none, only_order, none_ordered, service_said}
 use Rattle.test_nameserver.proofs.running.run.Goals as goal
 
 pub returns-in-Some-clause-status : goal.returns-in-Some-clause-status
 returns-in-Some-clause-status g c =
     exit_cause _ c.carry_out.result c.tell.result (g.F.Files.files c.args.files.now) _ _ _ _ _ _ c.tell.ensures.known c.tell.ensures.sink_fault
     (order_seen c.in-Some.order) (only_order _ c.in-Some.order c.in-Some.ensures.only) c.carry_out.ensures.cause
+
+pub returns-in-Some-clause-output : goal.returns-in-Some-clause-output
+returns-in-Some-clause-output g c = record {
+  whole = λ sink memory. search rules;
+  part = (number_of c.carry_out.result, end_cause _ c.carry_out.result (g.F.Files.files c.args.files.now) _ _ _ _ _ _ (order_seen c.in-Some.order) (only_order _ c.in-Some.order c.in-Some.ensures.only) c.carry_out.ensures.cause, c.tell.ensures.part);
+  memory = c.tell.ensures.memory;
+}
 
 pub returns-in-Some-clause-service : goal.returns-in-Some-clause-service
 returns-in-Some-clause-service g c =
@@ -22,7 +30,7 @@ returns-in-None-clause-status g c =
 pub returns-in-None-clause-output : goal.returns-in-None-clause-output
 returns-in-None-clause-output g c = record {
   whole = λ sink memory. search rules;
-  part = (2, c.tell-in-None.ensures.part);
+  part = (2, end_refused _ (g.F.Files.files c.args.files.now) _ _ _ _ _ _ (none_ordered _ c.in-None.ensures.only), c.tell-in-None.ensures.part);
   memory = c.tell-in-None.ensures.memory;
 }
 
