@@ -12,12 +12,12 @@ use std::test::Fail;
 use test_nameserver::{Heard, Listener, run};
 
 /// A query for the address of a.test. (RFC 1035, section 4.1).
-const QUERY: &[u8; 24] = b"\x12\x34\x01\0\0\x01\0\0\0\0\0\0\x01a\x04test\0\0\x01\0\x01";
+const QUERY: &[u8] = b"\x12\x34\x01\0\0\x01\0\0\0\0\0\0\x01a\x04test\0\0\x01\0\x01";
 
 /// The query behind its length, and the reply (RFC 1035, section 4.2.2).
-const QUERY_FRAME: &[u8; 26] = b"\0\x18\x12\x34\x01\0\0\x01\0\0\0\0\0\0\x01a\x04test\0\0\x01\0\x01";
+const QUERY_FRAME: &[u8] = b"\0\x18\x12\x34\x01\0\0\x01\0\0\0\0\0\0\x01a\x04test\0\0\x01\0\x01";
 
-const REPLY: &[u8; 46] =
+const REPLY: &[u8] =
     b"\x12\x34\x85\x80\0\x01\0\x01\0\0\0\0\x01a\x04test\0\0\x01\0\x01\x01a\x04test\0\0\x01\0\x01\0\0\0\x3c\0\x04\xc0\0\x02\x01";
 
 /// A port that was free just now.
@@ -37,15 +37,20 @@ fn knows<W: World>(world: &mut W, port: u16) -> Result<(), NoMemory> {
     )
 }
 
+/// Waits for some moments.
+fn pause<W: World>(world: &mut W) -> Result<(), NoMemory> {
+    let now = world.now()?;
+    world.wait(now.saturating_add(100))?;
+    Ok(())
+}
+
 /// What comes next, within some seconds.
 fn next_got<W: World>(world: &mut W) -> Result<Got, NoMemory> {
     for _ in 0..100 {
-        let got = world.receive()?;
-        if got != Got::Nothing {
-            return Ok(got);
+        match world.receive()? {
+            Got::Nothing => pause(world)?,
+            got => return Ok(got),
         }
-        let now = world.now()?;
-        world.wait(now.saturating_add(100))?;
     }
     Ok(Got::Nothing)
 }
@@ -91,29 +96,48 @@ fn zone_file(alloc: Global) -> Result<MemFiles, Fail> {
     Ok(MemFiles::make(files, Vec::new(alloc)))
 }
 
-/// A run on this port behind one message.
+/// The exit status of a run on this port behind one message.
+fn status_of<L: Listener>(alloc: Global, port: &str, files: &mut MemFiles, listener: &mut L) -> u8 {
+    let words = ["--port", port, "--zone", "z", "--count", "1"];
+    let mut sink = MemSink::make(Vec::new(alloc));
+    run(alloc, words.as_slice(), files, &mut sink, listener)
+}
+
+/// The same over that zone.
 fn ran<L: Listener>(alloc: Global, port: u16, listener: &mut L) -> Result<u8, Fail> {
     let port = format!(in alloc; "{port}")?;
-    let words = ["--port", port.as_str(), "--zone", "z", "--count", "1"];
-    let mut sink = MemSink::make(Vec::new(alloc));
-    Ok(run(
-        alloc,
-        words.as_slice(),
-        &mut zone_file(alloc)?,
-        &mut sink,
-        listener,
-    ))
+    let mut files = zone_file(alloc)?;
+    Ok(status_of(alloc, port.as_str(), &mut files, listener))
+}
+
+/// Whether the reply comes.
+fn gets_reply<W: World>(client: &mut W) -> Result<bool, NoMemory> {
+    Ok(match next_got(client)? {
+        Got::Datagram(0, bytes) => bytes.as_slice() == REPLY,
+        _ => false,
+    })
+}
+
+/// Whether a run ends well, and its client has the reply.
+fn answers<L: Listener + Drop, W: World + Drop>(
+    alloc: Global,
+    port: u16,
+    listener: &mut Asked<L, W>,
+) -> Result<bool, Fail> {
+    Ok(ran(alloc, port, listener)? == 0 && gets_reply(&mut listener.client)?)
+}
+
+/// Whether it is so over loopback.
+fn answers_over_loopback(rt: HostRuntime) -> Result<bool, Fail> {
+    let port = free_port(&rt)?;
+    let client = SockWorld::make(rt)?;
+    let inner = RealListener::make(rt);
+    answers(rt.alloc(), port, &mut Asked { inner, client })
 }
 
 #[test]
 fn a_run_answers_over_udp(rt: HostRuntime) -> Result<(), Fail> {
-    let alloc = rt.alloc();
-    let mut listener = Asked {
-        inner: RealListener::make(rt),
-        client: SockWorld::make(rt)?,
-    };
-    assert_eq!(rt; ran(alloc, free_port(&rt)?, &mut listener)?, 0);
-    assert!(rt; next_got(&mut listener.client)? == Got::Datagram(0, Bytes::of(alloc, REPLY)?));
+    assert!(rt; answers_over_loopback(rt)?);
     Ok(())
 }
 
@@ -128,25 +152,37 @@ fn write_all<W: World>(client: &mut W, bytes: &[u8]) -> Result<bool, NoMemory> {
         if rest.is_empty() {
             return Ok(true);
         }
-        let now = client.now()?;
-        client.wait(now.saturating_add(100))?;
+        pause(client)?;
     }
     Ok(false)
 }
 
-/// What comes over connection 7, up to so many bytes.
-fn read_all<W: World>(client: &mut W, alloc: Global, len: usize) -> Result<Vec<u8>, Fail> {
-    let mut bytes = Vec::new(alloc);
-    for _ in 0..len {
-        match next_got(client)? {
-            Got::Piece(7, piece) => bytes.extend_from_slice(piece.as_slice())?,
-            _ => return Ok(bytes),
+/// Reads what comes next over connection 7. It is true where something comes.
+fn read_piece<W: World>(client: &mut W, bytes: &mut Vec<u8>) -> Result<bool, Fail> {
+    Ok(match next_got(client)? {
+        Got::Piece(7, piece) => {
+            bytes.extend_from_slice(piece.as_slice())?;
+            true
         }
-        if bytes.len() >= len {
-            return Ok(bytes);
+        _ => false,
+    })
+}
+
+/// Reads what comes over connection 7, until there are so many bytes.
+fn read_all<W: World>(client: &mut W, bytes: &mut Vec<u8>, len: usize) -> Result<(), Fail> {
+    for _ in 0..len {
+        if bytes.len() >= len || !read_piece(client, bytes)? {
+            return Ok(());
         }
     }
-    Ok(bytes)
+    Ok(())
+}
+
+/// Whether these bytes come over connection 7.
+fn reads<W: World>(alloc: Global, client: &mut W, expected: &[u8]) -> Result<bool, Fail> {
+    let mut bytes = Vec::new(alloc);
+    read_all(client, &mut bytes, expected.len())?;
+    Ok(bytes.as_slice() == expected)
 }
 
 /// Connects to this port, and asks twice.
@@ -156,27 +192,46 @@ fn ask_twice<W: World>(client: &mut W, port: u16) -> Result<bool, NoMemory> {
     Ok(write_all(client, QUERY_FRAME)? && write_all(client, QUERY_FRAME)?)
 }
 
+/// Whether the query is heard next over TCP.
+fn hears_query<L: Listener>(listener: &mut L) -> Result<bool, NoMemory> {
+    Ok(match listener.next()? {
+        Heard::Message { tcp: true, bytes } => bytes.as_slice() == QUERY,
+        _ => false,
+    })
+}
+
 /// Whether the query is heard next over TCP, and a reply is sent.
-fn is_answered<L: Listener>(alloc: Global, listener: &mut L, reply: &[u8]) -> Result<bool, Fail> {
-    let query = Heard::Message {
-        tcp: true,
-        bytes: Bytes::of(alloc, QUERY)?,
-    };
-    Ok(listener.next()? == query && listener.reply(reply)? == Sent::Sent)
+fn is_answered<L: Listener>(listener: &mut L, reply: &[u8]) -> Result<bool, NoMemory> {
+    Ok(hears_query(listener)? && listener.reply(reply)? == Sent::Sent)
+}
+
+/// Whether two queries over one connection have replies.
+fn carries<L: Listener, W: World>(
+    alloc: Global,
+    port: u16,
+    listener: &mut L,
+    client: &mut W,
+) -> Result<bool, Fail> {
+    Ok(
+        listener.listen(port)? == Sent::Sent
+            && ask_twice(client, port)?
+            && is_answered(listener, b"one")?
+            && is_answered(listener, b"two")?
+            && reads(alloc, client, b"\0\x03one\0\x03two")?,
+    )
+}
+
+/// Whether it is so over loopback.
+fn carries_over_loopback(rt: HostRuntime) -> Result<bool, Fail> {
+    let port = free_port(&rt)?;
+    let mut client = SockWorld::make(rt)?;
+    carries(rt.alloc(), port, &mut RealListener::make(rt), &mut client)
 }
 
 // Two queries over one connection, each with a reply of its own.
 #[test]
 fn a_connection_carries_messages(rt: HostRuntime) -> Result<(), Fail> {
-    let alloc = rt.alloc();
-    let port = free_port(&rt)?;
-    let mut listener = RealListener::make(rt);
-    assert_eq!(rt; Listener::listen(&mut listener, port)?, Sent::Sent);
-    let mut client = SockWorld::make(rt)?;
-    assert!(rt; ask_twice(&mut client, port)?);
-    assert!(rt; is_answered(alloc, &mut listener, b"one")?);
-    assert!(rt; is_answered(alloc, &mut listener, b"two")?);
-    assert!(rt; read_all(&mut client, alloc, 10)?.as_slice() == b"\0\x03one\0\x03two".as_slice());
+    assert!(rt; carries_over_loopback(rt)?);
     Ok(())
 }
 
@@ -189,13 +244,25 @@ fn fails<L: Listener>(listener: &mut L, port: u16) -> Result<bool, NoMemory> {
     )
 }
 
+/// Whether a port is the first listener's alone, which has nobody to reply to.
+fn is_first<L: Listener>(first: &mut L, second: &mut L, port: u16) -> Result<bool, NoMemory> {
+    Ok(
+        first.listen(port)? == Sent::Sent
+            && first.reply(b"a")? == Sent::Failed
+            && fails(second, port)?,
+    )
+}
+
+/// Whether it is so over loopback.
+fn is_first_over_loopback(rt: HostRuntime) -> Result<bool, Fail> {
+    let port = free_port(&rt)?;
+    let mut first = RealListener::make(rt);
+    Ok(is_first(&mut first, &mut RealListener::make(rt), port)?)
+}
+
 // A listener that doesn't listen hears and sends nothing, and one port has one listener.
 #[test]
 fn a_port_has_one_listener(rt: HostRuntime) -> Result<(), Fail> {
-    let port = free_port(&rt)?;
-    let mut first = RealListener::make(rt);
-    assert_eq!(rt; Listener::listen(&mut first, port)?, Sent::Sent);
-    assert_eq!(rt; Listener::reply(&mut first, b"a")?, Sent::Failed);
-    assert!(rt; fails(&mut RealListener::make(rt), port)?);
+    assert!(rt; is_first_over_loopback(rt)?);
     Ok(())
 }

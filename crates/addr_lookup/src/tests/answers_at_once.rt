@@ -14,8 +14,11 @@ const BOX: Addr = Addr::V4(0x7f00_0101);
 
 const OTHER: Addr = Addr::V4(0xc000_0207);
 
-/// Hosts, and the answer for their addresses: each rule in turn, and no answer where the names are to be asked.
-const ROWS: [(&str, Family, bool, Lookups, Option<Expected>); 15] = [
+/// A host, which addresses are asked, whether they stay as they stand, where they are looked up, and the answer.
+type Row = (&'static str, Family, bool, Lookups, Option<Expected>);
+
+/// Each rule in turn, and no answer where the names are to be asked.
+const ROWS: &[Row] = &[
     (
         "192.0.2.7",
         Family::Any,
@@ -112,11 +115,16 @@ fn options_with(alloc: Global, lookups: Lookups) -> Result<Options, NoMemory> {
     Ok(options)
 }
 
+/// The answer at once of a request under these options.
+fn answer_under(alloc: Global, spec: &Spec, options: &Options) -> Result<Option<Answer>, Fail> {
+    let hosts = Hosts::read(alloc, HOSTS)?;
+    Ok(at_once(alloc, spec, 7, options, &hosts)?)
+}
+
 /// The answer at once of a request.
 fn answer_to(alloc: Global, spec: &Spec, lookups: Lookups) -> Result<Option<Answer>, Fail> {
-    let hosts = Hosts::read(alloc, HOSTS)?;
     let options = options_with(alloc, lookups)?;
-    Ok(at_once(alloc, spec, 7, &options, &hosts)?)
+    answer_under(alloc, spec, &options)
 }
 
 fn address_of(alloc: Global, host: &str, family: Family, nosort: bool) -> Result<Spec, NoMemory> {
@@ -128,17 +136,41 @@ fn address_of(alloc: Global, host: &str, family: Family, nosort: bool) -> Result
     })
 }
 
+/// Whether it is the expected answer, or there is none where none is expected.
+fn is_answer(
+    alloc: Global,
+    answer: &Option<Answer>,
+    expected: &Option<Expected>,
+) -> Result<bool, NoMemory> {
+    match (answer, expected) {
+        (Some(answer), Some(expected)) => is_expected(alloc, answer, expected),
+        (None, None) => Ok(true),
+        _ => Ok(false),
+    }
+}
+
+/// Whether a request is answered so.
+fn answers_so(
+    alloc: Global,
+    spec: &Spec,
+    lookups: Lookups,
+    expected: &Option<Expected>,
+) -> Result<bool, Fail> {
+    let answer = answer_to(alloc, spec, lookups)?;
+    Ok(is_answer(alloc, &answer, expected)?)
+}
+
+/// Whether the request of a row is.
+fn is_answered(alloc: Global, row: &Row) -> Result<bool, Fail> {
+    let (host, family, nosort, lookups, expected) = *row;
+    let spec = address_of(alloc, host, family, nosort)?;
+    answers_so(alloc, &spec, lookups, &expected)
+}
+
 #[test]
 fn hosts_are_answered_at_once(rt: HostRuntime) -> Result<(), Fail> {
-    let alloc = rt.alloc();
-    for (host, family, nosort, lookups, expected) in ROWS {
-        let spec = address_of(alloc, host, family, nosort)?;
-        let answer = answer_to(alloc, &spec, lookups)?;
-        match (answer, expected) {
-            (Some(answer), Some(expected)) => expect_answer(&rt, alloc, &answer, expected)?,
-            (None, None) => {}
-            _ => assert!(rt; false, "an answer at once, or none"),
-        }
+    for row in ROWS {
+        assert!(rt; is_answered(rt.alloc(), row)?, "{}", row.0);
     }
     Ok(())
 }
@@ -151,29 +183,36 @@ fn code_of(alloc: Global, spec: &Spec) -> Result<u8, Fail> {
     })
 }
 
+/// The code where a query asks a text.
+fn code_of_query(alloc: Global, text: &str) -> Result<u8, Fail> {
+    let spec = Spec::Query {
+        name: Bytes::of(alloc, text.as_bytes())?,
+        kind: 1,
+        class: 1,
+    };
+    code_of(alloc, &spec)
+}
+
+/// The code where a search asks a text.
+fn code_of_search(alloc: Global, text: &str) -> Result<u8, Fail> {
+    let spec = Spec::Search {
+        name: Bytes::of(alloc, text.as_bytes())?,
+        kind: 1,
+        class: 1,
+    };
+    code_of(alloc, &spec)
+}
+
 /// Texts, and the code of the answer at once where a query or a search asks them.
-const NAMES: [(&str, u8); 3] = [("a..b", 8), ("x.onion", 4), ("localhost", 255)];
+const NAMES: &[(&str, u8)] = &[("a..b", 8), ("x.onion", 4), ("localhost", 255)];
 
 // A query and a search are answered at once for a text that is no name and for a hidden service's name alone.
 #[test]
 fn names_are_asked(rt: HostRuntime) -> Result<(), Fail> {
-    let alloc = rt.alloc();
     for (text, code) in NAMES {
-        let name = Bytes::of(alloc, text.as_bytes())?;
-        let query = Spec::Query {
-            name,
-            kind: 1,
-            class: 1,
-        };
-        assert_eq!(rt; code_of(alloc, &query)?, code);
-        let name = Bytes::of(alloc, text.as_bytes())?;
-        let search = Spec::Search {
-            name,
-            kind: 1,
-            class: 1,
-        };
-        assert_eq!(rt; code_of(alloc, &search)?, code);
+        assert!(rt; code_of_query(rt.alloc(), text)? == *code);
+        assert!(rt; code_of_search(rt.alloc(), text)? == *code);
     }
-    assert_eq!(rt; code_of(alloc, &Spec::Reverse { address: LOCAL_V4 })?, 255);
+    assert!(rt; code_of(rt.alloc(), &Spec::Reverse { address: LOCAL_V4 })? == 255);
     Ok(())
 }
