@@ -52,13 +52,19 @@ pub(crate) fn wrote_of(moved: Moved) -> Wrote
     }
 }
 
+/// How long a wait lasts at most while a socket rests, in milliseconds: what came to it beside the replies is found then.
+const REST_MILLIS: u64 = 10;
+
 /// How many milliseconds a wait may last.
-pub(crate) fn patience(is_pending: bool, now: u64, until: u64) -> u64
-    ensures { result ≡ patience_of is_pending now until }
+pub(crate) fn patience(is_pending: bool, is_resting: bool, now: u64, until: u64) -> u64
+    ensures { result ≡ patience_of is_pending is_resting now until }
 {
+    let left = until.saturating_sub(now);
     if is_pending {
         0
+    } else if is_resting {
+        left.min(REST_MILLIS)
     } else {
-        until.saturating_sub(now)
+        left
     }
 }

@@ -173,12 +173,14 @@ impl Network {
         if !self.inbox.is_empty() {
             return Waited::Woken;
         }
-        let time = Duration::from_millis(patience(self.is_pending(), now, until));
+        let time = patience(self.is_pending(), self.is_resting(), now, until);
+        let time = Duration::from_millis(time);
         if self.poll.poll(&mut self.events, Some(time)).is_err() {
             return Waited::Failed;
         }
         self.note_events();
         for served in self.servers.iter_mut() {
+            served.end_rest();
             served.close_older(now);
         }
         Waited::Woken
@@ -188,6 +190,11 @@ impl Network {
     fn is_pending(&self) -> bool {
         self.servers.iter().any(|served| served.is_pending())
             || self.links.iter().any(|link| link.is_pending())
+    }
+
+    /// Whether a socket is left alone until a wait is over.
+    fn is_resting(&self) -> bool {
+        self.servers.iter().any(|served| served.is_resting())
     }
 
     /// Marks the sockets that the poll told.

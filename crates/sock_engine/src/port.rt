@@ -30,6 +30,8 @@ pub(crate) struct Port {
     token: usize,
     /// It may have something to receive. Only a receive that finds nothing clears it, since the poll tells a change once.
     ready: bool,
+    /// It has brought a reply for each query, as far as their numbers tell, and is left alone until a wait is over.
+    rests: bool,
     /// The system told a refusal that was not added to the inbox yet.
     refused: bool,
     asked: u64,
@@ -53,6 +55,7 @@ impl Port {
             socket,
             token,
             ready: false,
+            rests: false,
             refused: false,
             asked: 0,
             answered: 0,
@@ -78,8 +81,24 @@ impl Port {
     }
 
     /// Whether there may be something to receive.
-    pub(crate) fn is_pending(&self) -> bool {
+    pub(crate) fn may_bring(&self) -> bool {
         self.ready || self.refused
+    }
+
+    /// Whether that is looked for before a wait.
+    pub(crate) fn is_pending(&self) -> bool {
+        self.may_bring() && !self.is_resting()
+    }
+
+    /// Whether it is left alone until a wait is over. A receive that finds nothing costs as much as one that brings a reply,
+    /// and where each query has its reply there is mostly nothing more.
+    pub(crate) fn is_resting(&self) -> bool {
+        self.rests && !self.refused
+    }
+
+    /// A wait is over: what came beside the replies is looked for now.
+    pub(crate) fn end_rest(&mut self) {
+        self.rests = false;
     }
 
     /// Whether each datagram that was sent has its reply, as far as their numbers tell.
@@ -90,13 +109,14 @@ impl Port {
     /// Notes that something may have come, where the poll told this token.
     pub(crate) fn wake(&mut self, token: usize) {
         if self.token == token {
-            self.ready = true;
+            self.suspect();
         }
     }
 
     /// Notes that something may have come.
     pub(crate) fn suspect(&mut self) {
         self.ready = true;
+        self.rests = false;
     }
 
     /// Moves what has come into the inbox, and behind it a refusal.
@@ -117,7 +137,7 @@ impl Port {
         ensures { BringsOnly (IsOfServer server) inbox.old inbox.new }
     {
         for _ in 0..LOOK_MOST {
-            if !self.ready || inbox.is_full() {
+            if !self.ready || self.rests || inbox.is_full() {
                 break;
             }
             self.look_once(server, inbox)?;
@@ -131,7 +151,8 @@ impl Port {
     {
         let look = inbox.look_at_server(server, &self.socket)?;
         if look == Found::Came {
-            self.answered = self.answered.saturating_add(1);
+            self.answered = self.answered.saturating_add(1).min(self.asked);
+            self.rests = self.is_answered();
         }
         self.refused |= look == Found::Failed;
         self.ready = may_have_more(look);

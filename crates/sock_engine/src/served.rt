@@ -106,7 +106,7 @@ impl Served {
     /// Closes the older sockets that have nothing more to bring: all is answered, or their time is over.
     pub(crate) fn close_older(&mut self, now: u64) {
         self.older.retain(|older| {
-            older.port.is_pending() || !older.port.is_answered() && now < older.until
+            older.port.may_bring() || !older.port.is_answered() && now < older.until
         });
     }
 
@@ -114,6 +114,22 @@ impl Served {
     pub(crate) fn is_pending(&self) -> bool {
         self.port.as_ref().is_some_and(|port| port.is_pending())
             || self.older.iter().any(|older| older.port.is_pending())
+    }
+
+    /// Whether a socket is left alone until a wait is over.
+    pub(crate) fn is_resting(&self) -> bool {
+        self.port.as_ref().is_some_and(|port| port.is_resting())
+            || self.older.iter().any(|older| older.port.is_resting())
+    }
+
+    /// A wait is over: sockets rest no longer.
+    pub(crate) fn end_rest(&mut self) {
+        if let Some(port) = &mut self.port {
+            port.end_rest();
+        }
+        for older in self.older.iter_mut() {
+            older.port.end_rest();
+        }
     }
 
     /// Notes that something may have come, where the poll told this token.

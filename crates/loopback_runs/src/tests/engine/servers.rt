@@ -67,6 +67,47 @@ fn an_echo_answers(rt: HostRuntime) -> Result<(), Fail> {
     Ok(())
 }
 
+/// Sends a datagram back twice, and answers how often that could be done.
+fn echo_twice(far: &UdpSocket) -> usize {
+    let mut buffer = [0u8; 64];
+    let Ok((len, from)) = far.recv_from(&mut buffer) else {
+        return 0;
+    };
+    let mut sent = 0usize;
+    for _ in 0..2 {
+        if far.send_to(&buffer[..len], from).is_ok() {
+            sent = sent.saturating_add(1);
+        }
+    }
+    sent
+}
+
+/// Whether the next thing is this datagram of the server.
+fn is_next<W: World>(
+    alloc: Global,
+    world: &mut W,
+    server: u32,
+    bytes: &[u8],
+) -> Result<bool, NoMemory> {
+    Ok(next(world)? == Got::Datagram(server, Bytes::of(alloc, bytes)?))
+}
+
+/// A socket whose queries have all got their replies is left alone until a wait is over: what else has come isn't lost.
+#[test]
+fn a_reply_that_comes_twice_is_received_twice(rt: HostRuntime) -> Result<(), Fail> {
+    let far = far_socket(&rt, any_local())?;
+    let port = far.local_addr()?.port();
+    let child = thread::spawn(&rt, move || echo_twice(&far))?;
+    let mut world = SockWorld::make(rt)?;
+    world.serve(7, &local(port))?;
+    assert!(rt; is_sent(&mut world, 7, b"name")?);
+    assert!(rt; is_next(rt.alloc(), &mut world, 7, b"name")?);
+    assert_eq!(rt; child.join(&rt), 2);
+    assert!(rt; is_next(rt.alloc(), &mut world, 7, b"name")?);
+    assert!(rt; world.receive()? == Got::Nothing);
+    Ok(())
+}
+
 /// Whether a query could be sent.
 fn is_sent<W: World>(world: &mut W, server: u32, query: &[u8]) -> Result<bool, NoMemory> {
     Ok(world.send(server, query)? == Sent::Sent)
