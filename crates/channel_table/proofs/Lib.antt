@@ -46,4 +46,6 @@ mod LinkedLemmas
 mod StrayLemmas
 mod MarkLemmas
 mod FailSteps
+mod FailedRows
+mod KeptTable
 mod LeaveLemmas

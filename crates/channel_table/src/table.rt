@@ -38,9 +38,8 @@ pub struct Table<T: Token> {
     alloc: Global,
     options: Options,
     hosts: Hosts,
-    // Requests are dropped before the journal: their blocks lie between its own, and freed last they would join all of
-    // these together.
-    /// The pending requests, by number.
+    /// The pending requests, by number. They are dropped before the journal: their blocks lie between its own, and
+    /// freed last they would join all of these together.
     rows: Rows<T>,
     /// The completed requests that weren't taken, in the order of their completion.
     ready: VecDeque<Ticket<T>>,

@@ -15,8 +15,8 @@ pub struct LinkUse {
 }
 
 /// The links over which legs are in flight, with how many those are. They are few: for each server its socket for UDP
-/// and mostly one connection. An item whose legs have ended stays until another link takes it. Contracts see the counts
-/// alone.
+/// and mostly one connection. An item whose legs have ended stays until another link takes it. Contracts see the items,
+/// of which clauses read how many legs are in flight on a server over a link.
 #[derive(Drop)]
 pub struct Links {
     uses: Vec<LinkUse>,
@@ -116,8 +116,8 @@ impl Links {
         }
     }
 
-    // Apart, so that `begin` is short where the link has its item.
-    /// The index of a new item for this link: one that counts no leg any longer, or one behind the others.
+    /// The index of a new item for this link: one that counts no leg any longer, or one behind the others. It is apart,
+    /// so that `begin` is short where the link has its item.
     #[inline(never)]
     fn make_item(&mut self, server: u32, link: u64) -> Result<usize, AllocError>
         ensures at { IfOk result (IsOfLink server link self.new) }

@@ -90,8 +90,7 @@ impl Waiting {
     }
 }
 
-// The tree's calls are functions of their own, so that a call on a row is short.
-// Puts the leg into the tree.
+// Puts the leg into the tree. The tree's calls are functions of their own, so that a call on a row is short.
 #[inline(never)]
 fn put_apart(rest: &mut BTreeSet<Key>, leg: Key) -> Result<(), AllocError>
     ensures ok { OnOk result (tree.Updates key_cmp rest.old rest.new leg true) }

@@ -9,33 +9,30 @@ ghost use Rattle.query_machine.specs.Legs.{attempt_from};
 ghost use Rattle.channel_table.specs.Apart.{IsApart};
 ghost use Rattle.channel_table.specs.Arriving.{Finds};
 ghost use Rattle.channel_table.specs.Ends.{EndsRow};
-ghost use Rattle.channel_table.specs.Failing.{FailsOver, IsUnanswered};
 ghost use Rattle.channel_table.specs.Linked.{HasOneLink};
 ghost use Rattle.channel_table.specs.Listed.{key_of};
-ghost use Rattle.channel_table.specs.Listing.{left_in, row_set};
-ghost use Rattle.channel_table.specs.Rows.{ended_with, flying_in, number_of, sides, over_in, row_over, waiting_in};
+ghost use Rattle.channel_table.specs.Rows.{ended_with, flying_in, number_of, sides, row_over, waiting_in};
 ghost use Rattle.channel_table.specs.Sides.{is_flying};
 ghost use Rattle.channel_table.specs.Soonest.{IsSoonest, dues};
 ghost use Rattle.channel_table.specs.Starting.{BeginsRow, FindsIdle, IsFree, WaitsAt, row_has_id, row_links};
 ghost use Rattle.channel_table.specs.Strays.{IsNumbered, IsOnlyWith, id_of};
 
+mod failing;
+mod listing;
+
 use super::counting::Tally;
 use super::ending::complete_all;
-use super::failing::{answers_over, fail_all};
 use super::finding::{find_row, first_idle, key_of, leave_waiting, list_all, list_staying};
-use super::flown::{Flown, forget_all, forget_left, forget_over, key_of_side};
+use super::flown::{Flown, forget_all, key_of_side};
 use super::found::end_found;
 use super::landing::{Landing, id_of, row_landing};
-use super::leaving::{count_left, ids_left, list_number, set_found};
-use super::linked::{add_attempt, end_left, end_over};
-use super::listing::set_rows;
-use super::marking::{are_few, fail_marked, indexes_over, marks_at};
+use super::linked::add_attempt;
 use super::seeking::{Soonest, find_soonest, side_due};
 use super::starting::{Idle, begin, find_idle};
 use crate::held::{Held, row_at};
 use crate::row::Row;
 use crate::side::Hits;
-use chan_types::{Answer, Bytes, NoMemory, ServerKey, Status, Ticket, Token};
+use chan_types::{Answer, Bytes, NoMemory, Status, Ticket, Token};
 use channel_model::Judged;
 use leg_index::{Links, Waiting};
 use resolv_options::{Flags, Options};
@@ -296,13 +293,6 @@ impl<T: Token> Rows<T> {
         self.tally.flying
     }
 
-    /// How many attempts are in flight on servers that aren't in this list.
-    pub fn count_left(&self, list: &[ServerKey]) -> u64
-        ensures { result ≡ sum_by (left_in list.now) self.now }
-    {
-        count_left(self.links.uses(), list)
-    }
-
     /// Ends the attempts of the row at this index that an entry concerns, which meant this and came with this reply or
     /// none, where a leg may spend so many attempts, and this is then the answer of its current candidate, if it has
     /// one.
@@ -344,229 +334,6 @@ impl<T: Token> Rows<T> {
             answer,
         );
         Ok(())
-    }
-
-    /// Fails the attempts that went to this server over this link, where a leg may spend so many attempts, and answers
-    /// how many there were: the rows that go on are kept in order, and the others get ready.
-    pub fn fail_all(
-        &mut self,
-        alloc: Global,
-        options: &Options,
-        ready: &mut VecDeque<Ticket<T>>,
-        server: u32,
-        link: u64,
-        most: u32,
-    ) -> Result<u64, NoMemory>
-        requires unanswered { AllByRecursion (IsUnanswered options.now) self.old }
-        requires room { length self.old + deque_len ready.old ≤ deque_capacity ready.old }
-        ensures fails { OnOk result (FailsOver options.now server link most self.old ready.old.items
-            self.new ready.new.items) }
-        ensures count { IfOk result (λ count. count ≡ sum_by (over_in server link) self.old) }
-        ensures err { OnErr result ((self.new ≡ self.old) × (ready.new ≡ ready.old)) }
-        ensures fewer { length self.new ≤ length self.old }
-        ensures len { length self.new + deque_len ready.new ≡ length self.old + deque_len ready.old }
-        ensures capacity { deque_capacity ready.new ≡ deque_capacity ready.old }
-    {
-        let count = self.links.count(server, link);
-        if count == 0 {
-            return Ok(0);
-        }
-        if self.fail_few(alloc, options, ready, server, link, most, count)? {
-            return Ok(count);
-        }
-        self.fail_each(alloc, options, ready, server, link, most)?;
-        Ok(count)
-    }
-
-    /// The same where so many such attempts are few, and the rows that have them are found without a look at others.
-    /// Answers whether that was so: else nothing changed.
-    fn fail_few(
-        &mut self,
-        alloc: Global,
-        options: &Options,
-        ready: &mut VecDeque<Ticket<T>>,
-        server: u32,
-        link: u64,
-        most: u32,
-        count: u64,
-    ) -> Result<bool, NoMemory>
-        requires unanswered { AllByRecursion (IsUnanswered options.now) self.old }
-        requires room { length self.old + deque_len ready.old ≤ deque_capacity ready.old }
-        requires count { count ≡ sum_by (over_in server link) self.old }
-        ensures fails { IfOk result (λ found. found ≡ true → FailsOver options.now server link most
-            self.old ready.old.items self.new ready.new.items) }
-        ensures not { IfOk result (λ found. found ≡ false
-            → (self.new ≡ self.old) × (ready.new ≡ ready.old)) }
-        ensures err { OnErr result ((self.new ≡ self.old) × (ready.new ≡ ready.old)) }
-        ensures fewer { length self.new ≤ length self.old }
-        ensures len { length self.new + deque_len ready.new ≡ length self.old + deque_len ready.old }
-        ensures capacity { deque_capacity ready.new ≡ deque_capacity ready.old }
-    {
-        if !are_few(count, self.list.len()) {
-            return Ok(false);
-        }
-        let indexes = indexes_over(
-            alloc,
-            &self.list,
-            &self.flown.flights,
-            &self.links,
-            server,
-            link,
-        )?;
-        let found = marks_at(
-            alloc,
-            options,
-            &self.list,
-            &mut self.waiting,
-            indexes.as_slice(),
-            server,
-            link,
-            most,
-        )?;
-        if found.count != count {
-            return Ok(false);
-        }
-        fail_marked(
-            alloc,
-            options,
-            &mut self.list,
-            &mut self.flown,
-            &mut self.links,
-            &mut self.tally,
-            found.marks,
-            ready,
-            server,
-            link,
-            most,
-        );
-        Ok(true)
-    }
-
-    /// The same by a look at each row.
-    fn fail_each(
-        &mut self,
-        alloc: Global,
-        options: &Options,
-        ready: &mut VecDeque<Ticket<T>>,
-        server: u32,
-        link: u64,
-        most: u32,
-    ) -> Result<(), NoMemory>
-        requires room { length self.old + deque_len ready.old ≤ deque_capacity ready.old }
-        ensures fails { OnOk result (FailsOver options.now server link most self.old ready.old.items
-            self.new ready.new.items) }
-        ensures err { OnErr result ((self.new ≡ self.old) × (ready.new ≡ ready.old)) }
-        ensures fewer { length self.new ≤ length self.old }
-        ensures len { length self.new + deque_len ready.new ≡ length self.old + deque_len ready.old }
-        ensures capacity { deque_capacity ready.new ≡ deque_capacity ready.old }
-    {
-        let answers = answers_over(alloc, options, &self.list, server, link, most)?;
-        let kept = VecDeque::with_capacity(alloc, self.list.len())?;
-        self.unlisted = true;
-        forget_over(
-            &mut self.flown,
-            &self.list,
-            answers.as_slice(),
-            server,
-            link,
-        );
-        end_over(
-            &mut self.links,
-            &self.list,
-            answers.as_slice(),
-            server,
-            link,
-        );
-        fail_all(
-            alloc,
-            options,
-            &mut self.list,
-            kept,
-            answers,
-            ready,
-            server,
-            link,
-            most,
-        );
-        self.tally = Tally::of_rows(&self.list);
-        Ok(())
-    }
-
-    /// Makes the list that of the rows: attempts on servers that aren't in it end, and no such server is forced.
-    pub fn set_list(&mut self, list: &[ServerKey])
-        ensures rows { self.new ≡ map (row_set list.now) self.old }
-        ensures len { length self.new ≡ length self.old }
-    {
-        self.set_few(list);
-        if !self.is_set(list) {
-            self.set_each(list);
-        }
-    }
-
-    /// Makes it that of the requests with attempts on servers that aren't in it, where these attempts are few and the
-    /// links tell which they are. Whether those requests are all is told by `is_set`.
-    fn set_few(&mut self, list: &[ServerKey])
-        ensures rows { map (row_set list.now) self.new ≡ map (row_set list.now) self.old }
-        ensures len { length self.new ≡ length self.old }
-    {
-        if !are_few(self.count_left(list), self.list.len()) {
-            return;
-        }
-        let Ok(ids) = ids_left(*self.list.allocator(), &self.links, list) else {
-            return;
-        };
-        for place in 0..ids.len() {
-            self.set_with(ids[place], list);
-        }
-    }
-
-    /// Makes it that of the request that has an attempt with this identifier, if there is one.
-    fn set_with(&mut self, id: u16, list: &[ServerKey])
-        ensures rows { map (row_set list.now) self.new ≡ map (row_set list.now) self.old }
-        ensures len { length self.new ≡ length self.old }
-    {
-        if let Some(leg) = self.flown.flights.leg(id)
-            && let Some(index) = find_row(&self.list, leg.number)
-        {
-            self.set_at(index, list);
-        }
-    }
-
-    /// Makes it that of the request at this index, which is then among those that wait.
-    fn set_at(&mut self, index: usize, list: &[ServerKey])
-        requires { index < length self.old }
-        ensures rows { map (row_set list.now) self.new ≡ map (row_set list.now) self.old }
-        ensures len { length self.new ≡ length self.old }
-    {
-        let number = row_at(&self.list, index).number;
-        self.unlisted |= list_number(&mut self.waiting, number);
-        self.tally = set_found(
-            &mut self.list,
-            &mut self.flown,
-            &mut self.links,
-            self.tally,
-            index,
-            list,
-        );
-    }
-
-    /// The list is that of the rows: no attempt is on a server that isn't in it, and no server is forced.
-    fn is_set(&self, list: &[ServerKey]) -> bool
-        ensures { result ≡ true → map (row_set list.now) self.now ≡ self.now }
-    {
-        self.tally.forced == 0 && self.count_left(list) == 0
-    }
-
-    /// Makes it that of the rows by a look at each of them. It takes no memory.
-    fn set_each(&mut self, list: &[ServerKey])
-        ensures rows { self.new ≡ map (row_set list.now) self.old }
-        ensures len { length self.new ≡ length self.old }
-    {
-        self.unlisted = true;
-        forget_left(&mut self.flown, &self.list, list);
-        end_left(&mut self.links, &self.list, list);
-        set_rows(&mut self.list, list);
-        self.tally = Tally::of_rows(&self.list);
     }
 
     /// Completes each request with this status and without a reply. It takes no memory.

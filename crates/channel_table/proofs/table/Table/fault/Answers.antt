@@ -1,89 +1,57 @@
-use Rattle.std.proofs.Common.{refl, sym, ap, arith, subst, ◌≡◌, ◌∙◌, ◌+◌, ◌<◌, ◌^◌, Some, Ok, List, [], ◌∷◌, ◌++◌, length}
+use Rattle.std.proofs.Common.{refl, sym, arith, subst, ◌∙◌, ◌+◌, ◌<◌, ◌^◌, Ok, List, ◌∷◌, length}
 use Rattle.chan_types.specs.declared.journal.Entry.{Entry}
 use Rattle.chan_types.specs.declared.journal.What.{What}
 use Rattle.chan_types.specs.declared.journal.What.TheVariants.{Fault}
-use Rattle.chan_types.specs.declared.ticket.Ticket.{Ticket}
 use Rattle.channel_model.specs.Choice.{Failing}
 use Rattle.channel_model.specs.Journal.{Past, past_of}
 use Rattle.channel_model.specs.Meanings.{Fails}
-use Rattle.channel_model.specs.Setting.{Setting}
-use Rattle.channel_table.proofs.Attempts.{attempts_are, list_few, list_some}
 use Rattle.channel_table.proofs.FailureSteps.{past_of-length}
-use Rattle.channel_table.proofs.Failing.{counted_faulted, counted_over, failed_count, table_failed}
 use Rattle.channel_table.proofs.Keeping.{few_closed, happens_by, kept_grown, kept_more, no_more}
+use Rattle.channel_table.proofs.KeptTable.{entry_added, fault_counted, fault_stands, fault_there, fault_told, servers_few, servers_some}
 use Rattle.channel_table.specs.Counted.{AreCounted}
 use Rattle.channel_model.proofs.Theorems.{each-then}
 use Rattle.channel_table.specs.Failing.{IsUnanswered}
 use Rattle.channel_table.specs.Kept.{setting_of}
 use Rattle.channel_table.specs.Rows.{RowStands}
-use Rattle.channel_table.specs.declared.row.Row.{Row}
 use Rattle.channel_table.proofs.table.Table.fault.Goals as goal
 
 pub most_attempts-most-requires-clause-some : goal.most_attempts-most-requires-clause-some
-most_attempts-most-requires-clause-some g c =
-    list_some (setting_of c.self.inside) (past_of c.self.inside.entries.items) c.self.inside.list c.self.inside.servers c.self.inside.greatest_key c.self.inside.greatest_link c.self.inside.started c.self.invariant.counted c.self.invariant.limits c.self.invariant.lawful.allowed
+most_attempts-most-requires-clause-some g c = servers_some g.T.Token.plan c.self.inside c.self.invariant
 
 pub most_attempts-most-requires-clause-few : goal.most_attempts-most-requires-clause-few
-most_attempts-most-requires-clause-few g c =
-    list_few (setting_of c.self.inside) (past_of c.self.inside.entries.items) c.self.inside.list c.self.inside.servers c.self.inside.greatest_key c.self.inside.greatest_link c.self.inside.started c.self.invariant.counted c.self.invariant.limits c.self.invariant.lawful.allowed
+most_attempts-most-requires-clause-few g c = servers_few g.T.Token.plan c.self.inside c.self.invariant
 
 pub fail_all-requires-clause-unanswered : goal.fail_all-requires-clause-unanswered
 fail_all-requires-clause-unanswered g c =
     each-then (RowStands g.T.Token.plan (setting_of c.self.inside) (past_of c.self.inside.entries.items)) (IsUnanswered c.self.inside.options) c.self.inside.rows (λ row stands. stands.unanswered) c.self.invariant.stands.each_row
 
 pub count_fault-requires : goal.count_fault-requires
-count_fault-requires g c =
-    let past : Past = past_of c.self.inside.entries.items in
-    let setting : Setting = setting_of c.self.inside in
-    let rows : List (Row g.row.T.Denot) = c.self.inside.rows in
-    let tickets : List (Ticket g.row.T.Denot) = c.self.inside.ready.items in
-    let count = c.in_ok-count.ensures.count in
-    let what : What = Fault c.args.server c.args.link c.args.at in
-    let entry : Entry = record { seat = c.args.seat; by = 0; what = what } in
-    let added : c.push_reserved.new.self.items ≡ c.self.inside.entries.items ++ entry ∷ [] = c.push_reserved.ensures.items ∙ ap (λ es. es ++ entry ∷ []) c.make_room.ensures.items in
-    let may_spend = attempts_are setting past c.self.inside.list c.self.inside.servers c.self.inside.greatest_key c.self.inside.greatest_link c.self.inside.started c.self.invariant.counted c.self.invariant.limits c.self.invariant.lawful.allowed ∙ sym c.most_attempts-most.ensures.value in
-    record {
-      there = λ some. counted_over g.T.Token.plan setting past c.args.server c.args.link c.args.at c.most_attempts-most.result may_spend c.most_attempts-most.ensures.few rows tickets
-          c.self.inside.list c.self.inside.servers c.self.inside.greatest_key c.self.inside.greatest_link c.self.inside.started c.self.invariant.stands c.self.invariant.counted c.self.invariant.limits c.self.invariant.lawful.allowed (λ none. some (count ∙ none));
-    }
+count_fault-requires g c = record {
+  there = λ some. fault_there g.T.Token.plan c.self.inside c.self.invariant c.args.server c.args.link c.args.at c.most_attempts-most.ensures.value c.most_attempts-most.ensures.few (λ none. some (c.in_ok-count.ensures.count ∙ none));
+}
 
 pub invariant_of-self-2 : goal.invariant_of-self-2
 invariant_of-self-2 g c =
     let past : Past = past_of c.self.inside.entries.items in
-    let setting : Setting = setting_of c.self.inside in
-    let rows : List (Row g.row.T.Denot) = c.self.inside.rows in
-    let tickets : List (Ticket g.row.T.Denot) = c.self.inside.ready.items in
-    let count = c.in_ok-count.ensures.count in
     let what : What = Fault c.args.server c.args.link c.args.at in
     let entry : Entry = record { seat = c.args.seat; by = 0; what = what } in
-    let added : c.push_reserved.new.self.items ≡ c.self.inside.entries.items ++ entry ∷ [] = c.push_reserved.ensures.items ∙ ap (λ es. es ++ entry ∷ []) c.make_room.ensures.items in
-    let may_spend = attempts_are setting past c.self.inside.list c.self.inside.servers c.self.inside.greatest_key c.self.inside.greatest_link c.self.inside.started c.self.invariant.counted c.self.invariant.limits c.self.invariant.lawful.allowed ∙ sym c.most_attempts-most.ensures.value in
     let room = c.in_ok-make_room.ensures in
     let small : length past + 1 < 2 ^ 64 = omega (arith, past_of-length c.self.inside.entries.items, c.push_reserved.ensures.len, c.make_room.ensures.len) in
-    let counted = counted_faulted g.T.Token.plan setting past c.args.server c.args.link c.args.at c.most_attempts-most.result may_spend c.most_attempts-most.ensures.few rows tickets
-    c.self.inside.list c.self.inside.servers c.self.inside.greatest_key c.self.inside.greatest_link c.self.inside.started c.in_ok-count.count c.self.invariant.stands c.self.invariant.counted small count in
-    kept_more g.T.Token.plan c.self.inside _ entry refl added c.self.invariant tt
-    (rw (c.in_ok-count.ensures.fails.kept, c.in_ok-count.ensures.fails.made) (table_failed g.T.Token.plan setting past c.args.server c.args.link c.args.at c.most_attempts-most.result may_spend c.most_attempts-most.ensures.few rows tickets c.self.invariant.stands))
-    (subst (λ (s : List Failing). AreCounted setting (Fault c.args.server c.args.link c.args.at ∷ past) c.self.inside.list s c.self.inside.greatest_key c.self.inside.greatest_link c.self.inside.started) (sym c.count_fault.ensures) counted)
-    (no_more (Fault c.args.server c.args.link c.args.at) past refl ∙ c.self.invariant.accepts) c.self.invariant.destroyed
+    let counted = fault_counted g.T.Token.plan c.self.inside c.self.invariant c.args.server c.args.link c.args.at c.most_attempts-most.ensures.value c.most_attempts-most.ensures.few c.in_ok-count.count small c.in_ok-count.ensures.count in
+    kept_more g.T.Token.plan c.self.inside _ entry refl (entry_added entry c.push_reserved.ensures.items c.make_room.ensures.items) c.self.invariant tt
+    (fault_stands g.T.Token.plan c.self.inside c.self.invariant c.args.server c.args.link c.args.at c.most_attempts-most.ensures.value c.most_attempts-most.ensures.few c.in_ok-count.ensures.fails)
+    (subst (λ (s : List Failing). AreCounted (setting_of c.self.inside) (what ∷ past) c.self.inside.list s c.self.inside.greatest_key c.self.inside.greatest_link c.self.inside.started) (sym c.count_fault.ensures) counted)
+    (no_more what past refl ∙ c.self.invariant.accepts) c.self.invariant.destroyed
     (omega (arith, c.self.invariant.few, c.push_reserved.ensures.len, c.make_room.ensures.len)) (omega (arith, c.self.invariant.few_links, c.push_reserved.ensures.len, c.make_room.ensures.len)) (omega (arith, c.self.invariant.few_starts, c.push_reserved.ensures.len, c.make_room.ensures.len))
     (omega (arith, room.room, c.len.ensures, c.len-2.ensures, c.make_room.ensures.len, c.push_reserved.ensures.len, c.push_reserved.ensures.capacity, c.fail_all.ensures.fewer, c.fail_all.ensures.len, few_closed c.self.inside.closed))
     (omega (arith, c.self.invariant.room_ready, c.fail_all.ensures.len, c.fail_all.ensures.capacity))
 
 pub returns : goal.returns
 returns g c =
-    let past : Past = past_of c.self.inside.entries.items in
-    let setting : Setting = setting_of c.self.inside in
-    let rows : List (Row g.row.T.Denot) = c.self.inside.rows in
-    let tickets : List (Ticket g.row.T.Denot) = c.self.inside.ready.items in
-    let count = c.in_ok-count.ensures.count in
     let what : What = Fault c.args.server c.args.link c.args.at in
     let entry : Entry = record { seat = c.args.seat; by = 0; what = what } in
-    let added : c.push_reserved.new.self.items ≡ c.self.inside.entries.items ++ entry ∷ [] = c.push_reserved.ensures.items ∙ ap (λ es. es ++ entry ∷ []) c.make_room.ensures.items in
-    let may_spend = attempts_are setting past c.self.inside.list c.self.inside.servers c.self.inside.greatest_key c.self.inside.greatest_link c.self.inside.started c.self.invariant.counted c.self.invariant.limits c.self.invariant.lawful.allowed ∙ sym c.most_attempts-most.ensures.value in
-    let means : Fails c.args.server c.args.link c.args.at (Ok c.in_ok-count.count) setting past (Some what) =
-    (refl, count ∙ sym (failed_count g.T.Token.plan setting past c.args.server c.args.link c.args.at c.most_attempts-most.result may_spend c.most_attempts-most.ensures.few rows tickets c.self.invariant.stands)) in
-    rw (← c.self.view_is) (happens_by g.T.Token.plan (Fails c.args.server c.args.link c.args.at (Ok c.in_ok-count.count)) c.self.inside c.push_reserved.new.self.items c.args.seat 0 what added c.self.invariant tt means)
+    rw (← c.self.view_is) (happens_by g.T.Token.plan (Fails c.args.server c.args.link c.args.at (Ok c.in_ok-count.count)) c.self.inside c.push_reserved.new.self.items c.args.seat 0 what (entry_added entry c.push_reserved.ensures.items c.make_room.ensures.items) c.self.invariant tt
+    (fault_told g.T.Token.plan c.self.inside c.self.invariant c.args.server c.args.link c.args.at c.most_attempts-most.ensures.value c.most_attempts-most.ensures.few c.in_ok-count.count c.in_ok-count.ensures.count))
 
 pub invariant_of-self-in_err-count : goal.invariant_of-self-in_err-count
 invariant_of-self-in_err-count g c =

@@ -1,10 +1,6 @@
-use Rattle.std.proofs.Common.{List, ap, arith, sym, ◌++◌, ◌∙◌}
-use Rattle.std.proofs.lemmas.List.{append-nil}
-use Rattle.std.specs.List.{sum_by}
-use Rattle.chan_types.specs.declared.ticket.Ticket.{Ticket}
-use Rattle.channel_table.proofs.FailSteps.{none_fails}
+use Rattle.std.proofs.Common.{List, arith, sym, ◌∙◌}
+use Rattle.channel_table.proofs.FailedRows.{none_counted}
 use Rattle.channel_table.proofs.LinkedLemmas.{link_fits}
-use Rattle.channel_table.specs.Rows.{over_in}
 use Rattle.channel_table.specs.declared.row.Row.{Row}
 use Rattle.channel_table.proofs.table.rows.Rows.fail_all.Goals as goal
 
@@ -16,8 +12,4 @@ count-count-requires g c =
 
 pub returns-then-count-eq0-clause-fails : goal.returns-then-count-eq0-clause-fails
 returns-then-count-eq0-clause-fails g c =
-    let rows : List (Row g.row.T.Denot) = c.args.self.now in
-    let tickets : List (Ticket g.row.T.Denot) = c.args.ready.now.items in
-    let none = ap (sum_by (over_in c.args.server c.args.link)) (sym c.self.view_is) ∙ sym (c.self.invariant.linked c.args.server c.args.link) ∙ sym c.count-count.ensures ∙ c.if-count-eq0.true in
-    let same = none_fails c.args.options.now c.args.server c.args.link c.args.most rows c.requires.unanswered none in
-    record { kept = sym same.0; made = sym (append-nil tickets) ∙ ap (λ ts. tickets ++ ts) (sym same.1) }
+    none_counted c.args.options.now c.args.server c.args.link c.args.most c.self.inside c.self.invariant c.args.self.now c.self.view_is c.requires.unanswered c.args.ready.now.items (sym c.count-count.ensures ∙ c.if-count-eq0.true)
