@@ -4,6 +4,7 @@ use Rattle.atomic_table.specs.Seated.{TableId}
 use Rattle.chan_types.specs.declared.journal.Entry.{Entry}
 use Rattle.channel_model.specs.Setting.{Setting}
 use Rattle.hosts_file.specs.declared.hosts.Hosts.{Hosts}
+use Rattle.resolv_options.specs.Defaults.{plain_values}
 use Rattle.resolv_options.specs.declared.options.Options.{Options}
 use Rattle.seat_lock.specs.History.{SeatView}
 use Rattle.shared_channel.specs.Passes.{PassView, pass_of}
@@ -17,6 +18,10 @@ new_pass lock setting seats number =
 pub record IsNewChannel (lock : TableId) (setting : Setting) (count : ℕ) (passes : List PassView) : Type 0 where
   pub all : length passes ≡ count
   pub each : (k : ℕ) (d : PassView) → k < count → slice_index_or passes k d ≡ new_pass lock setting count k
+
+-- the setting of the default options and of no hosts
+abbrev pub plain_setting : Setting
+plain_setting = record { options = plain_values; hosts = [] }
 
 -- the pass has this seat, and nothing was told or lost through it
 abbrev pub IsPassOf : SeatView Entry (Options × Hosts) → PassView → Type 0

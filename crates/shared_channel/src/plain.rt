@@ -1,8 +1,7 @@
 //! A channel with the default options, and its passes one by one: what a caller begins with.
 
 ghost use Rattle.std.specs.Prelude.{◌≡◌, ◌<◌, ◌≤◌, ◌+◌, ◌++◌, ◌∷◌, [], IfOk, vec_capacity, vec_len};
-ghost use Rattle.channel_model.specs.Setting.{Setting};
-ghost use Rattle.shared_channel.specs.Making.{IsNewChannel};
+ghost use Rattle.shared_channel.specs.Making.{IsNewChannel, plain_setting};
 ghost use Rattle.shared_channel.specs.Staying.{AreAt};
 
 use crate::channel::Channel;
@@ -20,8 +19,7 @@ pub fn plain_channel<B: Done + Drop>(
     seats: u64,
 ) -> Result<(Channel<B>, Vec<Pass<B>>), NoMemory>
     requires { (0 < seats) × (seats ≤ 64) }
-    ensures new { IfOk result
-        (λ made. (setting : Setting) × IsNewChannel made.0 setting seats made.1.items) }
+    ensures new { IfOk result (λ made. IsNewChannel made.0 plain_setting seats made.1.items) }
     ensures at { IfOk result (λ made. AreAt made.0 made.1.items) }
     ensures len { IfOk result (λ made. vec_len made.1 ≡ seats) }
 {

@@ -9,7 +9,7 @@ finish-requires-clause-all g c =
     let back-3 = one_back c.last_pass-third.new.passes.items ((c.last_pass-first.new.passes.items ++ c.asked_and_replied-asking.result.0.0.0 ∷ []) ++ c.asked_and_replied-asking.result.0.0.1 ∷ []) c.last_pass-third.ensures.items back-2 c.asked_and_replied-asking.ensures.right.0 in
     let back-4 = one_back c.last_pass-fourth.new.passes.items (((c.last_pass-first.new.passes.items ++ c.asked_and_replied-asking.result.0.0.0 ∷ []) ++ c.asked_and_replied-asking.result.0.0.1 ∷ []) ++ c.asked_and_replied-asking.result.0.1.0 ∷ []) c.last_pass-fourth.ensures.items back-3 c.asked_and_replied-asking.ensures.right.1 in
     let back-5 = one_back c.last_pass-fifth.new.passes.items ((((c.last_pass-first.new.passes.items ++ c.asked_and_replied-asking.result.0.0.0 ∷ []) ++ c.asked_and_replied-asking.result.0.0.1 ∷ []) ++ c.asked_and_replied-asking.result.0.1.0 ∷ []) ++ c.asked_and_replied-asking.result.0.1.1 ∷ []) c.last_pass-fifth.ensures.items back-4 c.asked_and_replied-asking.ensures.replying in
-    rw (c.push_reserved-5.ensures.items, c.push_reserved-4.ensures.items, c.push_reserved-3.ensures.items, c.push_reserved-2.ensures.items, c.push_reserved.ensures.items) (may_finish (((((c.last_pass-first.new.passes.items ++ c.asked_and_replied-asking.result.0.0.0 ∷ []) ++ c.asked_and_replied-asking.result.0.0.1 ∷ []) ++ c.asked_and_replied-asking.result.0.1.0 ∷ []) ++ c.asked_and_replied-asking.result.0.1.1 ∷ []) ++ c.asked_and_replied-asking.result.1 ∷ []) c.in_ok-channel.ensures.new.1 (omega arith) back-5).0
+    rw (c.push_reserved-5.ensures.items, c.push_reserved-4.ensures.items, c.push_reserved-3.ensures.items, c.push_reserved-2.ensures.items, c.push_reserved.ensures.items) (may_finish (((((c.last_pass-first.new.passes.items ++ c.asked_and_replied-asking.result.0.0.0 ∷ []) ++ c.asked_and_replied-asking.result.0.0.1 ∷ []) ++ c.asked_and_replied-asking.result.0.1.0 ∷ []) ++ c.asked_and_replied-asking.result.0.1.1 ∷ []) ++ c.asked_and_replied-asking.result.1 ∷ []) c.in_ok-channel.ensures.new (omega arith) back-5).0
 
 pub finish-requires-clause-settled : goal.finish-requires-clause-settled
 finish-requires-clause-settled g c =
@@ -18,4 +18,4 @@ finish-requires-clause-settled g c =
     let back-3 = one_back c.last_pass-third.new.passes.items ((c.last_pass-first.new.passes.items ++ c.asked_and_replied-asking.result.0.0.0 ∷ []) ++ c.asked_and_replied-asking.result.0.0.1 ∷ []) c.last_pass-third.ensures.items back-2 c.asked_and_replied-asking.ensures.right.0 in
     let back-4 = one_back c.last_pass-fourth.new.passes.items (((c.last_pass-first.new.passes.items ++ c.asked_and_replied-asking.result.0.0.0 ∷ []) ++ c.asked_and_replied-asking.result.0.0.1 ∷ []) ++ c.asked_and_replied-asking.result.0.1.0 ∷ []) c.last_pass-fourth.ensures.items back-3 c.asked_and_replied-asking.ensures.right.1 in
     let back-5 = one_back c.last_pass-fifth.new.passes.items ((((c.last_pass-first.new.passes.items ++ c.asked_and_replied-asking.result.0.0.0 ∷ []) ++ c.asked_and_replied-asking.result.0.0.1 ∷ []) ++ c.asked_and_replied-asking.result.0.1.0 ∷ []) ++ c.asked_and_replied-asking.result.0.1.1 ∷ []) c.last_pass-fifth.ensures.items back-4 c.asked_and_replied-asking.ensures.replying in
-    rw (c.push_reserved-5.ensures.items, c.push_reserved-4.ensures.items, c.push_reserved-3.ensures.items, c.push_reserved-2.ensures.items, c.push_reserved.ensures.items) (may_finish (((((c.last_pass-first.new.passes.items ++ c.asked_and_replied-asking.result.0.0.0 ∷ []) ++ c.asked_and_replied-asking.result.0.0.1 ∷ []) ++ c.asked_and_replied-asking.result.0.1.0 ∷ []) ++ c.asked_and_replied-asking.result.0.1.1 ∷ []) ++ c.asked_and_replied-asking.result.1 ∷ []) c.in_ok-channel.ensures.new.1 (omega arith) back-5).1
+    rw (c.push_reserved-5.ensures.items, c.push_reserved-4.ensures.items, c.push_reserved-3.ensures.items, c.push_reserved-2.ensures.items, c.push_reserved.ensures.items) (may_finish (((((c.last_pass-first.new.passes.items ++ c.asked_and_replied-asking.result.0.0.0 ∷ []) ++ c.asked_and_replied-asking.result.0.0.1 ∷ []) ++ c.asked_and_replied-asking.result.0.1.0 ∷ []) ++ c.asked_and_replied-asking.result.0.1.1 ∷ []) ++ c.asked_and_replied-asking.result.1 ∷ []) c.in_ok-channel.ensures.new (omega arith) back-5).1
