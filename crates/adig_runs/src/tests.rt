@@ -1,19 +1,21 @@
 //! Whole runs over a network in memory: what happened, what was called, and what was put, as lines of text.
 
+mod links;
+mod outside;
 mod pages;
 mod refusals;
 mod replies;
 mod searching;
+mod servers;
 mod setting;
 mod statuses;
 
-use adig_tool::run;
+use adig_tool::{Ended, run};
 use chan_types::Calls;
-use item_list::Bytes;
 use net_world::{MemFiles, MemSink, ScriptWorld};
-use scenario::{Coming, Shown, calls_told, items_of, journal_told, sent_in, words_of};
+use outside::{Outside, outside_of};
+use scenario::{Coming, Shown, calls_told, journal_told, sent_in, words_of};
 use std::alloc::Global;
-use std::collections::BTreeMap;
 use std::test::Fail;
 
 /// The words of a run for the addresses of example.com.
@@ -25,7 +27,7 @@ const REPLY: &[u8] =
     b"\x12\x34\x81\x80\0\x01\0\x01\0\0\0\0\x07example\x03com\0\0\x01\0\x01\xc0\x0c\0\x01\0\x01\0\0\x01\x2c\0\x04\xc0\0\x02\x01";
 
 /// A run: its words, parted by blanks; its resolv.conf, if there is one; the network's first random words; what comes on it,
-/// and which of its calls fail; whether the read and the put fail; and how many turns it may make.
+/// and which of its calls fail; which reads and puts fail, by their numbers from 0; and how many turns it may make.
 #[derive(Clone, Copy)]
 struct Scenario<'a> {
     line: &'a str,
@@ -33,59 +35,95 @@ struct Scenario<'a> {
     words: &'a [u16],
     comings: &'a [Coming<'a>],
     fails: &'a [u64],
-    reads_fail: bool,
-    puts_fail: bool,
+    read_fails: &'a [u64],
+    put_fails: &'a [u64],
     turns: u64,
 }
 
-/// A run with these words, on which this comes. There is no file, nothing fails, and it may make 1,000 turns.
-fn case<'a>(line: &'a str, comings: &'a [Coming<'a>]) -> Scenario<'a> {
-    Scenario {
-        line,
-        resolv: None,
-        words: &[0x1234],
-        comings,
-        fails: &[],
-        reads_fail: false,
-        puts_fail: false,
-        turns: 1000,
-    }
+/// The plain run, on which nothing comes. There is no file, nothing fails, and it may make 1,000 turns.
+const RUN: Scenario<'static> = Scenario {
+    line: PLAIN,
+    resolv: None,
+    words: &[0x1234],
+    comings: &[],
+    fails: &[],
+    read_fails: &[],
+    put_fails: &[],
+    turns: 1000,
+};
+
+/// What is asked of the bytes that a run sends and writes.
+#[derive(Clone, Copy)]
+enum Sent<'a> {
+    /// Nothing.
+    Any,
+    /// That these are all of them.
+    All(&'a [u8]),
+    /// That there are so many, of which these are the last.
+    Last(usize, &'a [u8]),
 }
 
-/// What a run left: its exit status, what it put, its journal and its calls as lines, and the bytes that it sent and wrote.
-#[derive(Drop)]
-struct Left {
+/// What a run has to leave: its exit status and what it put; the lines of its journal and of its network's calls; how many
+/// callbacks were called; and what it sent.
+#[derive(Clone, Copy)]
+struct Wanted<'a> {
     status: u8,
-    put: Vec<u8>,
-    journal: String,
-    calls: String,
-    sent: Vec<u8>,
-    /// How many callbacks were called.
+    put: &'a str,
+    journal: &'a str,
+    calls: &'a str,
     called: u64,
+    sent: Sent<'a>,
 }
 
-/// Runs the case.
-fn ran(alloc: Global, case: &Scenario<'_>) -> Result<Left, Fail> {
-    let words = words_of(alloc, case.line)?;
-    let mut files = files_of(alloc, case)?;
-    let mut world = world_of(alloc, case)?;
-    let mut sink = MemSink::make(failing(alloc, case.puts_fail)?);
-    let ended = run(
-        alloc,
-        words.as_slice(),
-        &mut files,
-        &mut world,
-        &mut sink,
-        case.turns,
-    );
-    Ok(Left {
-        status: ended.status,
-        put: sink.bytes().to_vec(alloc)?,
-        journal: journal_told(alloc, ended.journal.entries())?,
-        calls: calls_told(alloc, world.log().calls(), Shown::Servers)?,
-        sent: sent_in(alloc, world.log().calls())?,
-        called: counted(&ended.calls),
-    })
+/// A run, what it shows, and what it has to leave.
+#[derive(Clone, Copy)]
+struct Case {
+    shows: &'static str,
+    run: Scenario<'static>,
+    wanted: Wanted<'static>,
+}
+
+/// Whether a run leaves this.
+fn leaves(alloc: Global, scenario: &Scenario<'_>, wanted: &Wanted<'_>) -> Result<bool, Fail> {
+    let mut outside = outside_of(alloc, scenario)?;
+    let ended = played(alloc, scenario, &mut outside)?;
+    let is_so = is_ended(&ended, wanted.status, wanted.called) && is_put(&outside, wanted.put);
+    Ok(is_so && is_told(alloc, &ended, &outside, wanted)?)
+}
+
+/// What the first of these runs shows that doesn't leave what it has to; nothing where each does.
+fn first_wrong<'a>(alloc: Global, cases: &'a [Case]) -> Result<&'a str, Fail> {
+    for case in cases {
+        if !leaves(alloc, &case.run, &case.wanted)? {
+            return Ok(case.shows);
+        }
+    }
+    Ok("")
+}
+
+/// Plays a run.
+fn played(alloc: Global, scenario: &Scenario<'_>, outside: &mut Outside) -> Result<Ended, Fail> {
+    let words = words_of(alloc, scenario.line)?;
+    let Outside { files, world, sink } = outside;
+    let turns = scenario.turns;
+    Ok(ended(alloc, words.as_slice(), files, world, sink, turns))
+}
+
+/// How a run ends.
+fn ended(
+    alloc: Global,
+    words: &[&str],
+    files: &mut MemFiles,
+    world: &mut ScriptWorld,
+    sink: &mut MemSink,
+    turns: u64,
+) -> Ended {
+    run(alloc, words, files, world, sink, turns)
+}
+
+/// Whether a run ended with this status, and so many callbacks were called.
+fn is_ended(ended: &Ended, status: u8, called: u64) -> bool {
+    ended.status == status && counted(&ended.calls) == called
 }
 
 /// How many answers these are.
@@ -97,56 +135,50 @@ fn counted(calls: &Calls) -> u64 {
     count
 }
 
-/// The numbers of the calls that fail: the first, or none.
-fn failing(alloc: Global, fails: bool) -> Result<Vec<u64>, Fail> {
-    let mut numbers = Vec::new(alloc);
-    if fails {
-        numbers.push(0)?;
-    }
-    Ok(numbers)
+/// Whether this was put.
+fn is_put(outside: &Outside, text: &str) -> bool {
+    outside.sink.bytes() == text.as_bytes()
 }
 
-/// The files of a case.
-fn files_of(alloc: Global, case: &Scenario<'_>) -> Result<MemFiles, Fail> {
-    let mut files = BTreeMap::new(alloc);
-    if let Some(bytes) = case.resolv {
-        let path = String::from_str(alloc, "/etc/resolv.conf")?;
-        files.insert(path, Bytes::of(alloc, bytes)?)?;
-    }
-    Ok(MemFiles::make(files, failing(alloc, case.reads_fail)?))
+/// Whether the journal, the network's calls and the bytes that were sent are as they have to be.
+fn is_told(
+    alloc: Global,
+    ended: &Ended,
+    outside: &Outside,
+    wanted: &Wanted<'_>,
+) -> Result<bool, Fail> {
+    Ok(
+        has_journal(alloc, ended, wanted.journal)?
+            && has_called(alloc, outside, wanted.calls)?
+            && has_sent(alloc, outside, wanted.sent)?,
+    )
 }
 
-/// The network of a case.
-fn world_of(alloc: Global, case: &Scenario<'_>) -> Result<ScriptWorld, Fail> {
-    let mut words = case.words.to_vec(alloc)?;
-    for _ in 0..64 {
-        words.push(0x1234)?;
+fn has_journal(alloc: Global, ended: &Ended, lines: &str) -> Result<bool, Fail> {
+    let told = journal_told(alloc, ended.journal.entries())?;
+    Ok(told.as_str() == lines)
+}
+
+fn has_called(alloc: Global, outside: &Outside, lines: &str) -> Result<bool, Fail> {
+    let told = calls_told(alloc, outside.world.log().calls(), Shown::Servers)?;
+    Ok(told.as_str() == lines)
+}
+
+fn has_sent(alloc: Global, outside: &Outside, wanted: Sent<'_>) -> Result<bool, Fail> {
+    let sent = sent_in(alloc, outside.world.log().calls())?;
+    Ok(is_sent(sent.as_slice(), wanted))
+}
+
+/// Whether these bytes are as they have to be.
+fn is_sent(sent: &[u8], wanted: Sent<'_>) -> bool {
+    match wanted {
+        Sent::Any => true,
+        Sent::All(bytes) => sent == bytes,
+        Sent::Last(count, bytes) => sent.len() == count && sent.ends_with(bytes),
     }
-    let items = items_of(alloc, case.comings)?;
-    Ok(ScriptWorld::make(words, items, case.fails.to_vec(alloc)?))
 }
 
 /// A datagram of the first server.
 fn comes(from: u64, bytes: &[u8]) -> Coming<'_> {
     Coming::datagram(from, 0, bytes)
-}
-
-/// A datagram of this server.
-fn comes_from(server: u32, from: u64, bytes: &[u8]) -> Coming<'_> {
-    Coming::datagram(from, server, bytes)
-}
-
-/// A piece of the first link.
-fn piece(from: u64, bytes: &[u8]) -> Coming<'_> {
-    Coming::piece(from, 1, bytes)
-}
-
-/// Whether the run left this: its exit status, and what it put.
-fn is_put(left: &Left, status: u8, text: &str) -> bool {
-    left.status == status && left.put.as_slice() == text.as_bytes()
-}
-
-/// Whether these are the run's journal and calls.
-fn is_told(left: &Left, journal: &str, calls: &str) -> bool {
-    left.journal.as_str() == journal && left.calls.as_str() == calls
 }

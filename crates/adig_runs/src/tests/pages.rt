@@ -1,43 +1,24 @@
 //! Pages: every section, an OPT record, a type without a shape, and each response code.
 
-use super::{PLAIN, case, comes, is_put, ran};
+use super::{RUN, Scenario, Sent, comes, has_sent, is_put, outside_of, played};
+use scenario::Coming;
 use std::alloc::Global;
 use std::test::Fail;
 
-/// A message to the plain run's question, with these flags, so many records in each section, and these records (RFC 1035,
-/// section 4.1).
-fn message(alloc: Global, flags: u16, counts: [u8; 3], records: &[&[u8]]) -> Result<Vec<u8>, Fail> {
-    let [answers, authorities, additionals] = counts;
-    let mut bytes = Vec::new(alloc);
-    bytes.extend_from_slice(b"\x12\x34")?;
-    bytes.extend_from_slice(&flags.to_be_bytes())?;
-    bytes.extend_from_slice(&[0, 1, 0, answers, 0, authorities, 0, additionals])?;
-    bytes.extend_from_slice(b"\x07example\x03com\0\0\x01\0\x01")?;
-    for record in records {
-        bytes.extend_from_slice(record)?;
-    }
-    Ok(bytes)
-}
-
-/// Whether a run that gets this message ends with this status and this page.
-fn is_page(alloc: Global, message: &[u8], status: u8, page: &str) -> Result<bool, Fail> {
-    let run = ran(alloc, &case(PLAIN, &[comes(1, message)]))?;
-    Ok(is_put(&run, status, page))
+/// A message to the plain run's question, and the exit status and the page of a run that gets it.
+#[derive(Clone, Copy)]
+struct Page {
+    message: &'static [u8],
+    status: u8,
+    text: &'static str,
 }
 
 /// An alias, an address, a record of type 65280 (RFC 3597), a server's name, its address, and an OPT record that says that
-/// DNSSEC is wanted (RFC 6891, section 6.1).
-const RECORDS: [&[u8]; 6] = [
-    b"\xc0\x0c\0\x05\0\x01\0\0\x01\x2c\0\x06\x03www\xc0\x0c",
-    b"\xc0\x29\0\x01\0\x01\0\0\x01\x2c\0\x04\xc0\0\x02\x01",
-    b"\xc0\x0c\xff\0\0\x01\0\0\x01\x2c\0\x02\x0a\x0b",
-    b"\xc0\x0c\0\x02\0\x01\0\0\0\x05\0\x05\x02ns\xc0\x0c",
-    b"\x02ns\xc0\x0c\0\x01\0\x01\0\0\0\0\0\x04\xc0\0\x02\x09",
-    b"\0\0\x29\x04\xd0\0\0\x80\0\0\0",
-];
-
-/// Their page.
-const SECTIONS: &str = ";; example.com IN A
+/// DNSSEC is wanted (RFC 1035, section 4.1; RFC 6891, section 6.1).
+const SECTIONS: Page = Page {
+    message: b"\x12\x34\x85\x80\0\x01\0\x03\0\x01\0\x02\x07example\x03com\0\0\x01\0\x01\xc0\x0c\0\x05\0\x01\0\0\x01\x2c\0\x06\x03www\xc0\x0c\xc0\x29\0\x01\0\x01\0\0\x01\x2c\0\x04\xc0\0\x02\x01\xc0\x0c\xff\0\0\x01\0\0\x01\x2c\0\x02\x0a\x0b\xc0\x0c\0\x02\0\x01\0\0\0\x05\0\x05\x02ns\xc0\x0c\x02ns\xc0\x0c\0\x01\0\x01\0\0\0\0\0\x04\xc0\0\x02\x09\0\0\x29\x04\xd0\0\0\x80\0\0\0",
+    status: 0,
+    text: ";; example.com IN A
 ;; status 0 SUCCESS
 ;; id 4660 rcode 0 flags qr aa rd ra
 ;; ANSWER
@@ -49,84 +30,111 @@ example.com. 5 IN NS ns.example.com.
 ;; ADDITIONAL
 ns.example.com. 0 IN A 192.0.2.9
 . OPT size 1232 ext 0 version 0 do 1 \\# 0
-";
-
-#[test]
-fn each_section_is_printed(rt: HostRuntime) -> Result<(), Fail> {
-    let alloc = rt.alloc();
-    let whole = message(alloc, 0x8580, [3, 1, 2], &RECORDS)?;
-    assert!(rt; is_page(alloc, whole.as_slice(), 0, SECTIONS)?);
-    Ok(())
-}
+",
+};
 
 /// An OPT record that extends response code 0 by 1: 16, which is BADVERS (RFC 6891, sections 6.1.3 and 9).
-const BADVERS: &[u8] = b"\0\0\x29\x04\xd0\x01\0\0\0\0\0";
-
-/// Its page.
-const BADVERS_PAGE: &str = ";; example.com IN A
+const BADVERS: Page = Page {
+    message: b"\x12\x34\x81\x80\0\x01\0\0\0\0\0\x01\x07example\x03com\0\0\x01\0\x01\0\0\x29\x04\xd0\x01\0\0\0\0\0",
+    status: 1,
+    text: ";; example.com IN A
 ;; status 10 EBADRESP
 ;; id 4660 rcode 16 flags qr rd ra
 ;; ADDITIONAL
 . OPT size 1232 ext 1 version 0 do 0 \\# 0
-";
-
-#[test]
-fn an_extended_code_is_printed(rt: HostRuntime) -> Result<(), Fail> {
-    let alloc = rt.alloc();
-    let bad = message(alloc, 0x8180, [0, 0, 1], &[BADVERS])?;
-    assert!(rt; is_page(alloc, bad.as_slice(), 1, BADVERS_PAGE)?);
-    Ok(())
-}
+",
+};
 
 /// What servers answer without a record: response codes 0, 1 and 3 (RFC 1035, section 4.1.1).
-const CODES: [(u16, &str); 3] = [
-    (0x8180, "1 ENODATA\n;; id 4660 rcode 0 flags qr rd ra\n"),
-    (0x8181, "2 EFORMERR\n;; id 4660 rcode 1 flags qr rd ra\n"),
-    (
-        0x8583,
-        "4 ENOTFOUND\n;; id 4660 rcode 3 flags qr aa rd ra\n",
-    ),
-];
+const NODATA: Page = Page {
+    message: b"\x12\x34\x81\x80\0\x01\0\0\0\0\0\0\x07example\x03com\0\0\x01\0\x01",
+    status: 1,
+    text: ";; example.com IN A\n;; status 1 ENODATA\n;; id 4660 rcode 0 flags qr rd ra\n",
+};
 
-/// Whether a run that gets a message with these flags prints a page that ends so.
-fn ends_so(alloc: Global, flags: u16, end: &str) -> Result<bool, Fail> {
-    let bytes = message(alloc, flags, [0, 0, 0], &[])?;
-    let page = format!(in alloc; ";; example.com IN A\n;; status {end}")?;
-    is_page(alloc, bytes.as_slice(), 1, page.as_str())
+const FORMERR: Page = Page {
+    message: b"\x12\x34\x81\x81\0\x01\0\0\0\0\0\0\x07example\x03com\0\0\x01\0\x01",
+    status: 1,
+    text: ";; example.com IN A\n;; status 2 EFORMERR\n;; id 4660 rcode 1 flags qr rd ra\n",
+};
+
+const NOTFOUND: Page = Page {
+    message: b"\x12\x34\x85\x83\0\x01\0\0\0\0\0\0\x07example\x03com\0\0\x01\0\x01",
+    status: 1,
+    text: ";; example.com IN A\n;; status 4 ENOTFOUND\n;; id 4660 rcode 3 flags qr aa rd ra\n",
+};
+
+const PAGES: &[Page] = &[SECTIONS, BADVERS, NODATA, FORMERR, NOTFOUND];
+
+/// Whether a run with this on its network ends with the page's status, puts its text, and has sent so many bytes.
+fn is_page(alloc: Global, comings: &[Coming<'_>], page: &Page, sent: usize) -> Result<bool, Fail> {
+    let scenario = Scenario { comings, ..RUN };
+    let mut outside = outside_of(alloc, &scenario)?;
+    let ended = played(alloc, &scenario, &mut outside)?;
+    let is_so = ended.status == page.status && is_put(&outside, page.text);
+    Ok(is_so && has_sent(alloc, &outside, Sent::Last(sent, b""))?)
+}
+
+/// Whether a run that gets the message puts the page, and has asked once.
+fn is_printed(alloc: Global, page: &Page) -> Result<bool, Fail> {
+    is_page(alloc, &[comes(1, page.message)], page, 29)
+}
+
+/// The first of these pages that isn't put; nothing where each is.
+fn first_unprinted<'a>(alloc: Global, pages: &'a [Page]) -> Result<&'a str, Fail> {
+    for page in pages {
+        if !is_printed(alloc, page)? {
+            return Ok(page.text);
+        }
+    }
+    Ok("")
 }
 
 #[test]
-fn each_code_has_its_status(rt: HostRuntime) -> Result<(), Fail> {
-    let alloc = rt.alloc();
-    for (flags, end) in CODES {
-        assert!(rt; ends_so(alloc, flags, end)?, "{end}");
-    }
+fn each_message_has_its_page(rt: HostRuntime) -> Result<(), Fail> {
+    assert_eq!(rt; first_unprinted(rt.alloc(), PAGES)?, "");
     Ok(())
 }
 
 /// A server that fails, doesn't know the kind of query, or refuses it, is asked again: here three times, each time with the
 /// same answer.
-const REFUSALS: [(u16, &str); 3] = [
-    (0x8182, "3 ESERVFAIL\n;; id 4660 rcode 2 flags qr rd ra\n"),
-    (0x8184, "5 ENOTIMP\n;; id 4660 rcode 4 flags qr rd ra\n"),
-    (0x8185, "6 EREFUSED\n;; id 4660 rcode 5 flags qr rd ra\n"),
+const REFUSALS: &[Page] = &[
+    Page {
+        message: b"\x12\x34\x81\x82\0\x01\0\0\0\0\0\0\x07example\x03com\0\0\x01\0\x01",
+        status: 1,
+        text: ";; example.com IN A\n;; status 3 ESERVFAIL\n;; id 4660 rcode 2 flags qr rd ra\n",
+    },
+    Page {
+        message: b"\x12\x34\x81\x84\0\x01\0\0\0\0\0\0\x07example\x03com\0\0\x01\0\x01",
+        status: 1,
+        text: ";; example.com IN A\n;; status 5 ENOTIMP\n;; id 4660 rcode 4 flags qr rd ra\n",
+    },
+    Page {
+        message: b"\x12\x34\x81\x85\0\x01\0\0\0\0\0\0\x07example\x03com\0\0\x01\0\x01",
+        status: 1,
+        text: ";; example.com IN A\n;; status 6 EREFUSED\n;; id 4660 rcode 5 flags qr rd ra\n",
+    },
 ];
 
-/// Whether a run that gets three such messages prints a page that ends so, and has asked three times.
-fn ends_behind_three(alloc: Global, flags: u16, end: &str) -> Result<bool, Fail> {
-    let bytes = message(alloc, flags, [0, 0, 0], &[])?;
-    let bytes = bytes.as_slice();
+/// Whether a run that gets the message three times puts the page, and has asked three times.
+fn is_printed_behind_three(alloc: Global, page: &Page) -> Result<bool, Fail> {
+    let bytes = page.message;
     let comings = [comes(1, bytes), comes(2, bytes), comes(3, bytes)];
-    let run = ran(alloc, &case(PLAIN, &comings))?;
-    let page = format!(in alloc; ";; example.com IN A\n;; status {end}")?;
-    Ok(is_put(&run, 1, page.as_str()) && run.sent.len() == 3 * 29)
+    is_page(alloc, &comings, page, 3 * 29)
+}
+
+/// The first of these pages that isn't put so; nothing where each is.
+fn first_unprinted_behind_three<'a>(alloc: Global, pages: &'a [Page]) -> Result<&'a str, Fail> {
+    for page in pages {
+        if !is_printed_behind_three(alloc, page)? {
+            return Ok(page.text);
+        }
+    }
+    Ok("")
 }
 
 #[test]
-fn each_refusal_has_its_status(rt: HostRuntime) -> Result<(), Fail> {
-    let alloc = rt.alloc();
-    for (flags, end) in REFUSALS {
-        assert!(rt; ends_behind_three(alloc, flags, end)?, "{end}");
-    }
+fn each_refusal_has_its_page(rt: HostRuntime) -> Result<(), Fail> {
+    assert_eq!(rt; first_unprinted_behind_three(rt.alloc(), REFUSALS)?, "");
     Ok(())
 }

@@ -1,6 +1,8 @@
 //! What words and resolv.conf set: each option by what goes over the network.
 
-use super::{Scenario, case, comes, ran};
+use super::{Outside, RUN, Scenario, Sent, has_called, has_sent, is_ended, outside_of, played};
+use adig_tool::Ended;
+use scenario::{Coming, Shown, calls_told, journal_told};
 use std::alloc::Global;
 use std::test::Fail;
 
@@ -25,44 +27,57 @@ fn lines_with(text: &str, front: &str) -> usize {
         .count()
 }
 
+/// Whether eight servers are told, each of them is asked ten times, and the first attempt waits for 2 seconds.
+fn are_limited(journal: &str, calls: &str) -> bool {
+    lines_with(calls, "serve ") == 8
+        && lines_with(journal, "start 1 on 7 ") == 10
+        && lines_with(journal, "start ") == 80
+        && journal.starts_with("accept 1\nstart 1 on 0 over 0 at 0\nexpire 1 at 2000\n")
+}
+
+/// Whether a run tells so.
+fn tells_limits(alloc: Global, ended: &Ended, outside: &Outside) -> Result<bool, Fail> {
+    let journal = journal_told(alloc, ended.journal.entries())?;
+    let calls = calls_told(alloc, outside.world.log().calls(), Shown::Servers)?;
+    Ok(are_limited(journal.as_str(), calls.as_str()))
+}
+
+/// Whether a run with the nine servers tells so, and is no success.
+fn is_kept_within_limits(alloc: Global) -> Result<bool, Fail> {
+    let scenario = Scenario {
+        line: "x",
+        resolv: Some(NINE),
+        ..RUN
+    };
+    let mut outside = outside_of(alloc, &scenario)?;
+    let ended = played(alloc, &scenario, &mut outside)?;
+    Ok(is_ended(&ended, 1, 1) && tells_limits(alloc, &ended, &outside)?)
+}
+
 #[test]
 fn a_file_is_kept_within_the_limits(rt: HostRuntime) -> Result<(), Fail> {
-    let alloc = rt.alloc();
-    let mut wanted = case("x", &[]);
-    wanted.resolv = Some(NINE);
-    let run = ran(alloc, &wanted)?;
-    assert_eq!(rt; run.status, 1);
-    assert_eq!(rt; lines_with(run.calls.as_str(), "serve "), 8);
-    assert_eq!(rt; lines_with(run.journal.as_str(), "start 1 on 7 "), 10);
-    assert_eq!(rt; lines_with(run.journal.as_str(), "start "), 80);
-    assert!(rt;
-        run.journal
-            .as_str()
-            .starts_with("accept 1\nstart 1 on 0 over 0 at 0\nexpire 1 at 2000\n")
-    );
+    assert!(rt; is_kept_within_limits(rt.alloc())?);
     Ok(())
 }
 
 /// Two servers of a file.
 const TWO: &[u8] = b"nameserver 192.0.2.7\nnameserver 2001:db8::8\noptions use-vc\n";
 
-/// The calls of a run in silence, with that file and these words, which may make one turn.
-fn called(alloc: Global, line: &str) -> Result<String, Fail> {
-    let wanted = Scenario {
+/// Whether these are the calls of a run in silence, with that file and these words, which may make one turn.
+fn calls_so(alloc: Global, line: &str, calls: &str) -> Result<bool, Fail> {
+    let scenario = Scenario {
         line,
         resolv: Some(TWO),
-        words: &[0x1234],
-        comings: &[],
-        fails: &[],
-        reads_fail: false,
-        puts_fail: false,
         turns: 1,
+        ..RUN
     };
-    Ok(ran(alloc, &wanted)?.calls)
+    let mut outside = outside_of(alloc, &scenario)?;
+    played(alloc, &scenario, &mut outside)?;
+    has_called(alloc, &outside, calls)
 }
 
 /// The words, and the servers, links and waits that come of them and of the file.
-const CALLS: [(&str, &str); 5] = [
+const CALLS: &[(&str, &str)] = &[
     (
         "x",
         "serve 0 of 3221225991 at 53\nserve 1 of 42540766411282592856903984951653826568 at 53\nconnect 0 over 1\nwait to 2000\n",
@@ -85,18 +100,25 @@ const CALLS: [(&str, &str); 5] = [
     ),
 ];
 
+/// The first of these words whose calls are others; nothing where none are.
+fn first_other_calls<'a>(alloc: Global, rows: &'a [(&'a str, &'a str)]) -> Result<&'a str, Fail> {
+    for (line, calls) in rows {
+        if !calls_so(alloc, line, calls)? {
+            return Ok(line);
+        }
+    }
+    Ok("")
+}
+
 #[test]
 fn words_and_file_set_the_servers(rt: HostRuntime) -> Result<(), Fail> {
-    let alloc = rt.alloc();
-    for (line, calls) in CALLS {
-        assert!(rt; called(alloc, line)?.as_str() == calls, "{line}");
-    }
+    assert_eq!(rt; first_other_calls(rt.alloc(), CALLS)?, "");
     Ok(())
 }
 
 /// Words, and the bytes that their one turn sends: type and class, no recursion, no OPT record, and a frame over TCP (RFC 1035,
 /// sections 4.1 and 4.2.2).
-const SENT: [(&str, &[u8]); 4] = [
+const SENT: &[(&str, &[u8])] = &[
     (
         "--no-edns --type MX --class CH x",
         b"\x12\x34\x01\0\0\x01\0\0\0\0\0\0\x01x\0\0\x0f\0\x03",
@@ -115,58 +137,103 @@ const SENT: [(&str, &[u8]); 4] = [
     ),
 ];
 
-/// What a run with these words sends in its first turn.
-fn sent(alloc: Global, line: &'static str) -> Result<Vec<u8>, Fail> {
-    let mut wanted = case(line, &[]);
-    wanted.turns = 1;
-    Ok(ran(alloc, &wanted)?.sent)
+/// Whether a run with these words sends this in its first turn.
+fn sends_so(alloc: Global, line: &str, bytes: &[u8]) -> Result<bool, Fail> {
+    let scenario = Scenario {
+        line,
+        turns: 1,
+        ..RUN
+    };
+    let mut outside = outside_of(alloc, &scenario)?;
+    played(alloc, &scenario, &mut outside)?;
+    has_sent(alloc, &outside, Sent::All(bytes))
+}
+
+/// The first of these words that send something else; nothing where none do.
+fn first_other_sent<'a>(alloc: Global, rows: &'a [(&'a str, &'a [u8])]) -> Result<&'a str, Fail> {
+    for (line, bytes) in rows {
+        if !sends_so(alloc, line, bytes)? {
+            return Ok(line);
+        }
+    }
+    Ok("")
 }
 
 #[test]
 fn words_set_the_query(rt: HostRuntime) -> Result<(), Fail> {
-    let alloc = rt.alloc();
-    for (line, bytes) in SENT {
-        assert!(rt; sent(alloc, line)?.as_slice() == bytes, "{line}");
-    }
+    assert_eq!(rt; first_other_sent(rt.alloc(), SENT)?, "");
     Ok(())
 }
 
-/// A truncated reply, and that of a server that failed (RFC 1035, section 4.1.1).
-const TRUNCATED: &[u8] = b"\x12\x34\x83\x80\0\x01\0\0\0\0\0\0\x01x\0\0\x01\0\x01";
+/// A truncated reply, and that of a server that failed, at moment 1 (RFC 1035, section 4.1.1).
+const TRUNCATED: &[Coming<'static>] = &[Coming::Datagram {
+    from: 1,
+    server: 0,
+    bytes: b"\x12\x34\x83\x80\0\x01\0\0\0\0\0\0\x01x\0\0\x01\0\x01",
+}];
 
-const SERVFAIL: &[u8] = b"\x12\x34\x81\x82\0\x01\0\0\0\0\0\0\x01x\0\0\x01\0\x01";
+const SERVFAIL: &[Coming<'static>] = &[Coming::Datagram {
+    from: 1,
+    server: 0,
+    bytes: b"\x12\x34\x81\x82\0\x01\0\0\0\0\0\0\x01x\0\0\x01\0\x01",
+}];
 
-/// Words, what comes at moment 1, and the page's status: a truncated reply may count, and a failed server's too; with
-/// `--primary` the second server isn't asked.
-const COUNTS: [(&str, &[u8], &str); 3] = [
+/// Runs, and how their pages begin: a truncated reply may count, and a failed server's too; with `--primary` the second
+/// server isn't asked.
+const COUNTS: &[(Scenario<'static>, &str)] = &[
     (
-        "--no-edns --ignore-tc x",
-        TRUNCATED,
+        Scenario {
+            line: "--no-edns --ignore-tc x",
+            comings: TRUNCATED,
+            ..RUN
+        },
         ";; x IN A\n;; status 1 ENODATA\n",
     ),
     (
-        "--no-edns --no-check x",
-        SERVFAIL,
+        Scenario {
+            line: "--no-edns --no-check x",
+            comings: SERVFAIL,
+            ..RUN
+        },
         ";; x IN A\n;; status 3 ESERVFAIL\n",
     ),
     (
-        "--no-edns --primary --tries 1 --server 192.0.2.1,192.0.2.2 x",
-        SERVFAIL,
+        Scenario {
+            line: "--no-edns --primary --tries 1 --server 192.0.2.1,192.0.2.2 x",
+            comings: SERVFAIL,
+            ..RUN
+        },
         ";; x IN A\n;; status 3 ESERVFAIL\n",
     ),
 ];
 
-/// Whether a run with these words to which this comes prints a page that begins so, behind one query.
-fn begins_so(alloc: Global, line: &str, bytes: &[u8], front: &str) -> Result<bool, Fail> {
-    let run = ran(alloc, &case(line, &[comes(1, bytes)]))?;
-    Ok(run.put.starts_with(front.as_bytes()) && run.sent.len() == 19)
+/// Whether a run prints a page that begins so, behind one query of 19 bytes.
+fn begins_so(alloc: Global, scenario: &Scenario<'_>, front: &str) -> Result<bool, Fail> {
+    let mut outside = outside_of(alloc, scenario)?;
+    played(alloc, scenario, &mut outside)?;
+    Ok(puts_front(&outside, front) && has_sent(alloc, &outside, Sent::Last(19, b""))?)
+}
+
+/// Whether what was put begins so.
+fn puts_front(outside: &Outside, front: &str) -> bool {
+    outside.sink.bytes().starts_with(front.as_bytes())
+}
+
+/// The words of the first of these runs whose page begins otherwise; nothing where none does.
+fn first_other_page<'a>(
+    alloc: Global,
+    rows: &'a [(Scenario<'a>, &'a str)],
+) -> Result<&'a str, Fail> {
+    for (scenario, front) in rows {
+        if !begins_so(alloc, scenario, front)? {
+            return Ok(scenario.line);
+        }
+    }
+    Ok("")
 }
 
 #[test]
 fn words_set_what_counts(rt: HostRuntime) -> Result<(), Fail> {
-    let alloc = rt.alloc();
-    for (line, bytes, front) in COUNTS {
-        assert!(rt; begins_so(alloc, line, bytes, front)?, "{line}");
-    }
+    assert_eq!(rt; first_other_page(rt.alloc(), COUNTS)?, "");
     Ok(())
 }

@@ -112,27 +112,32 @@ fn answer_told(alloc: Global, desk: &mut Alone<Quiet>, call: &Call<'_>) -> Resul
     }
 }
 
+/// The bytes of a text.
+fn bytes_of(alloc: Global, text: &[u8]) -> Result<Bytes, Fail> {
+    Ok(Bytes::of(alloc, text)?)
+}
+
 /// The request itself.
 pub fn spec_of(alloc: Global, request: Request<'_>) -> Result<Spec, Fail> {
     Ok(match request {
         Request::Query(name) => Spec::Query {
-            name: Bytes::of(alloc, name)?,
+            name: bytes_of(alloc, name)?,
             kind: KIND_A,
             class: CLASS_IN,
         },
         Request::Search(name) => Spec::Search {
-            name: Bytes::of(alloc, name)?,
+            name: bytes_of(alloc, name)?,
             kind: KIND_A,
             class: CLASS_IN,
         },
         Request::Reverse(address) => Spec::Reverse { address },
         Request::Host(host, family) => Spec::Address {
-            host: Bytes::of(alloc, host)?,
+            host: bytes_of(alloc, host)?,
             family,
             nosort: false,
         },
         Request::Unsorted(host) => Spec::Address {
-            host: Bytes::of(alloc, host)?,
+            host: bytes_of(alloc, host)?,
             family: Family::Any,
             nosort: true,
         },
@@ -166,8 +171,18 @@ fn moved_told(alloc: Global, desk: &mut Alone<Quiet>, step: Move<'_>) -> Result<
     Ok(line.into_bytes())
 }
 
+/// Of a line, which leg of which request begins.
+fn leg_told(alloc: Global, number: u64, leg: u8) -> Result<String, Fail> {
+    Ok(format!(in alloc; "start {number} leg {leg}")?)
+}
+
+/// The rest of it: where the attempt goes, and its identifier.
+fn way_told(alloc: Global, server: u32, link: u64, id: u16) -> Result<String, Fail> {
+    Ok(format!(in alloc; " on {server} over {link} as {id}\n")?)
+}
+
 fn begun_told(alloc: Global, begun: &Begun) -> Result<String, Fail> {
-    Ok(match begun {
+    Ok(match *begun {
         Begun::Started {
             number,
             leg,
@@ -175,7 +190,11 @@ fn begun_told(alloc: Global, begun: &Begun) -> Result<String, Fail> {
             link,
             id,
             ..
-        } => format!(in alloc; "start {number} leg {leg} on {server} over {link} as {id}\n")?,
+        } => {
+            let mut line = leg_told(alloc, number, leg)?;
+            line.push_str(way_told(alloc, server, link, id)?.as_str())?;
+            line
+        }
         Begun::Idle => format!(in alloc; "idle\n")?,
         Begun::NoId => format!(in alloc; "no identifier\n")?,
     })

@@ -45,13 +45,29 @@ fn unchanged(desk: &mut Alone<Quiet>, before: (Counts, Option<u64>)) -> Result<(
     }
 }
 
+fn started(desk: &mut Alone<Quiet>, word: u16, at: u64) -> Result<Moved, NoMemory> {
+    Ok(Moved::Begun(desk.start(word, 0, at)?))
+}
+
+fn arrived(desk: &mut Alone<Quiet>, server: u32, bytes: &[u8]) -> Result<Moved, NoMemory> {
+    Ok(Moved::Landed(desk.arrive(server, 0, bytes)?))
+}
+
+fn expired(desk: &mut Alone<Quiet>, at: u64) -> Result<Moved, NoMemory> {
+    Ok(Moved::Lapse(desk.expire(at)?))
+}
+
+fn failed(desk: &mut Alone<Quiet>, link: u64) -> Result<Moved, NoMemory> {
+    Ok(Moved::Failed(desk.fault(0, link, 0)?))
+}
+
 fn tried(desk: &mut Alone<Quiet>, step: Move<'_>) -> Result<Moved, NoMemory> {
-    Ok(match step {
-        Move::Start(word, at) => Moved::Begun(desk.start(word, 0, at)?),
-        Move::Arrive(server, bytes) => Moved::Landed(desk.arrive(server, 0, bytes)?),
-        Move::Expire(at) => Moved::Lapse(desk.expire(at)?),
-        Move::Fault(link) => Moved::Failed(desk.fault(0, link, 0)?),
-    })
+    match step {
+        Move::Start(word, at) => started(desk, word, at),
+        Move::Arrive(server, bytes) => arrived(desk, server, bytes),
+        Move::Expire(at) => expired(desk, at),
+        Move::Fault(link) => failed(desk, link),
+    }
 }
 
 /// What a channel answers this call.
