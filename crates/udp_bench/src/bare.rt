@@ -21,6 +21,7 @@ pub fn ask<R: Net + CpuClock>(rt: &R, load: &Load) -> io::Result<Spent> {
     Ok(Spent {
         answered,
         nanos: rt.thread_cpu_time()?.saturating_sub(begun).as_nanos(),
+        at_end: 0,
     })
 }
 

@@ -26,16 +26,23 @@ struct Asking {
     ended: u64,
 }
 
-/// Asks the queries of the load, so many of them at once, each tried once.
+/// Asks the queries of the load, so many of them at once, each tried once. What is timed is the asking, as of the bare
+/// loop: the channel is made before, and dropped with its journal behind it, which is timed apart.
 pub fn ask(rt: HostRuntime, load: &Load) -> io::Result<Spent> {
-    let begun = rt.thread_cpu_time()?;
-    let answered = match asked(rt, load) {
-        Ok(answered) => answered,
-        Err(NoMemory) => return Err(io::ErrorKind::OutOfMemory.into()),
+    let Ok(mut asking) = Asking::make(rt, load) else {
+        return Err(io::ErrorKind::OutOfMemory.into());
     };
+    let begun = rt.thread_cpu_time()?;
+    if asking.ask_all(load).is_err() {
+        return Err(io::ErrorKind::OutOfMemory.into());
+    }
+    let ended = rt.thread_cpu_time()?;
+    let answered = asking.answered;
+    drop(asking);
     Ok(Spent {
         answered,
-        nanos: rt.thread_cpu_time()?.saturating_sub(begun).as_nanos(),
+        nanos: ended.saturating_sub(begun).as_nanos(),
+        at_end: rt.thread_cpu_time()?.saturating_sub(ended).as_nanos(),
     })
 }
 
@@ -56,69 +63,82 @@ fn options_for(alloc: Global, port: u16) -> Result<Options, NoMemory> {
     Ok(options)
 }
 
-/// How many of the queries were answered.
-fn asked(rt: HostRuntime, load: &Load) -> Result<u64, NoMemory> {
-    let alloc = rt.alloc();
-    let options = options_for(alloc, load.port)?;
-    let mut world = SockWorld::make(rt)?;
-    let runner = Runner::make(alloc, &mut world, &options)?;
-    let mut asking = Asking {
-        alloc,
-        desk: Alone::make(alloc, options, Hosts::empty(alloc))?,
-        runner,
-        world,
-        asked: 0,
-        answered: 0,
-        ended: 0,
-    };
-    asking.fill(load)?;
-    for _ in 0..u64::MAX {
-        if asking.ended >= load.count {
-            break;
-        }
-        asking.go_on(load)?;
-    }
-    Ok(asking.answered)
-}
-
 impl Asking {
-    /// Accepts requests until as many are pending as the window has, or all were asked.
-    fn fill(&mut self, load: &Load) -> Result<(), NoMemory> {
-        for _ in 0..load.window {
-            if self.asked >= load.count || self.asked.saturating_sub(self.ended) >= load.window {
-                return Ok(());
+    /// A channel that was asked nothing yet.
+    fn make(rt: HostRuntime, load: &Load) -> Result<Asking, NoMemory> {
+        let alloc = rt.alloc();
+        let options = options_for(alloc, load.port)?;
+        let mut world = SockWorld::make(rt)?;
+        let runner = Runner::make(alloc, &mut world, &options)?;
+        Ok(Asking {
+            alloc,
+            desk: Alone::make(alloc, options, Hosts::empty(alloc))?,
+            runner,
+            world,
+            asked: 0,
+            answered: 0,
+            ended: 0,
+        })
+    }
+
+    /// Asks all, and goes on until the last one has ended.
+    fn ask_all(&mut self, load: &Load) -> Result<(), NoMemory> {
+        self.fill(load)?;
+        for _ in 0..u64::MAX {
+            if self.ended >= load.count {
+                break;
             }
-            let spec = Spec::Query {
-                name: Bytes::of(self.alloc, b"example.com")?,
-                kind: 1,
-                class: 1,
-            };
-            if self.desk.accept(spec, Quiet::new(self.alloc)).is_err() {
-                return Err(NoMemory);
-            }
-            self.asked = self.asked.saturating_add(1);
+            self.go_on(load)?;
         }
         Ok(())
     }
 
-    /// Takes what is ready.
-    fn take_all(&mut self, load: &Load) {
-        for _ in 0..load.window {
-            let Some(ticket) = self.desk.take() else {
-                return;
-            };
-            if ticket.answer().status == Status::Success {
-                self.answered = self.answered.saturating_add(1);
-            }
-            self.ended = self.ended.saturating_add(1);
+    /// Asks the next query, unless all were asked.
+    fn ask_next(&mut self, load: &Load) -> Result<(), NoMemory> {
+        if self.asked >= load.count {
+            return Ok(());
         }
+        let spec = Spec::Query {
+            name: Bytes::of(self.alloc, b"example.com")?,
+            kind: 1,
+            class: 1,
+        };
+        if self.desk.accept(spec, Quiet::new(self.alloc)).is_err() {
+            return Err(NoMemory);
+        }
+        self.asked = self.asked.saturating_add(1);
+        Ok(())
     }
 
-    /// A turn, what is ready behind it, further requests, and a pause.
+    /// Takes a ticket, if one is ready, and answers whether one was.
+    fn take_next(&mut self) -> bool {
+        let Some(ticket) = self.desk.take() else {
+            return false;
+        };
+        if ticket.answer().status == Status::Success {
+            self.answered = self.answered.saturating_add(1);
+        }
+        self.ended = self.ended.saturating_add(1);
+        true
+    }
+
+    /// Asks as many queries as are in flight at once.
+    fn fill(&mut self, load: &Load) -> Result<(), NoMemory> {
+        for _ in 0..load.window {
+            self.ask_next(load)?;
+        }
+        Ok(())
+    }
+
+    /// A turn, a further query for each that has its answer, as of the bare loop, and a pause.
     fn go_on(&mut self, load: &Load) -> Result<(), NoMemory> {
         let _turned = self.runner.turn(&mut self.desk, &mut self.world)?;
-        self.take_all(load);
-        self.fill(load)?;
+        for _ in 0..load.window {
+            if !self.take_next() {
+                break;
+            }
+            self.ask_next(load)?;
+        }
         let _paused = self
             .runner
             .pause(&mut self.desk, &mut self.world, u64::MAX)?;

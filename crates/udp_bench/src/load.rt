@@ -13,12 +13,19 @@ pub struct Load {
 pub struct Spent {
     pub answered: u64,
     pub nanos: u128,
+    /// What it took to drop what was kept, in nanoseconds.
+    pub at_end: u128,
 }
 
 impl Spent {
     /// The processor time of each query of the load.
     pub fn each(&self, load: &Load) -> u128 {
         self.nanos / u128::from(load.count.max(1))
+    }
+
+    /// What it took for each query to drop what was kept.
+    pub fn each_at_end(&self, load: &Load) -> u128 {
+        self.at_end / u128::from(load.count.max(1))
     }
 
     /// How many queries of the load weren't answered.

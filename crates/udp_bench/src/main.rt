@@ -34,12 +34,13 @@ fn ask(rt: HostRuntime, load: &Load) -> io::Result<()> {
     let bare = bare::ask(&rt, load)?;
     let channel = channel::ask(rt, load)?;
     println!(rt;
-        "window {}: the loop {} ns a query, {} lost; the channel {} ns, {} lost; {} percent",
+        "window {}: the loop {} ns a query, {} lost; the channel {} ns, {} lost; {} percent; {} ns at its end",
         load.window,
         bare.each(load),
         bare.lost(load),
         channel.each(load),
         channel.lost(load),
-        channel.each(load).saturating_mul(100) / bare.each(load).max(1)
+        channel.each(load).saturating_mul(100) / bare.each(load).max(1),
+        channel.each_at_end(load)
     )
 }
