@@ -63,7 +63,7 @@ impl Port {
     }
 
     /// Sends a datagram. Where the system hands out an earlier refusal in its place, it is sent again, and the refusal is
-    /// told later. One for which there is no room is lost.
+    /// told later, behind what has come. One for which there is no room is lost.
     pub(crate) fn send(&mut self, bytes: &[u8]) -> Sent {
         let mut refused = false;
         for _ in 0..TRIES {
@@ -71,6 +71,7 @@ impl Port {
                 Moved::Done(_) | Moved::Blocked => {
                     self.asked = self.asked.saturating_add(1);
                     self.refused |= refused;
+                    self.rests &= !refused;
                     return Sent::Sent;
                 }
                 Moved::Again => {}
@@ -87,13 +88,13 @@ impl Port {
 
     /// Whether that is looked for before a wait.
     pub(crate) fn is_pending(&self) -> bool {
-        self.may_bring() && !self.is_resting()
+        self.may_bring() && !self.rests
     }
 
     /// Whether it is left alone until a wait is over. A receive that finds nothing costs as much as one that brings a reply,
     /// and where each query has its reply there is mostly nothing more.
     pub(crate) fn is_resting(&self) -> bool {
-        self.rests && !self.refused
+        self.rests
     }
 
     /// A wait is over: what came beside the replies is looked for now.
