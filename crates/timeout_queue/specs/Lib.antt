@@ -1,3 +1,4 @@
+pub mod Hashing
 pub mod Key
 pub mod Queue
 pub mod Rows

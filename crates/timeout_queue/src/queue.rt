@@ -3,16 +3,16 @@ ghost use Rattle.std.specs.Prelude.{◌≡◌, false, MatchOption, OnOk, OnErr};
 ghost use Rattle.std.specs.FinMap as map;
 ghost use Rattle.timeout_queue.specs.Queue.{IsFirst};
 
+use crate::by_number::{ByNumber, Moments};
 use crate::key::{Deadline, Key};
 use crate::rows::Rows;
 use std::alloc::{AllocError, Global};
-use std::collections::HashMap;
 use std::marker::Model;
 
 /// Deadlines: for each key that is in the queue, the moment at which it is due, in milliseconds.
 #[derive(Drop)]
 pub struct Queue {
-    moments: HashMap<Key, u64>,
+    moments: Moments,
     rows: Rows,
 }
 
@@ -36,7 +36,7 @@ impl Queue {
         ensures { result ≡ map.empty }
     {
         Queue {
-            moments: HashMap::new(alloc),
+            moments: Moments::with_hasher(alloc, ByNumber::new()),
             rows: Rows::new(alloc),
         }
     }

@@ -10,9 +10,10 @@ ghost use Rattle.std.specs.Option.{option_copied};
 ghost use Rattle.timeout_queue.specs.Rows.{AreLed, HoldsAll, LeavesTree, is_live, IsBehind, IsRising, IsLed, KeepsLive, Thins, AddsLive, DropsLive, Extends, HaveLive, IsFirstLive, sooner_of};
 ghost use Rattle.timeout_queue.specs.declared.key.Deadline.{Deadline};
 
+use crate::by_number::Moments;
 use crate::key::{Deadline, Key};
 use std::alloc::{AllocError, Global};
-use std::collections::{BTreeSet, HashMap, VecDeque};
+use std::collections::{BTreeSet, VecDeque};
 
 /// Deadlines in their order.
 #[derive(Drop)]
@@ -36,11 +37,7 @@ impl Rows {
 
     /// Takes in a deadline whose key isn't among the moments yet.
     #[inline(always)]
-    pub(crate) fn add(
-        &mut self,
-        moments: &HashMap<Key, u64>,
-        deadline: Deadline,
-    ) -> Result<(), AllocError>
+    pub(crate) fn add(&mut self, moments: &Moments, deadline: Deadline) -> Result<(), AllocError>
         requires { HaveLive (is_live moments.now) self.old }
         ensures ok { OnOk result ((after : Deadline → Bool)
             → AddsLive (is_live moments.now) deadline after → HaveLive after self.new) }
@@ -58,7 +55,7 @@ impl Rows {
 
     /// Takes out a deadline whose key was among the moments.
     #[inline(always)]
-    pub(crate) fn remove(&mut self, moments: &HashMap<Key, u64>, deadline: Deadline)
+    pub(crate) fn remove(&mut self, moments: &Moments, deadline: Deadline)
         requires { (before : Deadline → Bool) × HaveLive before self.old
             × DropsLive before deadline (is_live moments.now) }
         ensures { HaveLive (is_live moments.now) self.new }
@@ -75,7 +72,7 @@ impl Rows {
 
     // No deadline that was dropped is left: there are as many as there are keys.
     #[inline(always)]
-    fn all_stand(&self, moments: &HashMap<Key, u64>) -> bool
+    fn all_stand(&self, moments: &Moments) -> bool
         ensures { result ≡ true → HoldsAll (is_live moments.now) self.now
             → AreLed (is_live moments.now) self.now }
     {
@@ -117,7 +114,7 @@ fn fits(row: &VecDeque<Deadline>, deadline: Deadline) -> bool
 #[inline(always)]
 fn push(
     row: &mut VecDeque<Deadline>,
-    moments: &HashMap<Key, u64>,
+    moments: &Moments,
     deadline: Deadline,
 ) -> Result<(), AllocError>
     requires rising { IsRising row.old.items }
@@ -134,7 +131,7 @@ fn push(
 }
 
 // Takes out what was dropped.
-fn thin(row: &mut VecDeque<Deadline>, moments: &HashMap<Key, u64>)
+fn thin(row: &mut VecDeque<Deadline>, moments: &Moments)
     ensures { Thins (is_live moments.now) row.old.items row.new.items }
 {
     row.retain(
@@ -146,7 +143,7 @@ fn thin(row: &mut VecDeque<Deadline>, moments: &HashMap<Key, u64>)
 
 // Whether the deadline's key is due at its moment.
 #[inline(always)]
-fn stands(moments: &HashMap<Key, u64>, deadline: Deadline) -> bool
+fn stands(moments: &Moments, deadline: Deadline) -> bool
     ensures { result ≡ is_live moments.now deadline }
 {
     match moments.get(&deadline.key) {
@@ -187,7 +184,7 @@ fn begins_with(row: &VecDeque<Deadline>, deadline: Deadline) -> bool
 
 // Takes out what was dropped before the first that wasn't, where the first of the row has left.
 #[inline(always)]
-fn settle(row: &mut VecDeque<Deadline>, moments: &HashMap<Key, u64>, left: bool)
+fn settle(row: &mut VecDeque<Deadline>, moments: &Moments, left: bool)
     ensures keeps { KeepsLive (is_live moments.now) row.old.items row.new.items }
     ensures led { (left ≡ false → IsLed (λ d. is_live moments.now d ≡ true) row.old.items)
         → IsLed (λ d. is_live moments.now d ≡ true) row.new.items }
@@ -199,7 +196,7 @@ fn settle(row: &mut VecDeque<Deadline>, moments: &HashMap<Key, u64>, left: bool)
 
 // Takes out what was dropped, up to the first that wasn't.
 #[inline(never)]
-fn drop_stale(row: &mut VecDeque<Deadline>, moments: &HashMap<Key, u64>)
+fn drop_stale(row: &mut VecDeque<Deadline>, moments: &Moments)
     ensures keeps { KeepsLive (is_live moments.now) row.old.items row.new.items }
     ensures led { IsLed (λ d. is_live moments.now d ≡ true) row.new.items }
 {
