@@ -21,8 +21,8 @@ use std::test::Fail;
 use telling::answers_told;
 
 /// A run: its words, parted by blanks; its files, where they are; the datagrams that come of its first server at moment 1,
-/// one after the other; which calls of the network fail, by their numbers from 0; which read fails, and whether the put
-/// does; how many turns it may make; and the bodies of its callbacks.
+/// one after the other; which calls of the network fail, which reads and which puts, by their numbers from 0; how many turns
+/// it may make; and the bodies of its callbacks.
 #[derive(Clone, Copy)]
 struct Scenario<'a> {
     line: &'a str,
@@ -30,27 +30,25 @@ struct Scenario<'a> {
     hosts: Option<&'a [u8]>,
     replies: &'a [&'a [u8]],
     fails: &'a [u64],
-    read_fails: Option<u64>,
-    puts_fail: bool,
+    read_fails: &'a [u64],
+    put_fails: &'a [u64],
     turns: u64,
     bodies: Bodies<'a>,
 }
 
-/// A run with these words, on which these datagrams come. There are no files, nothing fails, and it may make 1,000 turns and
-/// has eight bodies of the program's.
-fn plain<'a>(line: &'a str, replies: &'a [&'a [u8]]) -> Scenario<'a> {
-    Scenario {
-        line,
-        resolv: None,
-        hosts: None,
-        replies,
-        fails: &[],
-        read_fails: None,
-        puts_fail: false,
-        turns: 1000,
-        bodies: Bodies::Reports(8),
-    }
-}
+/// A run without words, on which nothing comes. There are no files, nothing fails, and it may make 1,000 turns and has eight
+/// bodies of the program's.
+const RUN: Scenario<'static> = Scenario {
+    line: "",
+    resolv: None,
+    hosts: None,
+    replies: &[],
+    fails: &[],
+    read_fails: &[],
+    put_fails: &[],
+    turns: 1000,
+    bodies: Bodies::Reports(8),
+};
 
 /// What a run has to leave: its exit status and what it put; and the lines of its journal, of its network's calls, and of the
 /// calls of its callbacks.
@@ -63,32 +61,28 @@ struct Wanted<'a> {
     answers: &'a str,
 }
 
-/// The file with these bytes.
-fn file(bytes: &[u8]) -> Option<&[u8]> {
-    Some(bytes)
+/// A run, what it shows, and what it has to leave.
+#[derive(Clone, Copy)]
+struct Case {
+    shows: &'static str,
+    run: Scenario<'static>,
+    wanted: Wanted<'static>,
 }
 
 /// Whether a run leaves this.
 fn leaves(alloc: Global, scenario: &Scenario<'_>, wanted: &Wanted<'_>) -> Result<bool, Fail> {
-    let (ended, outside) = played(alloc, scenario)?;
-    is_left(alloc, &ended, &outside, wanted)
+    leaves_in(alloc, scenario, &mut outside_of(alloc, scenario)?, wanted)
 }
 
-/// Plays a run.
-fn played(alloc: Global, scenario: &Scenario<'_>) -> Result<(Ended, Outside), Fail> {
-    let words = words_of(alloc, scenario.line)?;
-    let mut outside = outside_of(alloc, scenario)?;
-    let bodies = bodies_for(alloc, scenario.bodies)?;
-    let ended = run(
-        alloc,
-        words.as_slice(),
-        bodies,
-        &mut outside.files,
-        &mut outside.world,
-        &mut outside.sink,
-        scenario.turns,
-    );
-    Ok((ended, outside))
+/// The same where it is lent this. A check is long where what a run is lent may be dropped behind a `?`.
+fn leaves_in(
+    alloc: Global,
+    scenario: &Scenario<'_>,
+    outside: &mut Outside,
+    wanted: &Wanted<'_>,
+) -> Result<bool, Fail> {
+    let ended = played(alloc, scenario, outside)?;
+    is_left(alloc, &ended, outside, wanted)
 }
 
 /// Whether a run that ended so has left this.
@@ -98,8 +92,22 @@ fn is_left(
     outside: &Outside,
     wanted: &Wanted<'_>,
 ) -> Result<bool, Fail> {
-    let is_put = ended.status == wanted.status && outside.sink.bytes() == wanted.put.as_bytes();
-    Ok(is_put && is_told(alloc, ended, outside, wanted)?)
+    let is_so = ended.status == wanted.status && is_put(outside, wanted.put);
+    Ok(is_so && is_told(alloc, ended, outside, wanted)?)
+}
+
+/// Plays a run.
+fn played(alloc: Global, scenario: &Scenario<'_>, outside: &mut Outside) -> Result<Ended, Fail> {
+    let words = words_of(alloc, scenario.line)?;
+    let bodies = bodies_for(alloc, scenario.bodies)?;
+    let Outside { files, world, sink } = outside;
+    let turns = scenario.turns;
+    Ok(run(alloc, words.as_slice(), bodies, files, world, sink, turns))
+}
+
+/// Whether this was put.
+fn is_put(outside: &Outside, text: &str) -> bool {
+    outside.sink.bytes() == text.as_bytes()
 }
 
 /// Whether its journal, its network's calls and those of its callbacks are told by the wanted lines.

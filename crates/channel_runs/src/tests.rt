@@ -17,7 +17,7 @@ mod sorting;
 mod strays;
 
 use calls::{Call, Request, answers_told, channel_of};
-use chan_types::Quiet;
+use chan_types::{Entry, Quiet};
 use channel_model::Desk;
 use channel_table::Alone;
 use event_runner::Runner;
@@ -142,12 +142,10 @@ fn played(run: &mut Run, turns: u64) -> Result<(), Fail> {
     Ok(())
 }
 
-/// A run of these calls, and then of its turns.
-fn played_with(alloc: Global, scene: &Scene<'_>, calls: &[Call<'_>]) -> Result<Run, Fail> {
-    let mut run = begun(alloc, scene)?;
-    make_calls(alloc, &mut run, calls)?;
-    played(&mut run, scene.turns)?;
-    Ok(run)
+/// These calls, and then so many turns.
+fn play(alloc: Global, run: &mut Run, calls: &[Call<'_>], turns: u64) -> Result<(), Fail> {
+    make_calls(alloc, run, calls)?;
+    played(run, turns)
 }
 
 /// The first status that was taken, or 100.
@@ -164,11 +162,22 @@ fn desk_of(run: Run) -> Alone<Quiet> {
     desk
 }
 
-/// Whether the journal of a channel is told by these lines.
-fn has_journal(alloc: Global, desk: Alone<Quiet>, lines: &str) -> Result<bool, Fail> {
-    let journal = desk.close();
-    let told = journal_told(alloc, journal.entries())?;
+/// Whether entries are told by these lines.
+fn are_told(alloc: Global, entries: &[Entry], lines: &str) -> Result<bool, Fail> {
+    let told = journal_told(alloc, entries)?;
     Ok(told.as_str() == lines)
+}
+
+/// Whether it was so before, and the journal of the channel is told by these lines. The channel is closed before a
+/// failure goes on: a check is long where a channel may be dropped behind a `?`.
+fn closes_so(
+    alloc: Global,
+    was_so: Result<bool, Fail>,
+    desk: Alone<Quiet>,
+    lines: &str,
+) -> Result<bool, Fail> {
+    let journal = desk.close();
+    Ok(was_so? && are_told(alloc, journal.entries(), lines)?)
 }
 
 /// Whether the calls of the network that connect, close and wait are told by these lines.
@@ -177,19 +186,36 @@ fn has_heard(alloc: Global, run: &Run, lines: &str) -> Result<bool, Fail> {
     Ok(told.as_str() == lines)
 }
 
-/// Whether a run came to this.
-fn ended_so(alloc: Global, run: Run, end: &End<'_>) -> Result<bool, Fail> {
-    let heard = has_heard(alloc, &run, end.calls)?;
-    let taken = status_of(&run) == end.status;
-    Ok(has_journal(alloc, desk_of(run), end.journal)? && heard && taken)
+/// Whether a run came to this, but for its journal.
+fn is_left(alloc: Global, run: &Run, end: &End<'_>) -> Result<bool, Fail> {
+    Ok(status_of(run) == end.status && has_heard(alloc, run, end.calls)?)
 }
 
-/// A run of one request, for the addresses of IPv4 that example.com has.
-fn played_alone(alloc: Global, scene: &Scene<'_>) -> Result<Run, Fail> {
-    played_with(alloc, scene, &[ASK])
+/// Whether these calls, and then so many turns, come to this, but for the journal.
+fn is_played_so(
+    alloc: Global,
+    run: &mut Run,
+    calls: &[Call<'_>],
+    turns: u64,
+    end: &End<'_>,
+) -> Result<bool, Fail> {
+    play(alloc, run, calls, turns)?;
+    is_left(alloc, run, end)
 }
 
-/// Whether a run of one request comes to this.
+/// Whether a run of these calls, and then of its turns, comes to this.
+fn plays_so(
+    alloc: Global,
+    scene: &Scene<'_>,
+    calls: &[Call<'_>],
+    end: &End<'_>,
+) -> Result<bool, Fail> {
+    let mut run = begun(alloc, scene)?;
+    let is_so = is_played_so(alloc, &mut run, calls, scene.turns, end);
+    closes_so(alloc, is_so, desk_of(run), end.journal)
+}
+
+/// Whether a run of one request, for the addresses of IPv4 that example.com has, comes to this.
 fn ends_so(alloc: Global, scene: &Scene<'_>, end: &End<'_>) -> Result<bool, Fail> {
-    ended_so(alloc, played_alone(alloc, scene)?, end)
+    plays_so(alloc, scene, &[ASK], end)
 }

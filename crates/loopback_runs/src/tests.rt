@@ -6,7 +6,7 @@ mod engine;
 use adig_tool::run as ask;
 use bound::Bound;
 use item_list::Bytes;
-use net_world::{MemFiles, MemSink, Sent};
+use net_world::{MemFiles, MemSink, Sent, World};
 use sock_engine::SockWorld;
 use sock_listener::RealListener;
 use std::alloc::Global;
@@ -14,6 +14,7 @@ use std::collections::BTreeMap;
 use std::net::{Ipv4Addr, Net, SocketAddr, UdpSocket};
 use std::test::Fail;
 use std::thread;
+use std::thread::Threads;
 use test_nameserver::{Listener, run as serve};
 
 /// The zone: an address, and an alias of it.
@@ -25,12 +26,12 @@ fn free_port<R: Net>(rt: &R) -> Result<u16, Fail> {
     Ok(UdpSocket::bind(rt, any)?.local_addr()?.port())
 }
 
-/// Files with one at this path, or none.
-fn files_of(alloc: Global, path: &str, text: &[u8]) -> Result<MemFiles, Fail> {
+/// Files of which `z` is the zone.
+fn zone_files(alloc: Global) -> Result<MemFiles, Fail> {
+    let path = String::from_str(alloc, "z")?;
+    let bytes = Bytes::of(alloc, ZONE)?;
     let mut files = BTreeMap::new(alloc);
-    if !path.is_empty() {
-        files.insert(String::from_str(alloc, path)?, Bytes::of(alloc, text)?)?;
-    }
+    files.insert(path, bytes)?;
     Ok(MemFiles::make(files, Vec::new(alloc)))
 }
 
@@ -41,9 +42,8 @@ fn served<L: Listener>(alloc: Global, port: &str, files: &mut MemFiles, listener
     serve(alloc, words.as_slice(), files, &mut sink, listener)
 }
 
-/// Asks the nameserver at the port with these words. Answers the exit status of `adig`, and what it put.
-fn asked(rt: HostRuntime, port: &str, line: &str) -> Result<(u8, Vec<u8>), Fail> {
-    let alloc = rt.alloc();
+/// The words that ask the nameserver at the port, and those of a line.
+fn words_for<'a>(alloc: Global, port: &'a str, line: &'a str) -> Result<Vec<&'a str>, Fail> {
     let mut words = Vec::new(alloc);
     for word in ["--server", "127.0.0.1", "--port", port] {
         words.push(word)?;
@@ -51,17 +51,28 @@ fn asked(rt: HostRuntime, port: &str, line: &str) -> Result<(u8, Vec<u8>), Fail>
     for word in line.split(' ') {
         words.push(word)?;
     }
-    let mut world = SockWorld::make(rt)?;
+    Ok(words)
+}
+
+/// The exit status of `adig` with these words, over this network and without files.
+fn status_of<W: World>(alloc: Global, words: &[&str], world: &mut W, sink: &mut MemSink) -> u8 {
+    let mut files = MemFiles::make(BTreeMap::new(alloc), Vec::new(alloc));
+    ask(alloc, words, &mut files, world, sink, 1000).status
+}
+
+/// Whether `adig` with these words, over this network, ends and puts its page as the case has it.
+fn is_answered<W: World>(alloc: Global, words: &[&str], world: &mut W, case: &Case) -> bool {
     let mut sink = MemSink::make(Vec::new(alloc));
-    let ended = ask(
-        alloc,
-        words.as_slice(),
-        &mut files_of(alloc, "", b"")?,
-        &mut world,
-        &mut sink,
-        1000,
-    );
-    Ok((ended.status, sink.bytes().to_vec(alloc)?))
+    let status = status_of(alloc, words, world, &mut sink);
+    status == case.status && is_between(sink.bytes(), case.head, case.tail)
+}
+
+/// Whether `adig`, over its real network, is answered by the nameserver at the port as the case has it.
+fn asked(rt: HostRuntime, port: &str, case: &Case) -> Result<bool, Fail> {
+    let alloc = rt.alloc();
+    let words = words_for(alloc, port, case.line)?;
+    let mut world = SockWorld::make(rt)?;
+    Ok(is_answered(alloc, words.as_slice(), &mut world, case))
 }
 
 /// A question, the exit status, and the page: up to the identifier, which is drawn at random, and behind it.
@@ -121,22 +132,30 @@ fn listening(rt: HostRuntime) -> Result<(Bound<RealListener<HostRuntime>>, u16),
     }
 }
 
+/// The digits of a port.
+fn digits_of(alloc: Global, port: u16) -> Result<String, Fail> {
+    Ok(format!(in alloc; "{port}")?)
+}
+
+/// Whether the nameserver, in a thread, and `adig` end as the case has it.
+fn is_served<R: Threads>(threads: &R, rt: HostRuntime, case: &Case) -> Result<bool, Fail> {
+    let alloc = rt.alloc();
+    let (mut listener, number) = listening(rt)?;
+    let mut files = zone_files(alloc)?;
+    let own = digits_of(alloc, number)?;
+    let port = digits_of(alloc, number)?;
+    let child = thread::spawn(threads, move || {
+        served(alloc, own.as_str(), &mut files, &mut listener)
+    })?;
+    let is_answered = asked(rt, port.as_str(), case)?;
+    Ok(child.join(threads) == 0 && is_answered)
+}
+
 /// Over UDP and TCP, while the nameserver serves in a thread: an address, an alias, and a name that isn't there.
 #[test]
 fn adig_asks_the_nameserver(rt: HostRuntime) -> Result<(), Fail> {
-    let alloc = rt.alloc();
     for case in CASES {
-        let (mut listener, number) = listening(rt)?;
-        let mut files = files_of(alloc, "z", ZONE)?;
-        let port = format!(in alloc; "{number}")?;
-        let own = format!(in alloc; "{number}")?;
-        let child = thread::spawn(&rt, move || {
-            served(alloc, own.as_str(), &mut files, &mut listener)
-        })?;
-        let (status, page) = asked(rt, port.as_str(), case.line)?;
-        assert_eq!(rt; child.join(&rt), 0);
-        assert_eq!(rt; status, case.status);
-        assert!(rt; is_between(page.as_slice(), case.head, case.tail));
+        assert!(rt; is_served(&rt, rt, case)?, "{}", case.line);
     }
     Ok(())
 }

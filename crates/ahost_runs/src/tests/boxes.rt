@@ -4,7 +4,7 @@ ghost use Rattle.std.specs.Prelude.{◌≡◌, IfOk, None};
 
 use super::bodies::report_script;
 use super::outside::outside_of;
-use super::plain;
+use super::{RUN, Scenario};
 use ahost_tool::run_boxed;
 use chan_types::{Addr, Answer, Refusal, Script};
 use completion_ticket::{Done, Hand, Scripted};
@@ -127,7 +127,10 @@ fn run_with(
     boxes.push(Box::new(alloc, recording_body(alloc, first)?)?)?;
     boxes.push(Box::new(alloc, recording_body(alloc, second)?)?)?;
     boxes.push(Box::new(alloc, recording_body(alloc, third)?)?)?;
-    let scenario = plain("192.0.2.1 x.onion", &[]);
+    let scenario = Scenario {
+        line: "192.0.2.1 x.onion",
+        ..RUN
+    };
     let words = words_of(alloc, scenario.line)?;
     let mut outside = outside_of(alloc, &scenario)?;
     run_boxed(

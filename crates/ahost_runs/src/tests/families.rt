@@ -1,6 +1,6 @@
 //! Addresses that come over the network, of both families and of one.
 
-use super::{Wanted, leaves, plain};
+use super::{Case, RUN, Scenario, Wanted, leaves};
 use std::test::Fail;
 
 /// The replies for `www.example.test.` A and AAAA: 192.0.2.1, and 2001:db8::5 (RFC 1035, section 4.1; RFC 3596).
@@ -22,49 +22,48 @@ destroy
 ";
 
 /// Both families are asked and sorted (RFC 6724, section 6: an address of IPv6 has the greater precedence).
-#[test]
-fn both_families_are_asked(rt: HostRuntime) -> Result<(), Fail> {
-    let scenario = plain(
-        "--server 192.0.2.53 --no-edns www.example.test.",
-        &[FOUR, SIX],
-    );
-    let wanted = Wanted {
+const BOTH_FAMILIES_ARE_ASKED: Case = Case {
+    shows: "both families are asked",
+    run: Scenario {
+        line: "--server 192.0.2.53 --no-edns www.example.test.",
+        replies: &[FOUR, SIX],
+        ..RUN
+    },
+    wanted: Wanted {
         status: 0,
         put: "www.example.test. 0 SUCCESS\n  2001:db8::5\n  192.0.2.1\n",
         journal: BOTH_ANSWERED,
         network: BOTH_ASKED,
         answers: "1 status 0\n",
-    };
-    assert!(rt; leaves(rt.alloc(), &scenario, &wanted)?);
-    Ok(())
-}
+    },
+};
 
 /// Without sorting the address of IPv4 comes first.
-#[test]
-fn both_families_are_left_unsorted(rt: HostRuntime) -> Result<(), Fail> {
-    let scenario = plain(
-        "--server 192.0.2.53 --no-edns --no-sort www.example.test.",
-        &[FOUR, SIX],
-    );
-    let wanted = Wanted {
+const BOTH_FAMILIES_ARE_LEFT_UNSORTED: Case = Case {
+    shows: "both families are left unsorted",
+    run: Scenario {
+        line: "--server 192.0.2.53 --no-edns --no-sort www.example.test.",
+        replies: &[FOUR, SIX],
+        ..RUN
+    },
+    wanted: Wanted {
         status: 0,
         put: "www.example.test. 0 SUCCESS\n  192.0.2.1\n  2001:db8::5\n",
         journal: BOTH_ANSWERED,
         network: BOTH_ASKED,
         answers: "1 status 0\n",
-    };
-    assert!(rt; leaves(rt.alloc(), &scenario, &wanted)?);
-    Ok(())
-}
+    },
+};
 
 /// One family is silent, and times out: what the other has is found.
-#[test]
-fn one_family_is_enough(rt: HostRuntime) -> Result<(), Fail> {
-    let scenario = plain(
-        "--server 192.0.2.53 --no-edns --tries 1 www.example.test.",
-        &[FOUR],
-    );
-    let wanted = Wanted {
+const ONE_FAMILY_IS_ENOUGH: Case = Case {
+    shows: "one family is enough",
+    run: Scenario {
+        line: "--server 192.0.2.53 --no-edns --tries 1 www.example.test.",
+        replies: &[FOUR],
+        ..RUN
+    },
+    wanted: Wanted {
         status: 0,
         put: "www.example.test. 0 SUCCESS\n  192.0.2.1\n",
         journal: "accept 1
@@ -82,19 +81,18 @@ wait to 2000
 wait to 2000
 ",
         answers: "1 status 0\n",
-    };
-    assert!(rt; leaves(rt.alloc(), &scenario, &wanted)?);
-    Ok(())
-}
+    },
+};
 
 /// One family is asked alone.
-#[test]
-fn one_family_is_asked(rt: HostRuntime) -> Result<(), Fail> {
-    let scenario = plain(
-        "--server 192.0.2.53 --no-edns --family 4 www.example.test.",
-        &[FOUR],
-    );
-    let wanted = Wanted {
+const ONE_FAMILY_IS_ASKED: Case = Case {
+    shows: "one family is asked",
+    run: Scenario {
+        line: "--server 192.0.2.53 --no-edns --family 4 www.example.test.",
+        replies: &[FOUR],
+        ..RUN
+    },
+    wanted: Wanted {
         status: 0,
         put: "www.example.test. 0 SUCCESS\n  192.0.2.1\n",
         journal: "accept 1
@@ -105,7 +103,25 @@ destroy
 ",
         network: "serve 0 of 3221226037 at 53\nsend to 0\nwait to 2000\n",
         answers: "1 status 0\n",
-    };
-    assert!(rt; leaves(rt.alloc(), &scenario, &wanted)?);
+    },
+};
+
+/// Runs for both families, and for one.
+const FAMILIES: &[Case] = &[
+    BOTH_FAMILIES_ARE_ASKED,
+    BOTH_FAMILIES_ARE_LEFT_UNSORTED,
+    ONE_FAMILY_IS_ENOUGH,
+    ONE_FAMILY_IS_ASKED,
+];
+
+#[test]
+fn families_are_asked(rt: HostRuntime) -> Result<(), Fail> {
+    for case in FAMILIES {
+        assert!(rt;
+            leaves(rt.alloc(), &case.run, &case.wanted)?,
+            "{}",
+            case.shows
+        );
+    }
     Ok(())
 }

@@ -1,20 +1,43 @@
 //! Runs of a load, over the network that they make: neither a file nor the network that they are given has a part in them.
 
 use super::bodies::Bodies;
-use super::{Scenario, has_called, plain, played};
+use super::outside::Outside;
+use super::{RUN, Scenario, has_called, is_put, outside_of, played};
 use std::alloc::Global;
 use std::test::Fail;
 
 /// Whether a run with so many bodies leaves this status and text. A read of a file would fail in it.
 fn puts(alloc: Global, line: &str, bodies: u64, status: u8, text: &str) -> Result<bool, Fail> {
     let scenario = Scenario {
-        read_fails: Some(0),
+        line,
+        read_fails: &[0],
         bodies: Bodies::Reports(bodies),
-        ..plain(line, &[])
+        ..RUN
     };
-    let (ended, outside) = played(alloc, &scenario)?;
-    let is_put = ended.status == status && outside.sink.bytes() == text.as_bytes();
-    Ok(is_put && has_called(alloc, &outside, "")?)
+    puts_in(
+        alloc,
+        &scenario,
+        &mut outside_of(alloc, &scenario)?,
+        status,
+        text,
+    )
+}
+
+/// The same of a run that is lent this.
+fn puts_in(
+    alloc: Global,
+    scenario: &Scenario<'_>,
+    outside: &mut Outside,
+    status: u8,
+    text: &str,
+) -> Result<bool, Fail> {
+    let is_so = status_of(alloc, scenario, outside)? == status && is_put(outside, text);
+    Ok(is_so && has_called(alloc, outside, "")?)
+}
+
+/// The exit status of a run.
+fn status_of(alloc: Global, scenario: &Scenario<'_>, outside: &mut Outside) -> Result<u8, Fail> {
+    Ok(played(alloc, scenario, outside)?.status)
 }
 
 /// The summary of twelve names: every fourth isn't there, and one first query in three is lost.

@@ -24,42 +24,47 @@ pub fn outside_of(alloc: Global, scenario: &Scenario<'_>) -> Result<Outside, Fai
     Ok(Outside {
         files: files_of(alloc, scenario)?,
         world: world_of(alloc, scenario)?,
-        sink: MemSink::make(failing(alloc, scenario.puts_fail)?),
+        sink: MemSink::make(scenario.put_fails.to_vec(alloc)?),
     })
-}
-
-/// The numbers of the calls that fail: the first, or none.
-fn failing(alloc: Global, fails: bool) -> Result<Vec<u64>, Fail> {
-    let mut numbers = Vec::new(alloc);
-    if fails {
-        numbers.push(0)?;
-    }
-    Ok(numbers)
 }
 
 /// The files of a scenario.
 fn files_of(alloc: Global, scenario: &Scenario<'_>) -> Result<MemFiles, Fail> {
+    let fails = scenario.read_fails.to_vec(alloc)?;
+    Ok(MemFiles::make(named(alloc, scenario)?, fails))
+}
+
+/// Those that there are, where they are.
+fn named(alloc: Global, scenario: &Scenario<'_>) -> Result<BTreeMap<String, Bytes>, Fail> {
     let mut files = BTreeMap::new(alloc);
     if let Some(bytes) = scenario.resolv {
-        let path = String::from_str(alloc, "/etc/resolv.conf")?;
-        files.insert(path, Bytes::of(alloc, bytes)?)?;
+        add_file(alloc, &mut files, "/etc/resolv.conf", bytes)?;
     }
     if let Some(bytes) = scenario.hosts {
-        let path = String::from_str(alloc, "/etc/hosts")?;
-        files.insert(path, Bytes::of(alloc, bytes)?)?;
+        add_file(alloc, &mut files, "/etc/hosts", bytes)?;
     }
-    let mut fails = Vec::new(alloc);
-    if let Some(number) = scenario.read_fails {
-        fails.push(number)?;
-    }
-    Ok(MemFiles::make(files, fails))
+    Ok(files)
+}
+
+/// Adds a file with these bytes.
+fn add_file(
+    alloc: Global,
+    files: &mut BTreeMap<String, Bytes>,
+    path: &str,
+    bytes: &[u8],
+) -> Result<(), Fail> {
+    let path = String::from_str(alloc, path)?;
+    files.insert(path, Bytes::of(alloc, bytes)?)?;
+    Ok(())
 }
 
 /// The network of a scenario.
 fn world_of(alloc: Global, scenario: &Scenario<'_>) -> Result<ScriptWorld, Fail> {
     let words = Vec::from_elem(alloc, WORD, 256)?;
-    let items = items_of(alloc, comings_of(alloc, scenario.replies)?.as_slice())?;
-    Ok(ScriptWorld::make(words, items, scenario.fails.to_vec(alloc)?))
+    let fails = scenario.fails.to_vec(alloc)?;
+    let comings = comings_of(alloc, scenario.replies)?;
+    let items = items_of(alloc, comings.as_slice())?;
+    Ok(ScriptWorld::make(words, items, fails))
 }
 
 /// The datagrams, as they come of the first server at moment 1.

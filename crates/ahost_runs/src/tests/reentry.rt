@@ -1,7 +1,8 @@
 //! Callbacks that command: what each leaves in the journal, and that every accepted request is called once.
 
 use super::bodies::{Bodies, Deed};
-use super::{Scenario, Wanted, leaves, plain, played};
+use super::outside::Outside;
+use super::{Case, RUN, Scenario, Wanted, is_put, leaves, outside_of, played};
 use ahost_tool::Ended;
 use chan_types::{Calls, What};
 use std::alloc::Global;
@@ -12,16 +13,15 @@ const REPLY: &[u8] =
     b"\x12\x34\x81\x80\0\x01\0\x01\0\0\0\0\x01x\x04test\0\0\x01\0\x01\xc0\x0c\0\x01\0\x01\0\0\x01\x2c\0\x04\xc0\0\x02\x01";
 
 /// What a callback asks during a cancel isn't cancelled: it is pending then, and its reply counts.
-#[test]
-fn a_request_asked_during_a_cancel_stays(rt: HostRuntime) -> Result<(), Fail> {
-    let scenario = Scenario {
+const A_REQUEST_ASKED_DURING_A_CANCEL_STAYS: Case = Case {
+    shows: "a request asked during a cancel stays",
+    run: Scenario {
+        line: "--server 192.0.2.53 --no-edns --family 4 x.test. y.test. z.test. 192.0.2.1",
+        replies: &[REPLY],
         bodies: Bodies::Deeds(&[&[Deed::Ask], &[], &[], &[Deed::Cancel]]),
-        ..plain(
-            "--server 192.0.2.53 --no-edns --family 4 x.test. y.test. z.test. 192.0.2.1",
-            &[REPLY],
-        )
-    };
-    let wanted = Wanted {
+        ..RUN
+    },
+    wanted: Wanted {
         status: 1,
         put: "x.test. 24 ECANCELLED
   x.test. 0 SUCCESS
@@ -48,22 +48,19 @@ destroy
 ",
         network: "serve 0 of 3221226037 at 53\nsend to 0\nwait to 2000\n",
         answers: "4 status 0\n1 status 24\n2 status 24\n3 status 24\n5 status 0\n",
-    };
-    assert!(rt; leaves(rt.alloc(), &scenario, &wanted)?);
-    Ok(())
-}
+    },
+};
 
 /// A callback destroys the channel and then asks: that request is refused, and the others end with the channel.
-#[test]
-fn a_destroyed_channel_refuses(rt: HostRuntime) -> Result<(), Fail> {
-    let scenario = Scenario {
+const A_DESTROYED_CHANNEL_REFUSES: Case = Case {
+    shows: "a destroyed channel refuses",
+    run: Scenario {
+        line: "--server 192.0.2.53 --no-edns --family 4 x.test. y.test. z.test.",
+        replies: &[REPLY],
         bodies: Bodies::Deeds(&[&[Deed::Destroy, Deed::Ask], &[], &[]]),
-        ..plain(
-            "--server 192.0.2.53 --no-edns --family 4 x.test. y.test. z.test.",
-            &[REPLY],
-        )
-    };
-    let wanted = Wanted {
+        ..RUN
+    },
+    wanted: Wanted {
         status: 1,
         put: "x.test. 0 SUCCESS
   192.0.2.1
@@ -89,13 +86,30 @@ send to 0
 wait to 2000
 ",
         answers: "1 status 0\n2 status 16\n3 status 16\n",
-    };
-    assert!(rt; leaves(rt.alloc(), &scenario, &wanted)?);
+    },
+};
+
+/// Runs whose callbacks end requests.
+const ENDED_BY_CALLBACKS: &[Case] = &[
+    A_REQUEST_ASKED_DURING_A_CANCEL_STAYS,
+    A_DESTROYED_CHANNEL_REFUSES,
+];
+
+#[test]
+fn callbacks_end_requests(rt: HostRuntime) -> Result<(), Fail> {
+    for case in ENDED_BY_CALLBACKS {
+        assert!(rt;
+            leaves(rt.alloc(), &case.run, &case.wanted)?,
+            "{}",
+            case.shows
+        );
+    }
     Ok(())
 }
 
 /// What a callback does while others are pending, how those end, and how many requests it adds. These are silent, as the
 /// others are that end by no callback.
+#[derive(Clone, Copy)]
 struct Reentry {
     deeds: &'static [Deed],
     others: &'static str,
@@ -103,7 +117,7 @@ struct Reentry {
 }
 
 /// Each deed, and pairs of them.
-const REENTRIES: [Reentry; 6] = [
+const REENTRIES: &[Reentry] = &[
     Reentry {
         deeds: &[Deed::Ask],
         others: "x.test. 12 ETIMEOUT\n",
@@ -139,10 +153,8 @@ const REENTRIES: [Reentry; 6] = [
 /// In a callback, while 1, 3 and 100 others are pending.
 #[test]
 fn every_request_is_called_once(rt: HostRuntime) -> Result<(), Fail> {
-    for reentry in REENTRIES.iter() {
-        for others in [1, 3, 100] {
-            assert!(rt; is_right(rt.alloc(), reentry, others)?);
-        }
+    for reentry in REENTRIES {
+        assert!(rt; is_right_among(rt.alloc(), reentry)?);
     }
     Ok(())
 }
@@ -150,12 +162,27 @@ fn every_request_is_called_once(rt: HostRuntime) -> Result<(), Fail> {
 /// In the callback of a callback.
 #[test]
 fn every_request_is_called_once_inside(rt: HostRuntime) -> Result<(), Fail> {
-    for reentry in REENTRIES.iter() {
-        for others in [1, 3, 100] {
-            assert!(rt; is_right_inside(rt.alloc(), reentry, others)?);
-        }
+    for reentry in REENTRIES {
+        assert!(rt; is_right_inside_among(rt.alloc(), reentry)?);
     }
     Ok(())
+}
+
+/// Whether it is so while 1, 3 and 100 others are pending.
+fn is_right_among(alloc: Global, reentry: &Reentry) -> Result<bool, Fail> {
+    Ok(
+        is_right(alloc, reentry, 1)?
+            && is_right(alloc, reentry, 3)?
+            && is_right(alloc, reentry, 100)?,
+    )
+}
+
+fn is_right_inside_among(alloc: Global, reentry: &Reentry) -> Result<bool, Fail> {
+    Ok(
+        is_right_inside(alloc, reentry, 1)?
+            && is_right_inside(alloc, reentry, 3)?
+            && is_right_inside(alloc, reentry, 100)?,
+    )
 }
 
 /// Whether every request is called once, and the page is right, where the callback of a request that completes at once
@@ -178,13 +205,29 @@ fn is_right_inside(alloc: Global, reentry: &Reentry, others: u64) -> Result<bool
 }
 
 /// Whether a run with these words and bodies calls each request once, and puts this page.
-fn is_played(alloc: Global, line: &str, bodies: Bodies<'_>, page: &str) -> Result<bool, Fail> {
+fn is_played<'a>(
+    alloc: Global,
+    line: &'a str,
+    bodies: Bodies<'a>,
+    page: &str,
+) -> Result<bool, Fail> {
     let scenario = Scenario {
+        line,
         bodies,
-        ..plain(line, &[])
+        ..RUN
     };
-    let (ended, outside) = played(alloc, &scenario)?;
-    Ok(is_called_once(&ended) && outside.sink.bytes() == page.as_bytes())
+    is_played_in(alloc, &scenario, &mut outside_of(alloc, &scenario)?, page)
+}
+
+/// The same of a run that is lent this.
+fn is_played_in(
+    alloc: Global,
+    scenario: &Scenario<'_>,
+    outside: &mut Outside,
+    page: &str,
+) -> Result<bool, Fail> {
+    let once = is_called_once(&played(alloc, scenario, outside)?);
+    Ok(once && is_put(outside, page))
 }
 
 /// The page: the blocks of the others, of what is found, and of what is added.

@@ -1,17 +1,17 @@
 //! Servers that are set behind the first turn.
 
-use super::{Wanted, leaves, plain};
+use super::{Case, RUN, Scenario, Wanted, leaves};
 use std::test::Fail;
 
 /// Two servers are silent, and two others are set behind the first turn, of which the first is one of the old ones: it
 /// keeps its key, and the other gets the next.
-#[test]
-fn servers_are_set_behind_the_first_turn(rt: HostRuntime) -> Result<(), Fail> {
-    let scenario = plain(
-        "--server 192.0.2.1,192.0.2.2 --tries 2 --family 4 --then 192.0.2.2,192.0.2.3 x.test.",
-        &[],
-    );
-    let wanted = Wanted {
+const SERVERS_ARE_SET_BEHIND_THE_FIRST_TURN: Case = Case {
+    shows: "servers are set behind the first turn",
+    run: Scenario {
+        line: "--server 192.0.2.1,192.0.2.2 --tries 2 --family 4 --then 192.0.2.2,192.0.2.3 x.test.",
+        ..RUN
+    },
+    wanted: Wanted {
         status: 1,
         put: "x.test. 12 ETIMEOUT\n",
         journal: "accept 1
@@ -42,25 +42,39 @@ send to 2
 wait to 12000
 ",
         answers: "1 status 12\n",
-    };
-    assert!(rt; leaves(rt.alloc(), &scenario, &wanted)?);
-    Ok(())
-}
+    },
+};
 
 /// Where a callback has destroyed the channel no servers are set, and without a turn neither.
-#[test]
-fn a_destroyed_channel_keeps_its_servers(rt: HostRuntime) -> Result<(), Fail> {
-    let scenario = plain(
-        "--server 192.0.2.1 --family 4 --quit --then 192.0.2.2 192.0.2.9",
-        &[],
-    );
-    let wanted = Wanted {
+const A_DESTROYED_CHANNEL_KEEPS_ITS_SERVERS: Case = Case {
+    shows: "a destroyed channel keeps its servers",
+    run: Scenario {
+        line: "--server 192.0.2.1 --family 4 --quit --then 192.0.2.2 192.0.2.9",
+        ..RUN
+    },
+    wanted: Wanted {
         status: 0,
         put: "192.0.2.9 0 SUCCESS\n  192.0.2.9\n",
         journal: "accept 1\ntake 1\nby 1 destroy\n",
         network: "serve 0 of 3221225985 at 53\n",
         answers: "1 status 0\n",
-    };
-    assert!(rt; leaves(rt.alloc(), &scenario, &wanted)?);
+    },
+};
+
+/// Runs with `--then`.
+const SERVERS: &[Case] = &[
+    SERVERS_ARE_SET_BEHIND_THE_FIRST_TURN,
+    A_DESTROYED_CHANNEL_KEEPS_ITS_SERVERS,
+];
+
+#[test]
+fn servers_are_set_once(rt: HostRuntime) -> Result<(), Fail> {
+    for case in SERVERS {
+        assert!(rt;
+            leaves(rt.alloc(), &case.run, &case.wanted)?,
+            "{}",
+            case.shows
+        );
+    }
     Ok(())
 }

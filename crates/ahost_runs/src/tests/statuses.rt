@@ -1,6 +1,7 @@
 //! Each exit status, by its number, with the text that is put; 5 is want of memory, which these runs don't meet.
 
-use super::{Scenario, Wanted, file, leaves, plain};
+use super::{Case, RUN, Scenario, Wanted, leaves};
+use std::alloc::Global;
 use std::test::Fail;
 
 /// A run whose one request is silent.
@@ -11,16 +12,20 @@ const AT_ONCE: &str = "--server 192.0.2.53 192.0.2.1";
 
 const GIVEN: &str = "serve 0 of 3221226037 at 53\n";
 
-/// A run that ends before it has a channel: nothing is called, and nothing is in the journal.
-fn early(status: u8, put: &str) -> Wanted<'_> {
-    Wanted {
-        status,
-        put,
-        journal: "",
-        network: "",
-        answers: "",
-    }
-}
+/// What a run leaves that ends before it has a channel: nothing is called, and nothing is in the journal.
+const USAGE: Wanted<'static> = Wanted {
+    status: 2,
+    put: "ahost: usage\n",
+    journal: "",
+    network: "",
+    answers: "",
+};
+
+const FILE_FAULT: Wanted<'static> = Wanted {
+    status: 3,
+    put: "ahost: file fault\n",
+    ..USAGE
+};
 
 /// What the run leaves that completes at once.
 const FOUND: Wanted<'static> = Wanted {
@@ -33,7 +38,7 @@ const FOUND: Wanted<'static> = Wanted {
 
 /// Words that ask nothing that is served: no words, no name, a load of more names than bodies, workers, values that can't be
 /// read, an option of the other tool, and more names than bodies.
-const REFUSED: [&str; 9] = [
+const REFUSED: &[&str] = &[
     "",
     "--follow",
     "--load 9",
@@ -45,137 +50,182 @@ const REFUSED: [&str; 9] = [
     "a.test. b.test. c.test. d.test. e.test. f.test. g.test. h.test. i.test.",
 ];
 
+/// Whether the words are refused.
+fn is_refused(alloc: Global, line: &str) -> Result<bool, Fail> {
+    let scenario = Scenario { line, ..RUN };
+    leaves(alloc, &scenario, &USAGE)
+}
+
 #[test]
 fn words_that_ask_nothing_are_refused(rt: HostRuntime) -> Result<(), Fail> {
     for line in REFUSED {
-        assert!(rt; leaves(rt.alloc(), &plain(line, &[]), &early(2, "ahost: usage\n"))?);
+        assert!(rt; is_refused(rt.alloc(), line)?, "{line}");
     }
     Ok(())
+}
+
+/// Whether a run with a resolv.conf of so many bytes, which are a comment, leaves this.
+fn leaves_with_resolv(alloc: Global, len: usize, wanted: &Wanted<'_>) -> Result<bool, Fail> {
+    let bytes = Vec::from_elem(alloc, b'#', len)?;
+    let scenario = Scenario {
+        line: AT_ONCE,
+        resolv: Some(bytes.as_slice()),
+        ..RUN
+    };
+    leaves(alloc, &scenario, wanted)
+}
+
+/// The same with a hosts file.
+fn leaves_with_hosts(alloc: Global, len: usize, wanted: &Wanted<'_>) -> Result<bool, Fail> {
+    let bytes = Vec::from_elem(alloc, b'#', len)?;
+    let scenario = Scenario {
+        line: AT_ONCE,
+        hosts: Some(bytes.as_slice()),
+        ..RUN
+    };
+    leaves(alloc, &scenario, wanted)
 }
 
 /// A resolv.conf of 65,537 bytes is too large, and one of 65,536 isn't.
 #[test]
 fn a_large_resolv_conf_is_a_fault(rt: HostRuntime) -> Result<(), Fail> {
-    let alloc = rt.alloc();
-    let bytes = Vec::from_elem(alloc, b'#', 65_537)?;
-    let too_large = Scenario {
-        resolv: file(bytes.as_slice()),
-        ..plain(AT_ONCE, &[])
-    };
-    assert!(rt; leaves(alloc, &too_large, &early(3, "ahost: file fault\n"))?);
-    let large = Scenario {
-        resolv: file(&bytes[1..]),
-        ..plain(AT_ONCE, &[])
-    };
-    assert!(rt; leaves(alloc, &large, &FOUND)?);
+    assert!(rt; leaves_with_resolv(rt.alloc(), 65_537, &FILE_FAULT)?);
+    assert!(rt; leaves_with_resolv(rt.alloc(), 65_536, &FOUND)?);
     Ok(())
 }
 
 /// A hosts file of 4,194,305 bytes is too large, and one of 4,194,304 isn't.
 #[test]
 fn a_large_hosts_file_is_a_fault(rt: HostRuntime) -> Result<(), Fail> {
-    let alloc = rt.alloc();
-    let bytes = Vec::from_elem(alloc, b'#', 4_194_305)?;
-    let too_large = Scenario {
-        hosts: file(bytes.as_slice()),
-        ..plain(AT_ONCE, &[])
-    };
-    assert!(rt; leaves(alloc, &too_large, &early(3, "ahost: file fault\n"))?);
-    let large = Scenario {
-        hosts: file(&bytes[1..]),
-        ..plain(AT_ONCE, &[])
-    };
-    assert!(rt; leaves(alloc, &large, &FOUND)?);
+    assert!(rt; leaves_with_hosts(rt.alloc(), 4_194_305, &FILE_FAULT)?);
+    assert!(rt; leaves_with_hosts(rt.alloc(), 4_194_304, &FOUND)?);
     Ok(())
 }
 
 /// The first read fails, or the second.
-#[test]
-fn a_failing_read_is_a_fault(rt: HostRuntime) -> Result<(), Fail> {
-    for number in 0..2 {
-        let scenario = Scenario {
-            read_fails: Some(number),
-            ..plain(AT_ONCE, &[])
-        };
-        assert!(rt; leaves(rt.alloc(), &scenario, &early(3, "ahost: file fault\n"))?);
-    }
-    Ok(())
-}
+const A_FIRST_READ_FAILS: Case = Case {
+    shows: "a failing first read is a fault",
+    run: Scenario {
+        line: AT_ONCE,
+        read_fails: &[0],
+        ..RUN
+    },
+    wanted: FILE_FAULT,
+};
+
+const A_SECOND_READ_FAILS: Case = Case {
+    shows: "a failing second read is a fault",
+    run: Scenario {
+        line: AT_ONCE,
+        read_fails: &[1],
+        ..RUN
+    },
+    wanted: FILE_FAULT,
+};
 
 /// The put fails behind a whole run, and behind refused words. A put that fails in memory adds nothing.
-#[test]
-fn a_failing_put_is_a_fault(rt: HostRuntime) -> Result<(), Fail> {
-    let alloc = rt.alloc();
-    let whole = Scenario {
-        puts_fail: true,
-        ..plain(AT_ONCE, &[])
-    };
-    let wanted = Wanted {
+const A_PUT_FAILS: Case = Case {
+    shows: "a failing put is a fault",
+    run: Scenario {
+        line: AT_ONCE,
+        put_fails: &[0],
+        ..RUN
+    },
+    wanted: Wanted {
         status: 4,
         put: "",
         ..FOUND
-    };
-    assert!(rt; leaves(alloc, &whole, &wanted)?);
-    let refused = Scenario {
-        puts_fail: true,
-        ..plain("", &[])
-    };
-    assert!(rt; leaves(alloc, &refused, &early(4, ""))?);
+    },
+};
+
+const A_PUT_FAILS_EARLY: Case = Case {
+    shows: "a failing put behind refused words is a fault",
+    run: Scenario {
+        line: "",
+        put_fails: &[0],
+        ..RUN
+    },
+    wanted: Wanted {
+        status: 4,
+        put: "",
+        ..USAGE
+    },
+};
+
+/// Runs on which a call of the files or of the output fails.
+const FAILING_CALLS: &[Case] = &[
+    A_FIRST_READ_FAILS,
+    A_SECOND_READ_FAILS,
+    A_PUT_FAILS,
+    A_PUT_FAILS_EARLY,
+];
+
+#[test]
+fn a_failing_call_is_a_fault(rt: HostRuntime) -> Result<(), Fail> {
+    for case in FAILING_CALLS {
+        assert!(rt;
+            leaves(rt.alloc(), &case.run, &case.wanted)?,
+            "{}",
+            case.shows
+        );
+    }
     Ok(())
 }
 
 /// The first wait fails. It is call 6, from 0: before it stand a serve, the clock, a receive, a word, a send, and the word for
 /// a further leg. The request is destroyed, and its callback called.
-#[test]
-fn a_failing_wait_is_a_fault(rt: HostRuntime) -> Result<(), Fail> {
-    let scenario = Scenario {
+const A_FAILING_WAIT_IS_A_FAULT: Case = Case {
+    shows: "a failing wait is a fault",
+    run: Scenario {
+        line: SILENT,
         fails: &[6],
-        ..plain(SILENT, &[])
-    };
-    let wanted = Wanted {
+        ..RUN
+    },
+    wanted: Wanted {
         status: 6,
         put: "ahost: wait fault\n",
         journal: "accept 1\nstart 1 on 0 over 0 at 0\ndestroy\ntake 1\n",
         network: "serve 0 of 3221226037 at 53\nsend to 0\nwait to 2000\n",
         answers: "1 status 16\n",
-    };
-    assert!(rt; leaves(rt.alloc(), &scenario, &wanted)?);
-    Ok(())
-}
+    },
+};
 
 /// Without turns nothing is sent, and the request is destroyed; its callback is called all the same.
-#[test]
-fn no_turns_is_stalled(rt: HostRuntime) -> Result<(), Fail> {
-    let scenario = Scenario {
+const NO_TURNS_IS_STALLED: Case = Case {
+    shows: "no turns is stalled",
+    run: Scenario {
+        line: SILENT,
         turns: 0,
-        ..plain(SILENT, &[])
-    };
-    let wanted = Wanted {
+        ..RUN
+    },
+    wanted: Wanted {
         status: 7,
         put: "ahost: stalled\n",
         journal: "accept 1\ndestroy\ntake 1\n",
         network: GIVEN,
         answers: "1 status 16\n",
-    };
-    assert!(rt; leaves(rt.alloc(), &scenario, &wanted)?);
-    Ok(())
-}
+    },
+};
 
 /// What completes at once needs no turn.
-#[test]
-fn no_turns_are_enough_for_an_address(rt: HostRuntime) -> Result<(), Fail> {
-    let scenario = Scenario {
+const NO_TURNS_ARE_ENOUGH_FOR_AN_ADDRESS: Case = Case {
+    shows: "no turns are enough for an address",
+    run: Scenario {
+        line: AT_ONCE,
         turns: 0,
-        ..plain(AT_ONCE, &[])
-    };
-    assert!(rt; leaves(rt.alloc(), &scenario, &FOUND)?);
-    Ok(())
-}
+        ..RUN
+    },
+    wanted: FOUND,
+};
 
 /// Silence is waited for, three times by default, each time twice as long, and is no success.
-#[test]
-fn silence_is_a_failure(rt: HostRuntime) -> Result<(), Fail> {
-    let wanted = Wanted {
+const SILENCE_IS_A_FAILURE: Case = Case {
+    shows: "silence is a failure",
+    run: Scenario {
+        line: SILENT,
+        ..RUN
+    },
+    wanted: Wanted {
         status: 1,
         put: "x.test. 12 ETIMEOUT\n",
         journal: "accept 1
@@ -197,7 +247,25 @@ send to 0
 wait to 14000
 ",
         answers: "1 status 12\n",
-    };
-    assert!(rt; leaves(rt.alloc(), &plain(SILENT, &[]), &wanted)?);
+    },
+};
+
+/// Runs that have a channel.
+const ACCEPTED: &[Case] = &[
+    A_FAILING_WAIT_IS_A_FAULT,
+    NO_TURNS_IS_STALLED,
+    NO_TURNS_ARE_ENOUGH_FOR_AN_ADDRESS,
+    SILENCE_IS_A_FAILURE,
+];
+
+#[test]
+fn a_run_has_its_status(rt: HostRuntime) -> Result<(), Fail> {
+    for case in ACCEPTED {
+        assert!(rt;
+            leaves(rt.alloc(), &case.run, &case.wanted)?,
+            "{}",
+            case.shows
+        );
+    }
     Ok(())
 }

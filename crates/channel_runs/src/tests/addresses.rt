@@ -3,11 +3,12 @@
 use super::PLAIN;
 use super::calls::{Call, Request, is_answered};
 use net_addr::Family;
+use std::alloc::Global;
 use std::test::Fail;
 
 /// Hosts, and what they come to at once: an address, the host itself (RFC 6761, section 6.3), no name, a hidden service
 /// (RFC 7686, section 2), and one that is to be asked for.
-const HOSTS: [(&[u8], &str); 5] = [
+const HOSTS: &[(&[u8], &str)] = &[
     (b"192.0.2.7", "request 1\ntake 1 status 0 . 192.0.2.7\n"),
     (
         b"localhost",
@@ -18,12 +19,16 @@ const HOSTS: [(&[u8], &str); 5] = [
     (b"example.com", "request 1\nnone ready\n"),
 ];
 
+/// Whether a request for a host's addresses is answered by these lines.
+fn is_at_once(alloc: Global, host: &[u8], lines: &str) -> Result<bool, Fail> {
+    let calls = [Call::Ask(Request::Host(host, Family::Any)), Call::Take];
+    is_answered(alloc, PLAIN, &calls, lines)
+}
+
 #[test]
 fn an_address_is_answered_at_once(rt: HostRuntime) -> Result<(), Fail> {
-    let alloc = rt.alloc();
     for (host, lines) in HOSTS {
-        let calls = [Call::Ask(Request::Host(host, Family::Any)), Call::Take];
-        assert!(rt; is_answered(alloc, PLAIN, &calls, lines)?);
+        assert!(rt; is_at_once(rt.alloc(), host, lines)?);
     }
     Ok(())
 }
@@ -46,7 +51,7 @@ const BEHIND_ALIAS: &[u8] = b"\xc0\x24\0\x01\0\x01\0\0\0\x3c\0\x04\xc0\0\x02\x01
 
 /// Families with the leg of each, replies, and what they come to: the canonical name is that of the alias (RFC 1034,
 /// section 3.6.2).
-const REPLIES: [(Family, u8, Call<'static>, &str); 5] = [
+const REPLIES: &[(Family, u8, Call<'static>, &str)] = &[
     (
         Family::V4,
         0,
@@ -69,24 +74,44 @@ const REPLIES: [(Family, u8, Call<'static>, &str); 5] = [
     (Family::V4, 0, Call::Reply(1, 3, ASKED_V4, &[]), "4 ."),
 ];
 
-#[test]
-fn replies_give_addresses(rt: HostRuntime) -> Result<(), Fail> {
-    let alloc = rt.alloc();
-    for (family, leg, reply, end) in REPLIES {
-        let calls = [
-            Call::Ask(Request::Host(b"a.test", family)),
-            Call::Start(1, 0),
-            reply,
-            Call::Take,
-        ];
-        let lines = format!(in alloc;
-            "request 1
+/// The lines of a request whose leg has a reply.
+fn lines_with(alloc: Global, leg: u8, end: &str) -> Result<String, Fail> {
+    Ok(format!(in alloc;
+        "request 1
 start 1 leg {leg} on 0 over 0 as 1
 matched 1 leg {leg}
 take 1 status {end}
 "
-        )?;
-        assert!(rt; is_answered(alloc, PLAIN, &calls, lines.as_str())?);
+    )?)
+}
+
+/// Whether a request for the addresses of this family answers these lines, where it has this reply.
+fn gives(alloc: Global, family: Family, reply: Call<'_>, lines: &str) -> Result<bool, Fail> {
+    let calls = [
+        Call::Ask(Request::Host(b"a.test", family)),
+        Call::Start(1, 0),
+        reply,
+        Call::Take,
+    ];
+    is_answered(alloc, PLAIN, &calls, lines)
+}
+
+/// Whether the reply to this leg comes to this.
+fn comes_to(
+    alloc: Global,
+    family: Family,
+    leg: u8,
+    reply: Call<'_>,
+    end: &str,
+) -> Result<bool, Fail> {
+    let lines = lines_with(alloc, leg, end)?;
+    gives(alloc, family, reply, lines.as_str())
+}
+
+#[test]
+fn replies_give_addresses(rt: HostRuntime) -> Result<(), Fail> {
+    for (family, leg, reply, end) in REPLIES {
+        assert!(rt; comes_to(rt.alloc(), *family, *leg, *reply, end)?);
     }
     Ok(())
 }

@@ -4,6 +4,7 @@ use super::PLAIN;
 use super::addresses::{ASKED_V4, ASKED_V6, RECORD_V4, RECORD_V6};
 use super::calls::{Call, Request, is_answered};
 use net_addr::Family;
+use std::alloc::Global;
 use std::test::Fail;
 
 /// Asks for the addresses of a.test, and begins an attempt for each family.
@@ -26,7 +27,7 @@ const NO_NAME_V6: Call<'static> = Call::Reply(2, 3, ASKED_V6, &[]);
 
 /// Replies to the first and to the second question, and what they come to: sorted addresses (RFC 6724, section 6),
 /// those of the one that has some, or the status of both.
-const REPLIES: [(Call<'static>, Call<'static>, &str); 4] = [
+const REPLIES: &[(Call<'static>, Call<'static>, &str)] = &[
     (
         GOOD_V4,
         GOOD_V6,
@@ -43,24 +44,38 @@ start 1 leg 0 on 0 over 0 as 1
 start 1 leg 1 on 0 over 0 as 2
 ";
 
-/// The replies come in order, and one is ready behind the second alone.
+/// Whether two replies, of which the first is to this leg, come to this, and one is ready behind the second alone.
+fn are_merged(
+    alloc: Global,
+    first: Call<'static>,
+    second: Call<'static>,
+    leg: u8,
+    taken: &str,
+) -> Result<bool, Fail> {
+    let calls = [
+        ASK,
+        START_V4,
+        START_V6,
+        first,
+        Call::Take,
+        second,
+        Call::Take,
+    ];
+    let lines = merged_lines(alloc, leg, taken)?;
+    is_answered(alloc, PLAIN, &calls, lines.as_str())
+}
+
+/// What is answered then.
+fn merged_lines(alloc: Global, leg: u8, taken: &str) -> Result<String, Fail> {
+    let other = 1u8.saturating_sub(leg);
+    Ok(format!(in alloc; "{BEGUN}matched 1 leg {leg}\nnone ready\nmatched 1 leg {other}\n{taken}")?)
+}
+
+/// The replies come in order.
 #[test]
 fn both_replies_are_merged(rt: HostRuntime) -> Result<(), Fail> {
-    let alloc = rt.alloc();
     for (first, second, taken) in REPLIES {
-        let calls = [
-            ASK,
-            START_V4,
-            START_V6,
-            first,
-            Call::Take,
-            second,
-            Call::Take,
-        ];
-        let lines = format!(in alloc;
-            "{BEGUN}matched 1 leg 0\nnone ready\nmatched 1 leg 1\n{taken}"
-        )?;
-        assert!(rt; is_answered(alloc, PLAIN, &calls, lines.as_str())?);
+        assert!(rt; are_merged(rt.alloc(), *first, *second, 0, taken)?);
     }
     Ok(())
 }
@@ -68,27 +83,14 @@ fn both_replies_are_merged(rt: HostRuntime) -> Result<(), Fail> {
 /// The reply to the second question comes first.
 #[test]
 fn replies_are_merged_turned_round(rt: HostRuntime) -> Result<(), Fail> {
-    let alloc = rt.alloc();
     for (first, second, taken) in REPLIES {
-        let calls = [
-            ASK,
-            START_V4,
-            START_V6,
-            second,
-            Call::Take,
-            first,
-            Call::Take,
-        ];
-        let lines = format!(in alloc;
-            "{BEGUN}matched 1 leg 1\nnone ready\nmatched 1 leg 0\n{taken}"
-        )?;
-        assert!(rt; is_answered(alloc, PLAIN, &calls, lines.as_str())?);
+        assert!(rt; are_merged(rt.alloc(), *second, *first, 1, taken)?);
     }
     Ok(())
 }
 
 /// One leg has its reply, and the other one's attempts fail until they are spent.
-const ONE_FAILS: [Call<'static>; 10] = [
+const ONE_FAILS: &[Call<'static>] = &[
     ASK,
     START_V4,
     START_V6,
@@ -114,12 +116,12 @@ start 1 leg 1 on 0 over 0 as 2
 failed 1
 take 1 status 0 a.test. 192.0.2.1
 ";
-    assert!(rt; is_answered(rt.alloc(), PLAIN, &ONE_FAILS, lines)?);
+    assert!(rt; is_answered(rt.alloc(), PLAIN, ONE_FAILS, lines)?);
     Ok(())
 }
 
 /// Each of three faults fails both attempts. A refused connection has the code 11 in c-ares.
-const BOTH_FAIL: [Call<'static>; 11] = [
+const BOTH_FAIL: &[Call<'static>] = &[
     ASK,
     START_V4,
     START_V6,
@@ -147,7 +149,7 @@ start 1 leg 1 on 0 over 0 as 2
 failed 2
 take 1 status 11 .
 ";
-    assert!(rt; is_answered(rt.alloc(), PLAIN, &BOTH_FAIL, lines)?);
+    assert!(rt; is_answered(rt.alloc(), PLAIN, BOTH_FAIL, lines)?);
     Ok(())
 }
 
@@ -177,7 +179,7 @@ const TWO_V4: &[u8] = b"\x03www\x03two\x07example\0\0\x01\0\x01";
 const TWO_V6: &[u8] = b"\x03www\x03two\x07example\0\0\x1c\0\x01";
 
 /// The first name doesn't exist, and the second has an address of each family.
-const NEXT_NAME: [Call<'static>; 11] = [
+const NEXT_NAME: &[Call<'static>] = &[
     Call::Ask(Request::Host(b"www", Family::Any)),
     START_V4,
     START_V6,
@@ -205,6 +207,6 @@ matched 1 leg 2
 matched 1 leg 3
 take 1 status 0 www.two.example. 2001:db8::1 192.0.2.1
 ";
-    assert!(rt; is_answered(rt.alloc(), SEARCHED, &NEXT_NAME, lines)?);
+    assert!(rt; is_answered(rt.alloc(), SEARCHED, NEXT_NAME, lines)?);
     Ok(())
 }

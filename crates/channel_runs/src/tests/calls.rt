@@ -1,7 +1,7 @@
 //! Calls of a channel with one owner, in order, and what each of them answers, as a line of text.
 
 use super::making::{Move, Moved, accepted, listed, make_move};
-use chan_types::{Answer, Bytes, Quiet, Spec};
+use chan_types::{Answer, Bytes, Quiet, Refusal, Spec};
 use channel_model::{Begun, Counts, Desk, Landed, Lapse, SetFault};
 use channel_table::Alone;
 use dns_message::numbers::{CLASS_IN, KIND_A};
@@ -145,7 +145,13 @@ pub fn spec_of(alloc: Global, request: Request<'_>) -> Result<Spec, Fail> {
 }
 
 fn asked(alloc: Global, desk: &mut Alone<Quiet>, request: Request<'_>) -> Result<Vec<u8>, Fail> {
-    let line = match accepted(desk, spec_of(alloc, request)?, Quiet::new(alloc))? {
+    let answer = accepted(desk, spec_of(alloc, request)?, Quiet::new(alloc))?;
+    accepted_told(alloc, answer)
+}
+
+/// The line of what a channel answers a request: its number, or why it is refused.
+fn accepted_told(alloc: Global, answer: Result<u64, Refusal>) -> Result<Vec<u8>, Fail> {
+    let line = match answer {
         Ok(number) => format!(in alloc; "request {number}\n")?,
         Err(why) => {
             let why = why.number();

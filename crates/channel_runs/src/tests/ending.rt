@@ -7,7 +7,7 @@ use std::test::Fail;
 const ASK: Call<'static> = Call::Ask(Request::Query(b"a.example"));
 
 /// Three attempts, of which each wait is twice the one before: at the last moment before a deadline none is due.
-const LATE: [Call<'static>; 11] = [
+const LATE: &[Call<'static>] = &[
     ASK,
     Call::Start(1, 0),
     Call::Expire(1999),
@@ -35,12 +35,12 @@ not due
 expired 1 leg 0
 take 1 status 12 .
 ";
-    assert!(rt; is_answered(rt.alloc(), PLAIN, &LATE, lines)?);
+    assert!(rt; is_answered(rt.alloc(), PLAIN, LATE, lines)?);
     Ok(())
 }
 
 /// A fault of another link ends no attempt, and one of its own link does.
-const REFUSED: [Call<'static>; 11] = [
+const REFUSED: &[Call<'static>] = &[
     ASK,
     Call::Start(1, 0),
     Call::Fault(1),
@@ -68,12 +68,12 @@ failed 0
 failed 1
 take 1 status 11 .
 ";
-    assert!(rt; is_answered(rt.alloc(), PLAIN, &REFUSED, lines)?);
+    assert!(rt; is_answered(rt.alloc(), PLAIN, REFUSED, lines)?);
     Ok(())
 }
 
 /// Two attempts are few beside eight requests: they fail again and again, until the first request has had three.
-const FEW_OF_MANY: [Call<'static>; 20] = [
+const FEW_OF_MANY: &[Call<'static>] = &[
     ASK,
     ASK,
     ASK,
@@ -119,12 +119,12 @@ start 2 leg 0 on 0 over 0 as 1
 start 3 leg 0 on 0 over 0 as 2
 failed 2
 ";
-    assert!(rt; is_answered(rt.alloc(), PLAIN, &FEW_OF_MANY, lines)?);
+    assert!(rt; is_answered(rt.alloc(), PLAIN, FEW_OF_MANY, lines)?);
     Ok(())
 }
 
 /// A name, one that is never asked, and a text that is no name: the last two have ended before the cancel.
-const CANCELLED: [Call<'static>; 9] = [
+const CANCELLED: &[Call<'static>] = &[
     ASK,
     Call::Ask(Request::Query(b"x.onion")),
     Call::Ask(Request::Query(b"a..b")),
@@ -148,12 +148,12 @@ take 3 status 8 .
 take 1 status 24 .
 none ready
 ";
-    assert!(rt; is_answered(rt.alloc(), PLAIN, &CANCELLED, lines)?);
+    assert!(rt; is_answered(rt.alloc(), PLAIN, CANCELLED, lines)?);
     Ok(())
 }
 
 /// A refusal as closed has the number 1.
-const DESTROYED: [Call<'static>; 6] = [
+const DESTROYED: &[Call<'static>] = &[
     ASK,
     Call::Destroy,
     Call::Destroy,
@@ -171,6 +171,6 @@ refused 1
 cancelled 0
 take 1 status 16 .
 ";
-    assert!(rt; is_answered(rt.alloc(), PLAIN, &DESTROYED, lines)?);
+    assert!(rt; is_answered(rt.alloc(), PLAIN, DESTROYED, lines)?);
     Ok(())
 }

@@ -1,8 +1,9 @@
 //! Each call of the network fails in turn.
 
 use super::links::TRUNCATED_FIRST;
-use super::{PLAIN, Scene, desk_of, played_alone};
-use chan_types::{Entry, What};
+use super::{ASK, PLAIN, Scene, begun, desk_of, play};
+use chan_types::{Entry, Quiet, What};
+use channel_table::Alone;
 use net_world::{Got, Sent, WorldCall, Wrote};
 use std::alloc::Global;
 use std::test::Fail;
@@ -41,6 +42,12 @@ fn failures_in(calls: &[WorldCall]) -> u64 {
     failures
 }
 
+/// How many faults the journal of a channel has.
+fn faults_of(desk: Alone<Quiet>) -> u64 {
+    let journal = desk.close();
+    faults_in(journal.entries())
+}
+
 /// How many faults the journal has, and how many calls failed, in a run whose call of this number fails: its first
 /// reply is truncated, and the whole one comes over TCP.
 fn failed_once(alloc: Global, number: u64) -> Result<(u64, u64), Fail> {
@@ -50,10 +57,12 @@ fn failed_once(alloc: Global, number: u64) -> Result<(u64, u64), Fail> {
         fails: &[number],
         turns: 6,
     };
-    let run = played_alone(alloc, &scene)?;
+    let mut run = begun(alloc, &scene)?;
+    let is_played = play(alloc, &mut run, &[ASK], scene.turns);
     let failures = failures_in(run.world.log().calls());
-    let journal = desk_of(run).close();
-    Ok((faults_in(journal.entries()), failures))
+    let faults = faults_of(desk_of(run));
+    is_played?;
+    Ok((faults, failures))
 }
 
 /// Each failure of a send, a connect, a write or a receive leaves one fault, and no other call does. Of the first forty

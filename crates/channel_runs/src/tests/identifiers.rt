@@ -42,7 +42,7 @@ fn begun_in(alloc: Global, desk: &mut Alone<Quiet>) -> Result<u64, Fail> {
 }
 
 /// The next start finds none and does nothing; a reply to the first attempt gives its identifier back.
-const BEHIND: [Call<'static>; 5] = [
+const BEHIND: &[Call<'static>] = &[
     Call::Start(0, 0),
     Call::Reply(0, 0, ASKED_V4, &[RECORD_V4]),
     Call::Start(0, 0),
@@ -58,12 +58,24 @@ pending 65537 ready 1 waiting 1 flying 65536 due 2000 busy 1
 cancelled 65537
 ";
 
+/// How many attempts begin, and whether the channel then answers so.
+fn begun_and_answered(alloc: Global, desk: &mut Alone<Quiet>) -> Result<(u64, bool), Fail> {
+    let begun = begun_in(alloc, desk)?;
+    Ok((begun, answers_so(alloc, desk, BEHIND, LINES)?))
+}
+
+/// How many entries the journal of a channel has.
+fn entries_of(desk: Alone<Quiet>) -> usize {
+    desk.close().entries().len()
+}
+
 /// How many attempts begin, whether the channel then answers so, and how many entries its journal has.
 fn in_flight_at_once(alloc: Global) -> Result<(u64, bool, usize), Fail> {
     let mut desk = channel(alloc, PLAIN)?;
-    let begun = begun_in(alloc, &mut desk)?;
-    let answered = answers_so(alloc, &mut desk, &BEHIND, LINES)?;
-    Ok((begun, answered, desk.close().entries().len()))
+    let told = begun_and_answered(alloc, &mut desk);
+    let entries = entries_of(desk);
+    let (begun, answered) = told?;
+    Ok((begun, answered, entries))
 }
 
 /// The journal has an entry for each request, for each attempt, and for the reply and the cancel.

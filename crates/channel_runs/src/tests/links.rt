@@ -1,6 +1,6 @@
 //! Runs over links.
 
-use super::{ASK, End, OVER_TCP, PLAIN, Scene, ended_so, ends_so, played_with};
+use super::{ASK, End, OVER_TCP, PLAIN, Scene, ends_so, plays_so};
 use scenario::Coming;
 use std::test::Fail;
 
@@ -77,7 +77,6 @@ start 2 on 0 over 2 at 1
 ",
         calls: "connect 0 over 1\nwait to 2000\nclose 1\nconnect 0 over 2\nwait to 4001\n",
     };
-    let run = played_with(rt.alloc(), &scene, &[ASK, ASK])?;
-    assert!(rt; ended_so(rt.alloc(), run, &end)?);
+    assert!(rt; plays_so(rt.alloc(), &scene, &[ASK, ASK], &end)?);
     Ok(())
 }

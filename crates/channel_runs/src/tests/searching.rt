@@ -2,6 +2,7 @@
 
 use super::addresses::RECORD_V4;
 use super::calls::{Call, Request, is_answered};
+use std::alloc::Global;
 use std::test::Fail;
 
 /// Two domains to search (resolv.conf(5)); a name without a dot is asked behind them.
@@ -19,7 +20,7 @@ const ASK: Call<'static> = Call::Ask(Request::Search(b"www"));
 const START: Call<'static> = Call::Start(1, 0);
 
 /// A reply to a question that isn't asked yet is a stray.
-const FOUND: [Call<'static>; 7] = [
+const FOUND: &[Call<'static>] = &[
     ASK,
     START,
     Call::Reply(1, 3, TWO, &[]),
@@ -39,7 +40,7 @@ start 1 leg 2 on 0 over 0 as 1
 matched 1 leg 2
 take 1 status 0 .
 ";
-    assert!(rt; is_answered(rt.alloc(), DOMAINS, &FOUND, lines)?);
+    assert!(rt; is_answered(rt.alloc(), DOMAINS, FOUND, lines)?);
     Ok(())
 }
 
@@ -52,19 +53,24 @@ const NO_TWO: Call<'static> = Call::Reply(1, 3, TWO, &[]);
 
 const NOT_ITSELF: Call<'static> = Call::Reply(1, 3, ITSELF, &[]);
 
-/// Replies, and the status: 1 where a name exists without a record, whatever comes behind it, else 4.
-const REPLIES: [([Call<'static>; 3], u8); 2] = [
-    ([EMPTY_ONE, NO_TWO, NOT_ITSELF], 1),
-    ([NO_ONE, NO_TWO, NOT_ITSELF], 4),
-];
+/// Replies to the first question, and the status: 1 where a name exists without a record, whatever comes behind it,
+/// else 4.
+const REPLIES: &[(Call<'static>, u8)] = &[(EMPTY_ONE, 1), (NO_ONE, 4)];
 
-#[test]
-fn a_search_remembers_a_name_without_data(rt: HostRuntime) -> Result<(), Fail> {
-    let alloc = rt.alloc();
-    for ([one, two, itself], status) in REPLIES {
-        let calls = [ASK, START, one, START, two, START, itself, Call::Take];
-        let lines = format!(in alloc;
-            "request 1
+/// Whether a search ends with this status, whose first name has this reply, and whose other names don't exist.
+fn ends_with(alloc: Global, one: Call<'static>, status: u8) -> Result<bool, Fail> {
+    let calls = [
+        ASK,
+        START,
+        one,
+        START,
+        NO_TWO,
+        START,
+        NOT_ITSELF,
+        Call::Take,
+    ];
+    let lines = format!(in alloc;
+        "request 1
 start 1 leg 0 on 0 over 0 as 1
 matched 1 leg 0
 start 1 leg 2 on 0 over 0 as 1
@@ -73,14 +79,20 @@ start 1 leg 4 on 0 over 0 as 1
 matched 1 leg 4
 take 1 status {status} .
 "
-        )?;
-        assert!(rt; is_answered(alloc, DOMAINS, &calls, lines.as_str())?);
+    )?;
+    is_answered(alloc, DOMAINS, &calls, lines.as_str())
+}
+
+#[test]
+fn a_search_remembers_a_name_without_data(rt: HostRuntime) -> Result<(), Fail> {
+    for (one, status) in REPLIES {
+        assert!(rt; ends_with(rt.alloc(), *one, *status)?);
     }
     Ok(())
 }
 
 /// With as many dots as `ndots` the name itself is asked first.
-const DOTTED: [Call<'static>; 5] = [
+const DOTTED: &[Call<'static>] = &[
     Call::Ask(Request::Search(b"www.org")),
     START,
     Call::Reply(1, 3, b"\x03www\x03org\0\0\x01\0\x01", &[]),
@@ -96,12 +108,12 @@ matched 1 leg 0
 start 1 leg 2 on 0 over 0 as 1
 matched 1 leg 2
 ";
-    assert!(rt; is_answered(rt.alloc(), DOMAINS, &DOTTED, lines)?);
+    assert!(rt; is_answered(rt.alloc(), DOMAINS, DOTTED, lines)?);
     Ok(())
 }
 
 /// A server refuses each of the three attempts: the search ends, though there are more candidates.
-const REFUSED: [Call<'static>; 8] = [
+const REFUSED: &[Call<'static>] = &[
     ASK,
     START,
     Call::Reply(1, 5, ONE, &[]),
@@ -123,6 +135,6 @@ start 1 leg 0 on 0 over 0 as 1
 matched 1 leg 0
 take 1 status 6 .
 ";
-    assert!(rt; is_answered(rt.alloc(), DOMAINS, &REFUSED, lines)?);
+    assert!(rt; is_answered(rt.alloc(), DOMAINS, REFUSED, lines)?);
     Ok(())
 }

@@ -1,7 +1,7 @@
 //! Servers that change while requests are pending.
 
 use super::calls::{Call, Request, is_answered};
-use super::{End, Run, Scene, ended_so, make_calls, played, played_with};
+use super::{End, Run, Scene, begun, closes_so, desk_of, is_left, make_calls, played};
 use net_addr::{Addr, Family, ServerAddr};
 use std::alloc::Global;
 use std::test::Fail;
@@ -28,32 +28,38 @@ const FIRST_TWO: &[u8] =
 
 const ASK: Call<'static> = Call::Ask(Request::Host(b"x.test.", Family::V4));
 
-/// Makes the last two the list behind the first turn of a run, and plays on.
+/// Asks, makes the last two the list behind the first turn of a run, and plays on.
 fn move_servers(alloc: Global, run: &mut Run) -> Result<(), Fail> {
+    make_calls(alloc, run, &[ASK])?;
     run.runner.turn(&mut run.desk, &mut run.world)?;
     make_calls(alloc, run, &[Call::Servers(&[TWO, THREE])])?;
     played(run, 5)
 }
 
-/// A run of a channel of the first two, whose list becomes the last two.
-fn moved(alloc: Global) -> Result<Run, Fail> {
+/// Whether the calls are answered then as they have to be, and the run comes to this, but for its journal.
+fn is_moved_so(alloc: Global, run: &mut Run, end: &End<'_>) -> Result<bool, Fail> {
+    move_servers(alloc, run)?;
+    let answered = run.answers.as_slice() == b"request 1\nservers closed 1\n".as_slice();
+    Ok(answered && is_left(alloc, run, end)?)
+}
+
+/// Whether a run of a channel of the first two, whose list becomes the last two, comes to this.
+fn moves_so(alloc: Global, end: &End<'_>) -> Result<bool, Fail> {
     let scene = Scene {
         resolv: FIRST_TWO,
         comings: &[],
         fails: &[],
         turns: 0,
     };
-    let mut run = played_with(alloc, &scene, &[ASK])?;
-    move_servers(alloc, &mut run)?;
-    Ok(run)
+    let mut run = begun(alloc, &scene)?;
+    let is_so = is_moved_so(alloc, &mut run, end);
+    closes_so(alloc, is_so, desk_of(run), end.journal)
 }
 
 /// The servers are silent. The attempt on the server that leaves is closed, and none is spent by that: four go to the
 /// new list, of which the first server keeps its key.
 #[test]
 fn servers_change_behind_the_first_turn(rt: HostRuntime) -> Result<(), Fail> {
-    let run = moved(rt.alloc())?;
-    assert!(rt; run.answers.as_slice() == b"request 1\nservers closed 1\n".as_slice());
     let end = End {
         status: 12,
         journal: "accept 1
@@ -71,7 +77,7 @@ take 1
 ",
         calls: "wait to 2000\nwait to 4000\nwait to 8000\nwait to 12000\n",
     };
-    assert!(rt; ended_so(rt.alloc(), run, &end)?);
+    assert!(rt; moves_so(rt.alloc(), &end)?);
     Ok(())
 }
 
@@ -84,7 +90,7 @@ const REPLY: Call<'static> = Call::Reply(
 );
 
 /// The first server comes back behind the last two.
-const BACK: [Call<'static>; 9] = [
+const BACK: &[Call<'static>] = &[
     ASK,
     Call::Start(1, 0),
     Call::Servers(&[TWO, THREE]),
@@ -110,12 +116,12 @@ stray
 destroyed
 refused as closed
 ";
-    assert!(rt; is_answered(rt.alloc(), FIRST_TWO, &BACK, lines)?);
+    assert!(rt; is_answered(rt.alloc(), FIRST_TWO, BACK, lines)?);
     Ok(())
 }
 
 /// A server leaves that two requests of eight are on, then none leaves, and then one that one request is on.
-const FEW_OF_MANY: [Call<'static>; 19] = [
+const FEW_OF_MANY: &[Call<'static>] = &[
     ASK,
     ASK,
     ASK,
@@ -160,6 +166,6 @@ servers closed 1
 pending 8 ready 0 waiting 6 flying 2 due 2000 busy 0
 start 1 leg 0 on 2 over 0 as 1
 ";
-    assert!(rt; is_answered(rt.alloc(), FIRST_TWO, &FEW_OF_MANY, lines)?);
+    assert!(rt; is_answered(rt.alloc(), FIRST_TWO, FEW_OF_MANY, lines)?);
     Ok(())
 }

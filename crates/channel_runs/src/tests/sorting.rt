@@ -40,7 +40,7 @@ start 1 leg 1 on 0 over 0 as 2
 ";
 
 /// The answers of one address of IPv4 and two of IPv6, and those of an address of each family.
-const THREE: [Call<'static>; 6] = [
+const THREE: &[Call<'static>] = &[
     ASK,
     START_V4,
     START_V6,
@@ -49,7 +49,7 @@ const THREE: [Call<'static>; 6] = [
     Call::Take,
 ];
 
-const TWO: [Call<'static>; 6] = [
+const TWO: &[Call<'static>] = &[
     ASK,
     START_V4,
     START_V6,
@@ -69,7 +69,7 @@ matched 1 leg 0
 matched 1 leg 1
 take 1 status 0 www.example.test. fe80::1 2001:db8::5 192.0.2.1
 ";
-    assert!(rt; is_answered(rt.alloc(), PLAIN, &THREE, lines)?);
+    assert!(rt; is_answered(rt.alloc(), PLAIN, THREE, lines)?);
     Ok(())
 }
 
@@ -88,6 +88,12 @@ fn options_with_sources(alloc: Global) -> Result<Options, Fail> {
     Ok(options)
 }
 
+/// Whether a channel of that machine answers two addresses by these lines.
+fn are_sorted_so(alloc: Global, lines: &str) -> Result<bool, Fail> {
+    let options = options_with_sources(alloc)?;
+    answers_so(alloc, &mut channel_of(alloc, options)?, TWO, lines)
+}
+
 /// The source of 198.51.100.121 has another scope (rule 2; the first example of section 10.2).
 #[test]
 fn matching_scopes_come_first(rt: HostRuntime) -> Result<(), Fail> {
@@ -98,14 +104,13 @@ matched 1 leg 0
 matched 1 leg 1
 take 1 status 0 www.example.test. 2001:db8:1::1 198.51.100.121
 ";
-    let mut desk = channel_of(rt.alloc(), options_with_sources(rt.alloc())?)?;
-    assert!(rt; answers_so(rt.alloc(), &mut desk, &TWO, lines)?);
+    assert!(rt; are_sorted_so(rt.alloc(), lines)?);
     Ok(())
 }
 
 /// Requests, what becomes of the AAAA question of each, and the answers: sorted; of one family, where the other
 /// question is not answered in time; in the order in which they came.
-const ANSWERS: [(Request<'static>, Call<'static>, &str); 3] = [
+const ANSWERS: &[(Request<'static>, Call<'static>, &str)] = &[
     (
         Request::Host(b"www.example.test.", Family::Any),
         Call::Reply(2, 0, ASKED_V6, &[AAAA_5]),
@@ -123,22 +128,32 @@ const ANSWERS: [(Request<'static>, Call<'static>, &str); 3] = [
     ),
 ];
 
+const GOOD_V4: Call<'static> = Call::Reply(1, 0, ASKED_V4, &[A_1]);
+
+/// Whether a request is answered so, where this becomes of its AAAA question.
+fn ends_in(
+    alloc: Global,
+    request: Request<'static>,
+    second: Call<'static>,
+    end: &str,
+) -> Result<bool, Fail> {
+    let calls = [
+        Call::Ask(request),
+        START_V4,
+        START_V6,
+        GOOD_V4,
+        second,
+        Call::Take,
+    ];
+    let lines = format!(in alloc; "{BEGUN}matched 1 leg 0\n{end}")?;
+    is_answered(alloc, ONE, &calls, lines.as_str())
+}
+
 /// The one server is asked once for each.
 #[test]
 fn addresses_of_both_families_are_answered(rt: HostRuntime) -> Result<(), Fail> {
-    let alloc = rt.alloc();
     for (request, second, end) in ANSWERS {
-        let first = Call::Reply(1, 0, ASKED_V4, &[A_1]);
-        let calls = [
-            Call::Ask(request),
-            START_V4,
-            START_V6,
-            first,
-            second,
-            Call::Take,
-        ];
-        let lines = format!(in alloc; "{BEGUN}matched 1 leg 0\n{end}")?;
-        assert!(rt; is_answered(alloc, ONE, &calls, lines.as_str())?);
+        assert!(rt; ends_in(rt.alloc(), *request, *second, end)?);
     }
     Ok(())
 }

@@ -1,6 +1,6 @@
 //! What answers no attempt, and how much of it a turn receives.
 
-use super::{End, ONE, OVER_TCP, REPLY, Scene, ends_so, played_alone, status_of};
+use super::{ASK, End, ONE, OVER_TCP, REPLY, Run, Scene, begun, ends_so, play, status_of};
 use scenario::Coming;
 use std::alloc::Global;
 use std::test::Fail;
@@ -15,16 +15,27 @@ fn strays_first(alloc: Global, strays: u64) -> Result<Vec<Coming<'static>>, Fail
     Ok(items)
 }
 
-/// The status of a request whose reply comes behind so many strays.
-fn status_behind(alloc: Global, strays: u64) -> Result<u8, Fail> {
-    let items = strays_first(alloc, strays)?;
+/// The status of the one request of a run of two turns.
+fn status_in(alloc: Global, run: &mut Run) -> Result<u8, Fail> {
+    play(alloc, run, &[ASK], 2)?;
+    Ok(status_of(run))
+}
+
+/// The status of a request on whose network this comes.
+fn status_with(alloc: Global, comings: &[Coming<'_>]) -> Result<u8, Fail> {
     let scene = Scene {
         resolv: ONE,
-        comings: items.as_slice(),
+        comings,
         fails: &[],
         turns: 2,
     };
-    Ok(status_of(&played_alone(alloc, &scene)?))
+    status_in(alloc, &mut begun(alloc, &scene)?)
+}
+
+/// The status of a request whose reply comes behind so many strays.
+fn status_behind(alloc: Global, strays: u64) -> Result<u8, Fail> {
+    let items = strays_first(alloc, strays)?;
+    status_with(alloc, items.as_slice())
 }
 
 /// A turn receives 64 items before it lets expire: behind 63 strays the reply still counts, and behind 64 it doesn't.

@@ -5,6 +5,7 @@ use std::io::{Read, Write};
 use std::net::{TcpListener, TcpStream};
 use std::process::Abort;
 use std::thread;
+use std::thread::Threads;
 
 /// Sends the bytes of one connection back, so many of them, and ends it.
 fn echo_once(listener: &TcpListener, len: usize) -> bool {
@@ -76,21 +77,54 @@ fn fails<W: World>(world: &mut W, server: u32, link: u64) -> Result<bool, NoMemo
     Ok(!begun(world, server, link)? || next(world)? == Got::Failed(server, link))
 }
 
-/// Link 2 of server 1 echoes, ends, and is closed. Link 3 of the same server is begun where nobody listens any more.
-#[test]
-fn a_link_echoes_and_ends(rt: HostRuntime) -> Result<(), Fail> {
+/// Whether link 2 of the server at the port, which has number 1, echoes and ends.
+fn echoes<R: Abort, W: World>(
+    rt: &R,
+    alloc: Global,
+    world: &mut W,
+    port: u16,
+) -> Result<bool, NoMemory> {
+    world.serve(1, &local(port))?;
+    if !begun(world, 1, 2)? {
+        return Ok(false);
+    }
+    write_all(rt, world, 2, b"query")?;
+    let came = heard(alloc, world, 2)?;
+    Ok(came.as_slice() == b"query".as_slice())
+}
+
+/// Whether the link is closed then, one of the same server fails, and one of no server can't be begun.
+fn ends<W: World>(world: &mut W) -> Result<bool, NoMemory> {
+    Ok(is_closed(world, 2)? && fails(world, 1, 3)? && !begun(world, 9, 4)?)
+}
+
+/// A thread that sends five bytes of one connection back, and its port.
+fn echo_thread<R: Threads>(
+    threads: &R,
+    rt: HostRuntime,
+) -> Result<(thread::JoinHandle<bool>, u16), Fail> {
     let listener = TcpListener::bind(&rt, any_local())?;
     let port = listener.local_addr()?.port();
-    let child = thread::spawn(&rt, move || echo_once(&listener, 5))?;
+    Ok((
+        thread::spawn(threads, move || echo_once(&listener, 5))?,
+        port,
+    ))
+}
+
+/// Whether a network's link echoes and ends, and is closed. Another one is begun where nobody listens any more.
+fn is_echoed<R: Abort + Threads, W: World>(
+    threads: &R,
+    rt: HostRuntime,
+    world: &mut W,
+) -> Result<bool, Fail> {
+    let (child, port) = echo_thread(threads, rt)?;
+    let came = echoes(threads, rt.alloc(), world, port)?;
+    Ok(came && child.join(threads) && ends(world)?)
+}
+
+#[test]
+fn a_link_echoes_and_ends(rt: HostRuntime) -> Result<(), Fail> {
     let mut world = SockWorld::make(rt)?;
-    world.serve(1, &local(port))?;
-    assert!(rt; begun(&mut world, 1, 2)?);
-    write_all(&rt, &mut world, 2, b"query")?;
-    let came = heard(rt.alloc(), &mut world, 2)?;
-    assert_eq!(rt; came.as_slice(), b"query".as_slice());
-    assert!(rt; child.join(&rt));
-    assert!(rt; is_closed(&mut world, 2)?);
-    assert!(rt; fails(&mut world, 1, 3)?);
-    assert!(rt; !begun(&mut world, 9, 4)?);
+    assert!(rt; is_echoed(&rt, rt, &mut world)?);
     Ok(())
 }

@@ -4,6 +4,7 @@ use super::*;
 use std::net::UdpSocket;
 use std::process::Abort;
 use std::thread;
+use std::thread::Threads;
 use std::time::Duration;
 
 /// An empty datagram, a query's usual length, and the longest payload over IPv4 (RFC 768, RFC 791: 65,535 - 8 - 20).
@@ -47,23 +48,67 @@ fn ask<R: Abort, W: World>(
     Ok(())
 }
 
+/// Asks with so many bytes.
+fn ask_long<R: Abort, W: World>(
+    rt: &R,
+    alloc: Global,
+    world: &mut W,
+    len: usize,
+) -> Result<(), NoMemory> {
+    let query = Vec::from_elem(alloc, 9u8, len)?;
+    ask(rt, alloc, world, query.as_slice())
+}
+
+/// Asks the server at the port with each length, and then many times in short.
+fn ask_each<R: Abort, W: World>(
+    rt: &R,
+    alloc: Global,
+    world: &mut W,
+    port: u16,
+) -> Result<(), NoMemory> {
+    world.serve(7, &local(port))?;
+    for len in LENGTHS {
+        ask_long(rt, alloc, world, len)?;
+    }
+    for _ in 0..MANY {
+        ask(rt, alloc, world, b"name")?;
+    }
+    Ok(())
+}
+
+/// Whether nothing comes.
+fn is_silent<W: World>(world: &mut W) -> Result<bool, NoMemory> {
+    Ok(world.receive()? == Got::Nothing)
+}
+
+/// A thread that sends so many datagrams back.
+fn echo_thread<R: Threads>(
+    threads: &R,
+    far: UdpSocket,
+    times: usize,
+) -> Result<thread::JoinHandle<usize>, Fail> {
+    Ok(thread::spawn(threads, move || echo(&far, times))?)
+}
+
+/// How often an echo sees the port change from which a network asks.
+fn changes_seen<R: Abort + Threads, W: World>(
+    threads: &R,
+    rt: HostRuntime,
+    world: &mut W,
+) -> Result<usize, Fail> {
+    let far = far_socket(&rt, any_local())?;
+    let port = far.local_addr()?.port();
+    let child = echo_thread(threads, far, LENGTHS.len() + MANY)?;
+    ask_each(threads, rt.alloc(), world, port)?;
+    Ok(child.join(threads))
+}
+
 /// An echo answers each length, and then many short queries. The last ones come from another port.
 #[test]
 fn an_echo_answers(rt: HostRuntime) -> Result<(), Fail> {
-    let far = far_socket(&rt, any_local())?;
-    let port = far.local_addr()?.port();
-    let child = thread::spawn(&rt, move || echo(&far, LENGTHS.len() + MANY))?;
     let mut world = SockWorld::make(rt)?;
-    world.serve(7, &local(port))?;
-    for len in LENGTHS {
-        let query = Vec::from_elem(rt.alloc(), 9u8, len)?;
-        ask(&rt, rt.alloc(), &mut world, query.as_slice())?;
-    }
-    for _ in 0..MANY {
-        ask(&rt, rt.alloc(), &mut world, b"name")?;
-    }
-    assert_eq!(rt; child.join(&rt), 2);
-    assert!(rt; world.receive()? == Got::Nothing);
+    assert!(rt; changes_seen(&rt, rt, &mut world)? == 2);
+    assert!(rt; is_silent(&mut world)?);
     Ok(())
 }
 
@@ -82,6 +127,14 @@ fn echo_twice(far: &UdpSocket) -> usize {
     sent
 }
 
+/// A thread that sends a datagram back twice.
+fn twice_thread<R: Threads>(
+    threads: &R,
+    far: UdpSocket,
+) -> Result<thread::JoinHandle<usize>, Fail> {
+    Ok(thread::spawn(threads, move || echo_twice(&far))?)
+}
+
 /// Whether the next thing is this datagram of the server.
 fn is_next<W: World>(
     alloc: Global,
@@ -92,19 +145,35 @@ fn is_next<W: World>(
     Ok(next(world)? == Got::Datagram(server, Bytes::of(alloc, bytes)?))
 }
 
+/// Whether the server at the port can be asked, and its reply is the next thing.
+fn is_heard<W: World>(alloc: Global, world: &mut W, port: u16) -> Result<bool, NoMemory> {
+    world.serve(7, &local(port))?;
+    Ok(is_sent(world, 7, b"name")? && is_next(alloc, world, 7, b"name")?)
+}
+
+/// Whether the reply comes once more, and then nothing.
+fn is_heard_again<W: World>(alloc: Global, world: &mut W) -> Result<bool, NoMemory> {
+    Ok(is_next(alloc, world, 7, b"name")? && is_silent(world)?)
+}
+
+/// Whether a reply is received as often as it was sent, which is twice.
+fn hears_twice<R: Threads, W: World>(
+    threads: &R,
+    rt: HostRuntime,
+    world: &mut W,
+) -> Result<bool, Fail> {
+    let far = far_socket(&rt, any_local())?;
+    let port = far.local_addr()?.port();
+    let child = twice_thread(threads, far)?;
+    let came = is_heard(rt.alloc(), world, port)?;
+    Ok(child.join(threads) == 2 && came && is_heard_again(rt.alloc(), world)?)
+}
+
 /// A socket whose queries have all got their replies is left alone until a wait is over: what else has come isn't lost.
 #[test]
 fn a_reply_that_comes_twice_is_received_twice(rt: HostRuntime) -> Result<(), Fail> {
-    let far = far_socket(&rt, any_local())?;
-    let port = far.local_addr()?.port();
-    let child = thread::spawn(&rt, move || echo_twice(&far))?;
     let mut world = SockWorld::make(rt)?;
-    world.serve(7, &local(port))?;
-    assert!(rt; is_sent(&mut world, 7, b"name")?);
-    assert!(rt; is_next(rt.alloc(), &mut world, 7, b"name")?);
-    assert_eq!(rt; child.join(&rt), 2);
-    assert!(rt; is_next(rt.alloc(), &mut world, 7, b"name")?);
-    assert!(rt; world.receive()? == Got::Nothing);
+    assert!(rt; hears_twice(&rt, rt, &mut world)?);
     Ok(())
 }
 
@@ -139,21 +208,43 @@ fn replies<W: World>(
     Ok(replies)
 }
 
+/// Whether a query to the server at the port is refused, and another one can be sent then.
+fn refuses<W: World>(world: &mut W, port: u16) -> Result<bool, NoMemory> {
+    world.serve(7, &local(port))?;
+    Ok(is_sent(world, 7, b"a")? && is_refused(world, 7)? && is_sent(world, 7, b"b")?)
+}
+
+/// Whether the next query is answered once.
+fn answers_once<W: World>(alloc: Global, world: &mut W) -> Result<bool, NoMemory> {
+    Ok(is_sent(world, 7, b"c")? && replies(alloc, world, 7, b"c")? == 1)
+}
+
+/// Whether the next query to a socket that is opened there is answered, and is the only one that it gets.
+fn reaches<R: Threads, W: World>(
+    threads: &R,
+    rt: HostRuntime,
+    world: &mut W,
+    at: SocketAddr,
+) -> Result<bool, Fail> {
+    let far = far_socket(&rt, at)?;
+    let child = echo_thread(threads, far, 1)?;
+    let answered = answers_once(rt.alloc(), world)?;
+    Ok(child.join(threads) == 1 && answered)
+}
+
+/// An address of 127.0.0.1 that was free just now.
+fn free_address(rt: &HostRuntime) -> std::io::Result<SocketAddr> {
+    far_socket(rt, any_local())?.local_addr()
+}
+
 /// Nobody listens, so a query is refused. Then an echo opens that port: the next query reaches it, and behind its reply
-/// or before it the refusal is told.
+/// or before it the refusal is told. A server that wasn't told takes no query.
 #[test]
 fn a_refusal_costs_no_query(rt: HostRuntime) -> Result<(), Fail> {
-    let at = far_socket(&rt, any_local())?.local_addr()?;
+    let at = free_address(&rt)?;
     let mut world = SockWorld::make(rt)?;
-    world.serve(7, &local(at.port()))?;
-    assert!(rt; is_sent(&mut world, 7, b"a")?);
-    assert!(rt; is_refused(&mut world, 7)?);
-    assert!(rt; is_sent(&mut world, 7, b"b")?);
-    let far = far_socket(&rt, at)?;
-    let child = thread::spawn(&rt, move || echo(&far, 1))?;
-    assert!(rt; is_sent(&mut world, 7, b"c")?);
-    assert_eq!(rt; replies(rt.alloc(), &mut world, 7, b"c")?, 1);
-    assert_eq!(rt; child.join(&rt), 1);
+    assert!(rt; refuses(&mut world, at.port())?);
+    assert!(rt; reaches(&rt, rt, &mut world, at)?);
     assert!(rt; !is_sent(&mut world, 8, b"d")?);
     Ok(())
 }
@@ -178,12 +269,16 @@ fn wakes<W: World>(world: &mut W) -> Result<bool, NoMemory> {
     Ok(world.wait(until)? == Waited::Woken && world.now()? >= until)
 }
 
+/// Whether words and clock go on.
+fn goes_on<W: World + Send>(world: &mut W) -> Result<bool, NoMemory> {
+    crosses_threads(world);
+    Ok(!repeats(world)? && wakes(world)?)
+}
+
 /// Four words of the generator are hardly all the same, and the clock goes on.
 #[test]
 fn words_and_time_go_on(rt: HostRuntime) -> Result<(), Fail> {
     let mut world = SockWorld::make(rt)?;
-    crosses_threads(&world);
-    assert!(rt; !repeats(&mut world)?);
-    assert!(rt; wakes(&mut world)?);
+    assert!(rt; goes_on(&mut world)?);
     Ok(())
 }

@@ -64,14 +64,19 @@ fn waits_for_nothing<W: World>(world: &mut W) -> Result<bool, NoMemory> {
     Ok(world.receive()? == Got::Nothing && world.wait(now)? == Waited::Failed)
 }
 
-/// Nothing is sent, begun or waited for, and nothing comes.
+/// Whether a network gives the word 0, and nothing is sent, begun or waited for, and nothing comes.
+fn does_nothing<W: World>(world: &mut W) -> Result<bool, NoMemory> {
+    world.serve(0, &local(53))?;
+    if world.word()? != 0 || !sends_nothing(world)? {
+        return Ok(false);
+    }
+    world.close(1)?;
+    waits_for_nothing(world)
+}
+
 #[test]
 fn without_a_generator_all_fails(rt: HostRuntime) -> Result<(), Fail> {
     let mut world = SockWorld::make(Unseeded(rt))?;
-    world.serve(0, &local(53))?;
-    assert_eq!(rt; world.word()?, 0);
-    assert!(rt; sends_nothing(&mut world)?);
-    world.close(1)?;
-    assert!(rt; waits_for_nothing(&mut world)?);
+    assert!(rt; does_nothing(&mut world)?);
     Ok(())
 }
