@@ -38,7 +38,7 @@ silent_log =
 
 pub silence : TrafficAgrees Silence.setting 0 Silence.journal silent_log
 unfolding NameText.units_of Reading.message_read Reading.question_of Reading.record_of Reading.name_of Reading.run_of
-silence = record { arrivals = refl; sends = refl; links = refl; writes = λ link. ([], refl); faults_are = refl }
+silence = record { arrivals = refl; sends = refl; links = refl; writes = λ link. ([], refl); faults_are = refl; in_order = refl }
 
 -- the reply comes twice
 abbrev twice_log : List WorldCall
@@ -49,7 +49,7 @@ twice_log =
 
 pub second_reply : TrafficAgrees SecondReply.setting 0 SecondReply.journal twice_log
 unfolding NameText.units_of Reading.message_read Reading.question_of Reading.record_of Reading.name_of Reading.run_of
-second_reply = record { arrivals = refl; sends = refl; links = refl; writes = λ link. ([], refl); faults_are = refl }
+second_reply = record { arrivals = refl; sends = refl; links = refl; writes = λ link. ([], refl); faults_are = refl; in_order = refl }
 
 -- the reply comes when the query is due
 abbrev last_log : List WorldCall
@@ -60,7 +60,7 @@ last_log =
 
 pub last_moment : TrafficAgrees LastMoment.setting 0 LastMoment.journal last_log
 unfolding NameText.units_of Reading.message_read Reading.question_of Reading.record_of Reading.name_of Reading.run_of
-last_moment = record { arrivals = refl; sends = refl; links = refl; writes = λ link. ([], refl); faults_are = refl }
+last_moment = record { arrivals = refl; sends = refl; links = refl; writes = λ link. ([], refl); faults_are = refl; in_order = refl }
 
 -- the reply comes from the server that wasn't asked
 abbrev wrong_log : List WorldCall
@@ -72,7 +72,7 @@ wrong_log =
 
 pub wrong_server : TrafficAgrees WrongServer.setting 0 WrongServer.journal wrong_log
 unfolding NameText.units_of Reading.message_read Reading.question_of Reading.record_of Reading.name_of Reading.run_of
-wrong_server = record { arrivals = refl; sends = refl; links = refl; writes = λ link. ([], refl); faults_are = refl }
+wrong_server = record { arrivals = refl; sends = refl; links = refl; writes = λ link. ([], refl); faults_are = refl; in_order = refl }
 
 -- FORMERR comes, and the second query has no OPT record
 abbrev plain_log : List WorldCall
@@ -84,4 +84,4 @@ plain_log =
 
 pub plain : TrafficAgrees Plain.setting 0 Plain.journal plain_log
 unfolding NameText.units_of Reading.message_read Reading.question_of Reading.record_of Reading.name_of Reading.run_of
-plain = record { arrivals = refl; sends = refl; links = refl; writes = λ link. ([], refl); faults_are = refl }
+plain = record { arrivals = refl; sends = refl; links = refl; writes = λ link. ([], refl); faults_are = refl; in_order = refl }

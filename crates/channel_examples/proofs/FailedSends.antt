@@ -26,14 +26,14 @@ turn =
     [] [] (own (Start 1 0 0 0 7 None 0) ∷ own (Fault 0 0 0) ∷ own (Start 1 0 0 0 8 None 0) ∷ own (Fault 0 0 0) ∷ own (Start 1 0 0 0 9 None 0) ∷ own (Fault 0 0 0) ∷ []) [] []
     (Receive Nothing ∷ []) [] (Word 7 ∷ Send 0 (query 7) Failed ∷ Word 8 ∷ Send 0 (query 8) Failed ∷ Word 9 ∷ Send 0 (query 9) Failed ∷ Word 0 ∷ []) [] []
     (record {
-      agrees = record { past_is = refl; held_are = refl; arrivals = refl; sends = refl; links = refl; writes = λ link. refl; faults_are = refl };
+      agrees = record { past_is = refl; held_are = refl; arrivals = refl; sends = refl; links = refl; writes = λ link. refl; faults_are = refl; in_order = refl };
       alone = refl;
       all = received_nothing;
       closed = refl;
     })
     (nothing_expires setting 0 0 (stands 1) tt)
     (record {
-      agrees = record { past_is = refl; held_are = refl; arrivals = refl; sends = refl; links = refl; writes = λ link. refl; faults_are = refl };
+      agrees = record { past_is = refl; held_are = refl; arrivals = refl; sends = refl; links = refl; writes = λ link. refl; faults_are = refl; in_order = refl };
       alone = refl;
       all = inl (inl refl);
       few = omega arith;

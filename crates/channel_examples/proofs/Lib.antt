@@ -11,6 +11,7 @@ pub mod Queries
 pub mod Datagrams
 pub mod SharedLink
 pub mod Strays
+pub mod NoticeOrder
 pub mod FailedSends
 pub mod Performances
 pub mod TurnTests

@@ -36,4 +36,4 @@ written_first false false = ([], refl)
 
 pub agrees : TrafficAgrees setting 0 journal log
 unfolding NameText.units_of Reading.message_read Reading.question_of Reading.record_of Reading.name_of Reading.run_of
-agrees = record { arrivals = refl; sends = refl; links = refl; writes = λ link. written_first (1 == link) (2 == link); faults_are = refl }
+agrees = record { arrivals = refl; sends = refl; links = refl; writes = λ link. written_first (1 == link) (2 == link); faults_are = refl; in_order = refl }

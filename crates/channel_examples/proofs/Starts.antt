@@ -30,7 +30,7 @@ mixed_start = own (Start 1 0 0 0 0x1234 (Some 0x0005) 0) ∷ []
 pub bits_drawn : HasStarted MixedCase.setting 0 0 (mixed 1) mixed_start (Word 0x1234 ∷ Word 0x0005 ∷ Send 0 MixedCase.mixed_query Sent ∷ Word 0 ∷ Word 0 ∷ []) (mixed 2)
 unfolding NameText.units_of
 bits_drawn = record {
-  agrees = record { past_is = refl; held_are = refl; arrivals = refl; sends = refl; links = refl; writes = λ link. refl; faults_are = refl };
+  agrees = record { past_is = refl; held_are = refl; arrivals = refl; sends = refl; links = refl; writes = λ link. refl; faults_are = refl; in_order = refl };
   alone = refl;
   all = inl (inl refl);
   few = omega arith;
@@ -64,7 +64,7 @@ first_on_it = own (Start 1 0 2 0 9 None 2000) ∷ []
 pub told_first : HasStarted SetServers.setting 0 2000 (renewed 5) first_on_it (Word 9 ∷ Serve 2 (at_host 3) ∷ Send 2 (query 9) Sent ∷ Word 0 ∷ []) (renewed 6)
 unfolding NameText.units_of
 told_first = record {
-  agrees = record { past_is = refl; held_are = refl; arrivals = refl; sends = refl; links = refl; writes = λ link. refl; faults_are = refl };
+  agrees = record { past_is = refl; held_are = refl; arrivals = refl; sends = refl; links = refl; writes = λ link. refl; faults_are = refl; in_order = refl };
   alone = refl;
   all = inl (inl refl);
   few = omega arith;

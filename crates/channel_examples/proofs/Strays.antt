@@ -88,4 +88,5 @@ agrees = record {
   links = refl;
   writes = λ link. written_first (1 == link) (2 == link) (3 == link) (4 == link) (apart 1 2 link refl) (apart 1 3 link refl);
   faults_are = refl;
+  in_order = refl;
 }

@@ -77,7 +77,7 @@ queued_second = record { past = past_of (take 4 journal); held = link_with []; u
 pub first_start : HasStarted setting 0 0 (stands 1 []) (own (Start 1 0 0 0 7 None 0) ∷ []) (Word 7 ∷ Send 0 (query 7) Sent ∷ Word 99 ∷ []) (stands 2 [])
 unfolding NameText.units_of Reading.message_read Reading.question_of Reading.record_of Reading.name_of Reading.run_of
 first_start = record {
-  agrees = record { past_is = refl; held_are = refl; arrivals = refl; sends = refl; links = refl; writes = λ link. refl; faults_are = refl };
+  agrees = record { past_is = refl; held_are = refl; arrivals = refl; sends = refl; links = refl; writes = λ link. refl; faults_are = refl; in_order = refl };
   alone = refl;
   all = inl (inl refl);
   few = omega arith;
@@ -92,7 +92,7 @@ first_turn =
     turn_of setting 0 0 (stands 1 []) (stands 1 []) (stands 1 []) (stands 2 []) (stands 2 []) (stands 2 [])
     [] [] (own (Start 1 0 0 0 7 None 0) ∷ []) [] [] (Receive Nothing ∷ []) [] (Word 7 ∷ Send 0 (query 7) Sent ∷ Word 99 ∷ []) [] []
     (record {
-      agrees = record { past_is = refl; held_are = refl; arrivals = refl; sends = refl; links = refl; writes = λ link. refl; faults_are = refl };
+      agrees = record { past_is = refl; held_are = refl; arrivals = refl; sends = refl; links = refl; writes = λ link. refl; faults_are = refl; in_order = refl };
       alone = refl;
       all = received_nothing;
       closed = refl;
@@ -102,7 +102,7 @@ first_turn =
 pub second_start : HasStarted setting 0 1 (stands 3 []) (own (Start 1 0 0 1 8 None 1) ∷ []) (Word 8 ∷ Connect 0 1 Sent ∷ Word 99 ∷ []) queued_second
 unfolding NameText.units_of Reading.message_read Reading.question_of Reading.record_of Reading.name_of Reading.run_of
 second_start = record {
-  agrees = record { past_is = refl; held_are = refl; arrivals = refl; sends = refl; links = refl; writes = λ link. refl; faults_are = refl };
+  agrees = record { past_is = refl; held_are = refl; arrivals = refl; sends = refl; links = refl; writes = λ link. refl; faults_are = refl; in_order = refl };
   alone = refl;
   all = inl (inl refl);
   few = omega arith;
@@ -119,14 +119,14 @@ second_turn =
     (own (Arrive 0 0 truncated) ∷ []) [] (own (Start 1 0 0 1 8 None 1) ∷ []) [] []
     (Receive (Datagram 0 truncated) ∷ Receive Nothing ∷ []) [] (Word 8 ∷ Connect 0 1 Sent ∷ Word 99 ∷ []) (Write 1 (framed (query 8)) (Count 37) ∷ []) []
     (record {
-      agrees = record { past_is = refl; held_are = refl; arrivals = refl; sends = refl; links = refl; writes = λ link. refl; faults_are = refl };
+      agrees = record { past_is = refl; held_are = refl; arrivals = refl; sends = refl; links = refl; writes = λ link. refl; faults_are = refl; in_order = refl };
       alone = refl;
       all = inl (record { items = Datagram 0 truncated ∷ []; gots_are = refl; no_earlier = refl }, omega arith);
       closed = refl;
     })
     (nothing_expires setting 0 1 (stands 3 []) tt) second_start
     (record {
-      agrees = record { past_is = refl; held_are = refl; arrivals = refl; sends = refl; links = refl; writes = λ link. refl; faults_are = refl };
+      agrees = record { past_is = refl; held_are = refl; arrivals = refl; sends = refl; links = refl; writes = λ link. refl; faults_are = refl; in_order = refl };
       alone = refl;
       all = refl;
       to_held = refl;
@@ -141,7 +141,7 @@ third_turn =
     turn_of setting 0 2 (stands 4 (link_with [])) (stands 4 (link_with early)) (stands 4 (link_with early)) (stands 4 (link_with early)) (stands 4 (link_with early)) (stands 4 (link_with early))
     [] [] [] [] [] (Receive (Piece 1 early) ∷ Receive Nothing ∷ []) [] (Word 99 ∷ []) [] []
     (record {
-      agrees = record { past_is = refl; held_are = refl; arrivals = refl; sends = refl; links = refl; writes = λ link. refl; faults_are = refl };
+      agrees = record { past_is = refl; held_are = refl; arrivals = refl; sends = refl; links = refl; writes = λ link. refl; faults_are = refl; in_order = refl };
       alone = refl;
       all = inl (record { items = Piece 1 early ∷ []; gots_are = refl; no_earlier = refl }, omega arith);
       closed = refl;
@@ -157,7 +157,7 @@ fourth_turn =
     turn_of setting 0 3 (stands 4 (link_with early)) (stands 5 (link_with [])) (stands 5 (link_with [])) (stands 5 (link_with [])) (stands 5 (link_with [])) (stands 5 [])
     (own (Arrive 0 1 (good_reply 8)) ∷ []) [] [] [] [] (Receive (Piece 1 late) ∷ Receive Nothing ∷ []) [] (Word 99 ∷ []) [] (Close 1 ∷ [])
     (record {
-      agrees = record { past_is = refl; held_are = refl; arrivals = refl; sends = refl; links = refl; writes = λ link. refl; faults_are = refl };
+      agrees = record { past_is = refl; held_are = refl; arrivals = refl; sends = refl; links = refl; writes = λ link. refl; faults_are = refl; in_order = refl };
       alone = refl;
       all = inl (record { items = Piece 1 late ∷ []; gots_are = refl; no_earlier = refl }, omega arith);
       closed = refl;
@@ -165,7 +165,7 @@ fourth_turn =
     (nothing_expires setting 0 3 (stands 5 (link_with [])) tt) (nothing_starts setting 0 3 (stands 5 (link_with [])) 99 refl)
     (nothing_written setting 0 3 (stands 5 (link_with [])) refl)
     (record {
-      agrees = record { past_is = refl; held_are = refl; arrivals = refl; sends = refl; links = refl; writes = λ link. refl; faults_are = refl };
+      agrees = record { past_is = refl; held_are = refl; arrivals = refl; sends = refl; links = refl; writes = λ link. refl; faults_are = refl; in_order = refl };
       alone = refl;
       all = refl;
       closed = refl;

@@ -87,7 +87,7 @@ module _ (setting : Setting) (seat reading : ℕ) where
   -- nothing starts, though a word is drawn, where no leg waits
   pub nothing_starts : (a : Standing) (word : ℕ) → waiting setting a.past ≡ [] → HasStarted setting seat reading a [] (Word word ∷ []) a
   nothing_starts a word none = record {
-    agrees = record { past_is = refl; held_are = refl; arrivals = refl; sends = refl; links = refl; writes = λ link. append-nil (a.unwritten link); faults_are = refl };
+    agrees = record { past_is = refl; held_are = refl; arrivals = refl; sends = refl; links = refl; writes = λ link. append-nil (a.unwritten link); faults_are = refl; in_order = refl };
     alone = refl;
     all = inl (inl none);
     few = omega arith;

@@ -13,8 +13,9 @@ use Rattle.channel_model.specs.Journal.{Past}
 use Rattle.channel_model.specs.Links.{Link, held_after, told}
 use Rattle.channel_model.specs.Setting.{Setting}
 use Rattle.channel_model.specs.Stretch.{Standing, beginning, behind, Agrees}
-use Rattle.channel_model.specs.Traffic.{noted, arrived, faulted, opened, asked, queued, messages, datagrams, connects, written, faults, TrafficAgrees}
+use Rattle.channel_model.specs.Traffic.{noted, arrived, faulted, opened, asked, queued, noticed, messages, datagrams, connects, written, faults, TrafficAgrees}
 use Rattle.channel_model.specs.Turn.{parts_of_entry}
+use Rattle.channel_model.proofs.NoticeLemmas.{told-quiet}
 use Rattle.channel_model.proofs.TrafficLemmas.{agrees_trans, agrees_none, agrees_whole}
 use Rattle.channel_model.proofs.TurnLemmas.{turn_agrees, now_agrees}
 
@@ -92,6 +93,17 @@ silent_queued setting k past (Expire number leg moment) h = refl
 silent_queued setting k past (Fault server link moment) h = refl
 silent_queued setting k past (Servers list) h = refl
 
+pub silent_noticed : (setting : Setting) → Silent (noticed setting)
+silent_noticed setting past (Accept number spec script) h = refl
+silent_noticed setting past Cancel h = refl
+silent_noticed setting past Destroy h = refl
+silent_noticed setting past (Take number) h = refl
+silent_noticed setting past (Start number leg server link id mix moment) h = absurd (cc h)
+silent_noticed setting past (Arrive server link bytes) h = absurd (cc h)
+silent_noticed setting past (Expire number leg moment) h = refl
+silent_noticed setting past (Fault server link moment) h = absurd (cc h)
+silent_noticed setting past (Servers list) h = refl
+
 -- entries that aren't a turn's note nothing
 pub noted-silent : {A : Type 0} (seat : ℕ) (notes : Past → What → List A) → Silent notes → (past : Past) (os : List Entry) → IsTrue (has_no_turn os) → noted seat notes past os ≡ []
 noted-silent seat notes silent past [] none = refl
@@ -119,6 +131,7 @@ module _ (setting : Setting) (seat : ℕ) where
             ap (λ l. a.unwritten link ++ l) (noted-silent seat (queued setting link) (silent_queued setting link) a.past os none)
             ∙ append-nil (a.unwritten link) ∙ ap (λ l. l ++ a.unwritten link) (sym (w link));
         faults_are = noted-silent seat faulted silent_faulted a.past os none ∙ sym f;
+        in_order = noted-silent seat (noticed setting) (silent_noticed setting) a.past os none ∙ sym (told-quiet a.held cs m d k f);
       }
 
   -- what stands behind a turn, and the wait there if there is one

@@ -14,9 +14,9 @@ use Rattle.channel_model.specs.Journal.{Past, followed_by}
 use Rattle.channel_model.specs.Links.{Link, held_after, told}
 use Rattle.channel_model.specs.Setting.{Setting}
 use Rattle.channel_model.specs.Stretch.{Standing, beginning, behind}
-use Rattle.channel_model.specs.Traffic.{noted, arrived, faulted, opened, asked, queued, messages, datagrams, connects, written, faults}
+use Rattle.channel_model.specs.Traffic.{noted, arrived, faulted, opened, asked, queued, noticed, messages, datagrams, connects, written, faults, notices}
 use Rattle.channel_model.specs.Turn.{parts_before, IsCutTurn}
-use Rattle.channel_model.proofs.CourseLemmas.{Silent, silent_arrived, silent_faulted, silent_opened, silent_asked, silent_queued, noted-silent, serves_quiet, course_whole}
+use Rattle.channel_model.proofs.CourseLemmas.{Silent, silent_arrived, silent_faulted, silent_opened, silent_asked, silent_queued, silent_noticed, noted-silent, serves_quiet, course_whole}
 use Rattle.channel_model.proofs.CutLemmas.{nearly_behind, agrees_nearly}
 use Rattle.channel_model.proofs.TrafficLemmas.{noted-append, told-append}
 use Rattle.channel_model.proofs.TurnLemmas.{now_agrees, parts_agree}
@@ -42,6 +42,7 @@ module _ (setting : Setting) (seat : ℕ) where
         writes = λ link.
             subst (λ l. IsPrefix (told (written link) a.held cs) (a.unwritten link ++ l)) (noted_behind seat (queued setting link) (silent_queued setting link) a.past es os none) (x.writes link);
         faults_are = subst (λ l. IsNear faults a.held cs l) (noted_behind seat faulted silent_faulted a.past es os none) x.faults_are;
+        in_order = subst (λ l. IsNear notices a.held cs l) (noted_behind seat (noticed setting) (silent_noticed setting) a.past es os none) x.in_order;
       }
 
   -- a turn that was cut short
@@ -84,6 +85,7 @@ module _ (setting : Setting) (seat : ℕ) where
           ap (λ l. l ++ noted seat (queued setting link) [] journal) (some_serves_quiet (written link) (λ h s d. refl) log setting.options.servers x.told_so_far),
         );
         faults_are = inl (noted-silent seat faulted silent_faulted [] journal x.no_turn ∙ sym (some_serves_quiet faults (λ h s d. refl) log setting.options.servers x.told_so_far));
+        in_order = inl (noted-silent seat (noticed setting) (silent_noticed setting) [] journal x.no_turn ∙ sym (some_serves_quiet notices (λ h s d. refl) log setting.options.servers x.told_so_far));
       }
 
   -- a course, whole or cut short

@@ -10,7 +10,7 @@ use Rattle.channel_model.specs.Journal.{Past, followed_by}
 use Rattle.channel_model.specs.Links.{Link, held_after, told}
 use Rattle.channel_model.specs.Setting.{Setting}
 use Rattle.channel_model.specs.Stretch.{Standing, Agrees}
-use Rattle.channel_model.specs.Traffic.{noted, arrived, faulted, opened, asked, queued, messages, datagrams, connects, written, faults}
+use Rattle.channel_model.specs.Traffic.{noted, arrived, faulted, opened, asked, queued, noticed, messages, datagrams, connects, written, faults, notices}
 use Rattle.channel_model.proofs.TrafficLemmas.{held_after-append, told-append, noted-append, joined}
 
 -- a prefix stays one behind the same list
@@ -93,9 +93,10 @@ nearly_behind setting seat a b es fs cs ds x y =
       links = near_behind seat opened connects a.past a.held es fs cs ds x.links z.links;
       writes = λ link. writes_behind setting seat link a b es fs cs ds x (y.writes link);
       faults_are = near_behind seat faulted faults a.past a.held es fs cs ds x.faults_are z.faults_are;
+      in_order = near_behind seat (noticed setting) notices a.past a.held es fs cs ds x.in_order z.in_order;
     }
 
 -- a stretch that agrees is not even one call apart
 pub agrees_nearly : (setting : Setting) (seat : ℕ) (a b : Standing) (es : List Entry) (cs : List WorldCall) → Agrees setting seat a es cs b → NearlyAgrees setting seat a es cs
 agrees_nearly setting seat a b es cs x =
-    record { arrivals = inl x.arrivals; sends = inl x.sends; links = inl x.links; writes = λ link. (b.unwritten link, sym (x.writes link)); faults_are = inl x.faults_are }
+    record { arrivals = inl x.arrivals; sends = inl x.sends; links = inl x.links; writes = λ link. (b.unwritten link, sym (x.writes link)); faults_are = inl x.faults_are; in_order = inl x.in_order }

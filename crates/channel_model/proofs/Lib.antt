@@ -10,6 +10,7 @@ pub mod IdentifierLemmas
 pub mod SortingLemmas
 pub mod FrameLemmas
 pub mod TrafficLemmas
+pub mod NoticeLemmas
 pub mod StepLemmas
 pub mod TurnLemmas
 pub mod CourseLemmas

@@ -1,6 +1,6 @@
 -- Steps with bytes: the messages that a piece of a held link brings, a query that is sent as a datagram, and a write.
-use Rattle.std.proofs.Common.{◌≡◌, ℕ, ◌==◌, if◌then◌else◌, List, [], ◌∷◌, ◌++◌, take, drop, Option, Bool, true, false, refl, sym, ap, ◌∙◌}
-use Rattle.std.proofs.lemmas.List.{append-nil, take-append-drop}
+use Rattle.std.proofs.Common.{◌≡◌, ℕ, ◌==◌, if◌then◌else◌, List, [], ◌∷◌, ◌++◌, map, take, drop, Option, Bool, true, false, refl, sym, ap, ◌∙◌}
+use Rattle.std.proofs.lemmas.List.{append-nil, map-append, take-append-drop}
 use Rattle.std.proofs.lemmas.Bool.{eqb-true}
 use Rattle.chan_types.specs.declared.journal.Entry.{Entry}
 use Rattle.chan_types.specs.declared.journal.What.TheVariants.{Arrive, Start}
@@ -13,7 +13,7 @@ use Rattle.channel_model.specs.Legs.{leg_of}
 use Rattle.channel_model.specs.Links.{held_link, held_after}
 use Rattle.channel_model.specs.Setting.{Setting}
 use Rattle.channel_model.specs.Stretch.{Standing, Agrees}
-use Rattle.channel_model.specs.Traffic.{Parcel, noted, arrived, faulted, opened, asked, queued, brought, query_bytes}
+use Rattle.channel_model.specs.Traffic.{Parcel, of_message, noted, arrived, faulted, opened, asked, queued, noticed, brought, query_bytes}
 use Rattle.channel_model.proofs.StepLemmas.{AreOthers, noted-own, agrees_step, agrees_calls, moved}
 use Rattle.channel_model.proofs.TrafficLemmas.{noted-append}
 
@@ -24,11 +24,12 @@ pub record Brings (setting : Setting) (seat : ℕ) (past : Past) (es : List Entr
   pub links : noted seat opened past es ≡ []
   pub writes : (link : ℕ) → noted seat (queued setting link) past es ≡ []
   pub faults_are : noted seat faulted past es ≡ []
+  pub in_order : noted seat (noticed setting) past es ≡ map of_message ms
 
 module _ (setting : Setting) (seat : ℕ) where
   -- no entry notes no message
   pub brings_none : (past : Past) → Brings setting seat past [] []
-  brings_none past = record { arrivals = refl; sends = refl; links = refl; writes = λ link. refl; faults_are = refl }
+  brings_none past = record { arrivals = refl; sends = refl; links = refl; writes = λ link. refl; faults_are = refl; in_order = refl }
 
   -- an Arrive behind entries of others notes its message
   pub brings_one : (past : Past) (os : List Entry) (e : Entry) (server link : ℕ) (bytes : List ℕ) → AreOthers seat os → e.seat ≡ seat → e.what ≡ Arrive server link bytes →
@@ -39,6 +40,7 @@ module _ (setting : Setting) (seat : ℕ) where
     links = noted-own seat opened past os e others own ∙ rw is refl;
     writes = λ k. noted-own seat (queued setting k) past os e others own ∙ rw is refl;
     faults_are = noted-own seat faulted past os e others own ∙ rw is refl;
+    in_order = noted-own seat (noticed setting) past os e others own ∙ rw is refl;
   }
 
   -- messages of two stretches
@@ -49,6 +51,7 @@ module _ (setting : Setting) (seat : ℕ) where
     links = noted-append seat opened past es fs ∙ rw (x.links, y.links) refl;
     writes = λ k. noted-append seat (queued setting k) past es fs ∙ rw (x.writes k, y.writes k) refl;
     faults_are = noted-append seat faulted past es fs ∙ rw (x.faults_are, y.faults_are) refl;
+    in_order = noted-append seat (noticed setting) past es fs ∙ rw (x.in_order, y.in_order) (sym (map-append of_message ms ns));
   }
 
   -- a piece: its entries note the messages that become whole with it, none where its link isn't held
@@ -62,6 +65,8 @@ module _ (setting : Setting) (seat : ℕ) where
     links = x.links;
     writes = λ k. ap (λ l. a.unwritten k ++ l) (x.writes k) ∙ append-nil (a.unwritten k);
     faults_are = x.faults_are;
+    in_order = x.in_order ∙ sym (append-nil (map of_message (brought (held_link number a.held) bytes)))
+        ∙ sym (append-nil (map of_message (brought (held_link number a.held) bytes) ++ []));
   }
 
   module _ (a : Standing) (os : List Entry) (others : AreOthers seat os) where
@@ -71,7 +76,7 @@ module _ (setting : Setting) (seat : ℕ) where
         Agrees setting seat a (os ++ e ∷ []) (Word word ∷ Send server bytes WasSent ∷ []) (moved setting seat a os others e.what (Word word ∷ Send server bytes WasSent ∷ []))
     agrees_sent e number leg server id moment word mix bytes own is query =
         agrees_step setting seat a os others e (Word word ∷ Send server bytes WasSent ∷ []) (moved setting seat a os others e.what (Word word ∷ Send server bytes WasSent ∷ [])) own refl refl
-        (rw is refl) (rw (is, query) refl) (rw is refl) (λ k. rw is (append-nil (a.unwritten k))) (rw is refl)
+        (rw is refl) (rw (is, query) refl) (rw is refl) (λ k. rw is (append-nil (a.unwritten k))) (rw is refl) (rw (is, query) refl)
 
     -- what is still to be written behind a write of the bytes of a link, of which so many were taken
     abbrev pub without_taken : ℕ → List ℕ → ℕ → ℕ → List ℕ

@@ -13,8 +13,9 @@ use Rattle.channel_model.specs.Journal.{Past, followed_by}
 use Rattle.channel_model.specs.Links.{Link, held_link, held_after, told}
 use Rattle.channel_model.specs.Setting.{Setting}
 use Rattle.channel_model.specs.Stretch.{Standing, Agrees}
-use Rattle.channel_model.specs.Traffic.{noted, arrived, faulted, opened, asked, queued, messages, datagrams, connects, written, faults}
+use Rattle.channel_model.specs.Traffic.{noted, arrived, faulted, opened, asked, queued, noticed, messages, datagrams, connects, written, faults, notices}
 use Rattle.channel_model.proofs.JournalLemmas.{followed_by-append}
+use Rattle.channel_model.proofs.NoticeLemmas.{told-quiet}
 use Rattle.channel_model.proofs.TrafficLemmas.{noted-append}
 
 -- the entries are of other seats
@@ -47,12 +48,12 @@ module _ (setting : Setting) (seat : ℕ) (a b : Standing) (es : List Entry) (cs
   -- a word that is drawn before a stretch that agrees
   pub agrees_word : (word : ℕ) → Agrees setting seat a es cs b → Agrees setting seat a es (Word word ∷ cs) b
   agrees_word word x =
-      record { past_is = x.past_is; held_are = x.held_are; arrivals = x.arrivals; sends = x.sends; links = x.links; writes = x.writes; faults_are = x.faults_are }
+      record { past_is = x.past_is; held_are = x.held_are; arrivals = x.arrivals; sends = x.sends; links = x.links; writes = x.writes; faults_are = x.faults_are; in_order = x.in_order }
 
   -- a server that is told before it
   pub agrees_serve : (server : ℕ) (address : ServerAddr) → Agrees setting seat a es cs b → Agrees setting seat a es (Serve server address ∷ cs) b
   agrees_serve server address x =
-      record { past_is = x.past_is; held_are = x.held_are; arrivals = x.arrivals; sends = x.sends; links = x.links; writes = x.writes; faults_are = x.faults_are }
+      record { past_is = x.past_is; held_are = x.held_are; arrivals = x.arrivals; sends = x.sends; links = x.links; writes = x.writes; faults_are = x.faults_are; in_order = x.in_order }
 
 module _ (setting : Setting) (seat : ℕ) (a : Standing) (os : List Entry) (others : AreOthers seat os) where
   -- one entry behind others, and the calls that tell of it
@@ -63,8 +64,9 @@ module _ (setting : Setting) (seat : ℕ) (a : Standing) (os : List Entry) (othe
       opened (followed_by a.past os) e.what ≡ told connects a.held cs →
       ((link : ℕ) → a.unwritten link ++ queued setting link (followed_by a.past os) e.what ≡ told (written link) a.held cs ++ new.unwritten link) →
       faulted (followed_by a.past os) e.what ≡ told faults a.held cs →
+      noticed setting (followed_by a.past os) e.what ≡ told notices a.held cs →
       Agrees setting seat a (os ++ e ∷ []) cs new
-  agrees_step e cs new own past_is held_are arrivals sends links writes faults_are =
+  agrees_step e cs new own past_is held_are arrivals sends links writes faults_are in_order =
       record {
         past_is = past_is ∙ sym (followed_by-append a.past os (e ∷ []));
         held_are = held_are;
@@ -73,6 +75,7 @@ module _ (setting : Setting) (seat : ℕ) (a : Standing) (os : List Entry) (othe
         links = noted-own seat opened a.past os e others own ∙ links;
         writes = λ link. ap (λ l. a.unwritten link ++ l) (noted-own seat (queued setting link) a.past os e others own) ∙ writes link;
         faults_are = noted-own seat faulted a.past os e others own ∙ faults_are;
+        in_order = noted-own seat (noticed setting) a.past os e others own ∙ in_order;
       }
 
   -- entries of others, and calls that tell of nothing but bytes written
@@ -91,6 +94,7 @@ module _ (setting : Setting) (seat : ℕ) (a : Standing) (os : List Entry) (othe
         links = noted-others seat opened a.past os others ∙ sym k;
         writes = λ link. ap (λ l. a.unwritten link ++ l) (noted-others seat (queued setting link) a.past os others) ∙ append-nil (a.unwritten link) ∙ w link;
         faults_are = noted-others seat faulted a.past os others ∙ sym f;
+        in_order = noted-others seat (noticed setting) a.past os others ∙ sym (told-quiet a.held cs m d k f);
       }
 
   -- the standing behind an entry and calls that write nothing
@@ -102,19 +106,19 @@ module _ (setting : Setting) (seat : ℕ) (a : Standing) (os : List Entry) (othe
       Agrees setting seat a (os ++ e ∷ []) (Receive (Datagram server bytes) ∷ []) (moved e.what (Receive (Datagram server bytes) ∷ []))
   agrees_datagram e server bytes own is =
       agrees_step e (Receive (Datagram server bytes) ∷ []) (moved e.what (Receive (Datagram server bytes) ∷ [])) own refl refl (rw is refl) (rw is refl) (rw is refl)
-      (λ link. rw is (append-nil (a.unwritten link))) (rw is refl)
+      (λ link. rw is (append-nil (a.unwritten link))) (rw is refl) (rw is refl)
 
   -- an Expire
   pub agrees_expire : (e : Entry) (number leg moment : ℕ) → e.seat ≡ seat → e.what ≡ Expire number leg moment → Agrees setting seat a (os ++ e ∷ []) [] (moved e.what [])
   agrees_expire e number leg moment own is =
-      agrees_step e [] (moved e.what []) own refl refl (rw is refl) (rw is refl) (rw is refl) (λ link. rw is (append-nil (a.unwritten link))) (rw is refl)
+      agrees_step e [] (moved e.what []) own refl refl (rw is refl) (rw is refl) (rw is refl) (λ link. rw is (append-nil (a.unwritten link))) (rw is refl) (rw is refl)
 
   -- the end of a held link, its Fault and its close
   pub agrees_ended : (e : Entry) (link : Link) (number moment : ℕ) → e.seat ≡ seat → held_link number a.held ≡ Some link → e.what ≡ Fault link.server link.number moment →
       Agrees setting seat a (os ++ e ∷ []) (Receive (Ended number) ∷ Close number ∷ []) (moved e.what (Receive (Ended number) ∷ Close number ∷ []))
   agrees_ended e link number moment own held is =
       agrees_step e (Receive (Ended number) ∷ Close number ∷ []) (moved e.what (Receive (Ended number) ∷ Close number ∷ [])) own refl refl (rw is refl) (rw is refl) (rw is refl)
-      (λ k. rw is (append-nil (a.unwritten k))) (rw is (rw held refl))
+      (λ k. rw is (append-nil (a.unwritten k))) (rw is (rw held refl)) (rw is (rw held refl))
 
   -- a receive of nothing
   pub agrees_nothing : Agrees setting seat a os (Receive Nothing ∷ []) (record { past = followed_by a.past os; held = a.held; unwritten = a.unwritten })

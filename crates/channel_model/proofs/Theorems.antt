@@ -35,6 +35,7 @@ pub use Rattle.channel_model.proofs.PerformanceLemmas.{all_became_append, all_be
 pub use Rattle.channel_model.proofs.SortingLemmas.{sorted_is}
 -- Journals and logs that agree, those that are one call apart, and the frames of messages on a link.
 pub use Rattle.channel_model.proofs.TrafficLemmas.{agrees_none, agrees_trans, agrees_whole, held_after-append, noted-append, noted_one, told-append}
+pub use Rattle.channel_model.proofs.NoticeLemmas.{fault-behind, same_notices, told-one, told-quiet}
 pub use Rattle.channel_model.proofs.CutLemmas.{agrees_nearly, nearly_behind}
 pub use Rattle.channel_model.proofs.FrameLemmas.{head-messages_in, left_in-append, messages_in-append, messages_in-framed, part-left_in, part-messages_in, whole-messages_in}
 -- Call by call: a call and the entries that note it, entries of others, pieces of a link, and what goes out.

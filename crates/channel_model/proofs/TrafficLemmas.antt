@@ -9,7 +9,7 @@ use Rattle.channel_model.specs.Links.{Link, held_by, held_after, told}
 use Rattle.channel_model.specs.Setting.{Setting}
 use Rattle.channel_model.specs.Stretch.{Standing, beginning, Agrees}
 use Rattle.channel_model.proofs.JournalLemmas.{followed_by-append}
-use Rattle.channel_model.specs.Traffic.{noted, arrived, faulted, opened, asked, queued, messages, datagrams, connects, written, faults, TrafficAgrees}
+use Rattle.channel_model.specs.Traffic.{noted, arrived, faulted, opened, asked, queued, noticed, messages, datagrams, connects, written, faults, notices, TrafficAgrees}
 
 -- the links that are held behind two stretches of calls
 pub held_after-append : (held : List Link) (cs ds : List WorldCall) → held_after held (cs ++ ds) ≡ held_after (held_after held cs) ds
@@ -61,6 +61,7 @@ agrees_trans setting seat a b c es fs cs ds x y =
       links = joined seat opened connects a.past b.past a.held b.held es fs cs ds x.past_is x.held_are x.links y.links;
       writes = λ link. writes link;
       faults_are = joined seat faulted faults a.past b.past a.held b.held es fs cs ds x.past_is x.held_are x.faults_are y.faults_are;
+      in_order = joined seat (noticed setting) notices a.past b.past a.held b.held es fs cs ds x.past_is x.held_are x.in_order y.in_order;
     }
   where
     writes : (link : ℕ) → a.unwritten link ++ noted seat (queued setting link) a.past (es ++ fs) ≡ told (written link) a.held (cs ++ ds) ++ c.unwritten link
@@ -78,10 +79,10 @@ agrees_trans setting seat a b c es fs cs ds x y =
 -- where nothing happens, nothing is to agree
 pub agrees_none : (setting : Setting) (seat : ℕ) (a : Standing) → Agrees setting seat a [] [] a
 agrees_none setting seat a =
-    record { past_is = refl; held_are = refl; arrivals = refl; sends = refl; links = refl; writes = λ link. append-nil (a.unwritten link); faults_are = refl }
+    record { past_is = refl; held_are = refl; arrivals = refl; sends = refl; links = refl; writes = λ link. append-nil (a.unwritten link); faults_are = refl; in_order = refl }
 
 -- from the beginning on, a stretch that agrees is agreed traffic
 pub agrees_whole : (setting : Setting) (seat : ℕ) (journal : List Entry) (log : List WorldCall) (new : Standing) →
     Agrees setting seat beginning journal log new → TrafficAgrees setting seat journal log
 agrees_whole setting seat journal log new a =
-    record { arrivals = a.arrivals; sends = a.sends; links = a.links; writes = λ link. (new.unwritten link, sym (a.writes link)); faults_are = a.faults_are }
+    record { arrivals = a.arrivals; sends = a.sends; links = a.links; writes = λ link. (new.unwritten link, sym (a.writes link)); faults_are = a.faults_are; in_order = a.in_order }

@@ -40,7 +40,7 @@ module _ (setting : Setting) (seat : ℕ) where
   -- the reading of the clock tells nothing
   pub now_agrees : (reading : ℕ) (a : Standing) → Agrees setting seat a [] (Now reading ∷ []) a
   now_agrees reading a =
-      record { past_is = refl; held_are = refl; arrivals = refl; sends = refl; links = refl; writes = λ link. append-nil (a.unwritten link); faults_are = refl }
+      record { past_is = refl; held_are = refl; arrivals = refl; sends = refl; links = refl; writes = λ link. append-nil (a.unwritten link); faults_are = refl; in_order = refl }
 
   -- a turn agrees
   pub turn_agrees : (reading : ℕ) (a : Standing) (es : List Entry) (cs : List WorldCall) (b : Standing) →

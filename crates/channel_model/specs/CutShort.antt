@@ -6,7 +6,7 @@ use Rattle.net_world.specs.declared.log.WorldCall.{WorldCall}
 use Rattle.channel_model.specs.Links.{Link, held_after, told}
 use Rattle.channel_model.specs.Setting.{Setting}
 use Rattle.channel_model.specs.Stretch.{Standing}
-use Rattle.channel_model.specs.Traffic.{arrived, asked, connects, datagrams, faulted, faults, messages, noted, opened, queued, written}
+use Rattle.channel_model.specs.Traffic.{arrived, asked, connects, datagrams, faulted, faults, messages, noted, noticed, notices, opened, queued, written}
 
 -- the journal notes one thing more than the calls tell, as a Start whose datagram wasn't sent any more
 pub record HasOneMore {A : Type 0} (notes tells : List A) : Type 0 where
@@ -34,3 +34,5 @@ pub record NearlyAgrees (setting : Setting) (seat : ℕ) (old : Standing) (entri
   pub links : IsNear connects old.held calls (noted seat opened old.past entries)
   pub writes : (link : ℕ) → IsPrefix (told (written link) old.held calls) (old.unwritten link ++ noted seat (queued setting link) old.past entries)
   pub faults_are : IsNear faults old.held calls (noted seat faulted old.past entries)
+  -- messages, datagrams, links and faults in the order in which they came
+  pub in_order : IsNear notices old.held calls (noted seat (noticed setting) old.past entries)

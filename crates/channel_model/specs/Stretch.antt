@@ -6,7 +6,7 @@ use Rattle.net_world.specs.declared.log.WorldCall.{WorldCall}
 use Rattle.channel_model.specs.Journal.{Past, followed_by}
 use Rattle.channel_model.specs.Links.{Link, held_after, told}
 use Rattle.channel_model.specs.Setting.{Setting}
-use Rattle.channel_model.specs.Traffic.{arrived, asked, connects, datagrams, faulted, faults, messages, noted, opened, queued, written}
+use Rattle.channel_model.specs.Traffic.{arrived, asked, connects, datagrams, faulted, faults, messages, noted, noticed, notices, opened, queued, written}
 
 -- what journal and log have come to: what happened, the held links, and for each link the bytes that are still to be written
 pub record Standing : Type 0 where
@@ -32,6 +32,8 @@ pub record Agrees (setting : Setting) (seat : ℕ) (old : Standing) (entries : L
   -- what was to be written to a link, and then what is queued, is what was written, and then what is still to be written
   pub writes : (link : ℕ) → old.unwritten link ++ noted seat (queued setting link) old.past entries ≡ told (written link) old.held calls ++ new.unwritten link
   pub faults_are : noted seat faulted old.past entries ≡ told faults old.held calls
+  -- messages, datagrams, links and faults in the order in which they came
+  pub in_order : noted seat (noticed setting) old.past entries ≡ told notices old.held calls
 
 -- a stretch that a first step makes up to a standing, and a second one from there
 pub record Joined (first second : Standing → List Entry → List WorldCall → Standing → Type 0) (old : Standing) (entries : List Entry) (calls : List WorldCall) (new : Standing) : Type 0 where

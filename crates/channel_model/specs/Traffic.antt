@@ -34,6 +34,17 @@ pub record Route : Type 0 where
   pub server : ℕ
   pub link : ℕ
 
+-- one thing that the network tells: a message that came, a datagram that was sent, a link that was connected, or a fault
+pub data Notice : Type 0 where
+  of_message : Parcel → Notice
+  of_datagram : Parcel → Notice
+  of_link : Route → Notice
+  of_fault : Route → Notice
+
+-- all that one call tells, or one entry notes, as one list: a fault stands behind what failed
+abbrev pub notices_of : List Parcel → List Parcel → List Route → List Route → List Notice
+notices_of came sent connected failed = map of_message came ++ (map of_datagram sent ++ (map of_link connected ++ map of_fault failed))
+
 -- the messages that become whole with these bytes of a link; those of a link that isn't held are passed over
 abbrev pub brought : Option Link → List ℕ → List Parcel
 brought None bytes = []
@@ -103,6 +114,10 @@ faults held (Receive got) = fault_received held got
 faults held (Close link) = []
 faults held (Wait until outcome) = []
 
+-- all that a call tells of messages, datagrams, links and faults
+abbrev pub notices : List Link → WorldCall → List Notice
+notices held call = notices_of (messages held call) (datagrams held call) (connects held call) (faults held call)
+
 -- what a seat's entries note, one after the other, where each is read with what happened before it
 abbrev pub noted : {A : Type 0} → ℕ → (Past → What → List A) → Past → List Entry → List A
 noted seat notes past [] = []
@@ -158,6 +173,10 @@ module _ (setting : Setting) where
   abbrev pub asked : Past → What → List Parcel
   asked past what = option_map_or (asked_by past) (begun_by what) []
 
+  -- all that an entry notes of messages, datagrams, links and faults
+  abbrev pub noticed : Past → What → List Notice
+  noticed past what = notices_of (arrived past what) (asked past what) (opened past what) (faulted past what)
+
   -- the framed query of an attempt over this link, which isn't 0
   abbrev pub queued_by : ℕ → Past → Attempt → List ℕ
   queued_by link past a = if not (a.link == 0) && (a.link == link) then framed (query_bytes past a) else []
@@ -178,3 +197,5 @@ module _ (setting : Setting) where
     pub writes : (link : ℕ) → IsPrefix (told (written link) [] log) (noted seat (queued link) [] journal)
     -- the ends of held links, and the failures
     pub faults_are : noted seat faulted [] journal ≡ told faults [] log
+    -- messages, datagrams, links and faults in the order in which they came
+    pub in_order : noted seat noticed [] journal ≡ told notices [] log

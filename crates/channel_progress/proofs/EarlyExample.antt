@@ -50,7 +50,7 @@ none_started reading = record { agrees = agrees_none setting 0 (at journal); alo
 one_started : HasStarted setting 0 0 (at (accepts ∷ [])) (starts 7 0 ∷ []) (Word 7 ∷ Send 0 (query 7) WasSent ∷ []) (at journal)
 unfolding NameText.units_of
 one_started = record {
-  agrees = record { past_is = refl; held_are = refl; arrivals = refl; sends = refl; links = refl; writes = λ link. refl; faults_are = refl };
+  agrees = record { past_is = refl; held_are = refl; arrivals = refl; sends = refl; links = refl; writes = λ link. refl; faults_are = refl; in_order = refl };
   alone = refl;
   all = inl (inl refl);
   few = omega arith;

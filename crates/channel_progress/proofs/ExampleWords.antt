@@ -48,7 +48,7 @@ module _ (setting : Setting) (reading : ℕ) (a : List Entry) where
   -- nothing was received
   pub heard_nothing : HasReceived setting 0 reading (at a) [] (Receive Nothing ∷ []) (at a)
   heard_nothing = record {
-    agrees = record { past_is = refl; held_are = refl; arrivals = refl; sends = refl; links = refl; writes = λ link. refl; faults_are = refl };
+    agrees = record { past_is = refl; held_are = refl; arrivals = refl; sends = refl; links = refl; writes = λ link. refl; faults_are = refl; in_order = refl };
     alone = refl;
     all = inl (record { items = []; gots_are = refl; no_earlier = refl }, omega arith);
     closed = refl;

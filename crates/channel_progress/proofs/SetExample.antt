@@ -61,7 +61,7 @@ later_calls key = Word (7 + key) ∷ Serve key (address key) ∷ Send key (query
 first_start : HasStarted setting 0 0 (at up_to_first) (starts 0 ∷ []) opening_calls (at (up_to_first ++ starts 0 ∷ []))
 unfolding NameText.units_of
 first_start = record {
-  agrees = record { past_is = refl; held_are = refl; arrivals = refl; sends = refl; links = refl; writes = λ link. refl; faults_are = refl };
+  agrees = record { past_is = refl; held_are = refl; arrivals = refl; sends = refl; links = refl; writes = λ link. refl; faults_are = refl; in_order = refl };
   alone = refl;
   all = inl (inl refl);
   few = omega arith;
@@ -73,7 +73,7 @@ first_start = record {
 second_start : HasStarted setting 0 1 (at up_to_second) (starts 1 ∷ []) (later_calls 1) (at (up_to_second ++ starts 1 ∷ []))
 unfolding NameText.units_of
 second_start = record {
-  agrees = record { past_is = refl; held_are = refl; arrivals = refl; sends = refl; links = refl; writes = λ link. refl; faults_are = refl };
+  agrees = record { past_is = refl; held_are = refl; arrivals = refl; sends = refl; links = refl; writes = λ link. refl; faults_are = refl; in_order = refl };
   alone = refl;
   all = inl (inl refl);
   few = omega arith;
@@ -85,7 +85,7 @@ second_start = record {
 third_start : HasStarted setting 0 2 (at up_to_third) (starts 2 ∷ []) (later_calls 2) (at (up_to_third ++ starts 2 ∷ []))
 unfolding NameText.units_of
 third_start = record {
-  agrees = record { past_is = refl; held_are = refl; arrivals = refl; sends = refl; links = refl; writes = λ link. refl; faults_are = refl };
+  agrees = record { past_is = refl; held_are = refl; arrivals = refl; sends = refl; links = refl; writes = λ link. refl; faults_are = refl; in_order = refl };
   alone = refl;
   all = inl (inl refl);
   few = omega arith;

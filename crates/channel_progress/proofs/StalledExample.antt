@@ -41,7 +41,7 @@ log =
 first_start : HasStarted setting 0 0 (at (accepts ∷ [])) (starts 7 0 ∷ []) (Word 7 ∷ Send 0 (query 7) WasSent ∷ []) (at (accepts ∷ starts 7 0 ∷ []))
 unfolding NameText.units_of
 first_start = record {
-  agrees = record { past_is = refl; held_are = refl; arrivals = refl; sends = refl; links = refl; writes = λ link. refl; faults_are = refl };
+  agrees = record { past_is = refl; held_are = refl; arrivals = refl; sends = refl; links = refl; writes = λ link. refl; faults_are = refl; in_order = refl };
   alone = refl;
   all = inl (inl refl);
   few = omega arith;
@@ -54,7 +54,7 @@ first_start = record {
 second_start : HasStarted setting 0 2000 (at (accepts ∷ starts 7 0 ∷ expires ∷ [])) (starts 8 2000 ∷ []) (Word 8 ∷ Send 0 (query 8) WasSent ∷ []) (at journal)
 unfolding NameText.units_of
 second_start = record {
-  agrees = record { past_is = refl; held_are = refl; arrivals = refl; sends = refl; links = refl; writes = λ link. refl; faults_are = refl };
+  agrees = record { past_is = refl; held_are = refl; arrivals = refl; sends = refl; links = refl; writes = λ link. refl; faults_are = refl; in_order = refl };
   alone = refl;
   all = inl (inl refl);
   few = omega arith;
@@ -67,7 +67,7 @@ second_start = record {
 one_expired : HasExpired setting 0 2000 (at (accepts ∷ starts 7 0 ∷ [])) (expires ∷ []) [] (at (accepts ∷ starts 7 0 ∷ expires ∷ []))
 unfolding NameText.units_of
 one_expired = record {
-  agrees = record { past_is = refl; held_are = refl; arrivals = refl; sends = refl; links = refl; writes = λ link. refl; faults_are = refl };
+  agrees = record { past_is = refl; held_are = refl; arrivals = refl; sends = refl; links = refl; writes = λ link. refl; faults_are = refl; in_order = refl };
   alone = refl;
   all = inl tt;
   few = omega arith;

@@ -17,7 +17,7 @@ use Rattle.net_world.specs.declared.answers.Sent.TheVariants.{Sent as WasSent}
 use Rattle.net_world.specs.declared.log.WorldCall.{WorldCall}
 use Rattle.net_world.specs.declared.log.WorldCall.TheVariants.{Connect, Send, Serve}
 use Rattle.channel_model.specs.declared.answers.Begun.TheVariants.{Started}
-use Rattle.channel_model.proofs.Theorems.{agrees_nearly, each_flies, flight-cases, chosen_link-cases, new_link-fresh, AreOthers, agrees_serve, agrees_step, noted-others, noted-own, noted-append}
+use Rattle.channel_model.proofs.Theorems.{agrees_nearly, each_flies, flight-cases, chosen_link-cases, new_link-fresh, AreOthers, agrees_serve, agrees_step, noted-others, noted-own, noted-append, told-quiet}
 use Rattle.channel_model.specs.Adding.{Row, link_of_row}
 use Rattle.channel_model.specs.Choice.{chosen_link, greatest_link, is_on_tcp}
 use Rattle.channel_model.specs.CutShort.{IsNear, NearlyAgrees}
@@ -31,7 +31,7 @@ use Rattle.channel_model.specs.Meanings.{Starts}
 use Rattle.channel_model.specs.Servers.{has_key, opening_servers, servers_at}
 use Rattle.channel_model.specs.Setting.{Setting}
 use Rattle.channel_model.specs.Stretch.{Agrees, Standing}
-use Rattle.channel_model.specs.Traffic.{Parcel, Route, arrived, asked, connects, datagrams, faulted, faults, is_start_on, messages, noted, opened, query_bytes, queued, written}
+use Rattle.channel_model.specs.Traffic.{Parcel, Route, arrived, asked, connects, datagrams, faulted, faults, is_start_on, messages, noted, noticed, notices, notices_of, of_datagram, of_link, opened, query_bytes, queued, written}
 use Rattle.channel_model.specs.Turn.{AreDrawn, HasBits, Numbered, are_served_first, draws, expired_in, is_among, is_at, is_sent_to, is_start_to, numbered, parts_of_call, parts_of_entry, received_in, served_by, serves, started_in, starting}
 use Rattle.event_runner.specs.Parts.{Asks, CutAsking, words_of}
 use Rattle.event_runner.specs.State.{serve_unless, told_with, was_told}
@@ -65,6 +65,12 @@ near_one tells held cs false x none = inl (sym none)
 near_none : {A : Type 0} (tells : List Link → WorldCall → List A) (held : List Link) (cs : List WorldCall) (b : Bool) (x : A) → told tells held cs ≡ [] → IsNear tells held cs (cond b [] (x ∷ []))
 near_none tells held cs true x none = inl (sym none)
 near_none tells held cs false x none = inr (inl (record { last = x; is_behind = rw none refl }))
+
+-- a Start notes its datagram or its new link, or neither: at most one thing more than calls that tell nothing
+near_start : (held : List Link) (cs : List WorldCall) (b c : Bool) (x : Parcel) (y : Route) → told notices held cs ≡ [] → IsNear notices held cs (notices_of [] (cond b (x ∷ []) []) (cond (b || c) [] (y ∷ [])) [])
+near_start held cs true c x y none = inr (inl (record { last = of_datagram x; is_behind = rw none refl }))
+near_start held cs false true x y none = inl (sym none)
+near_start held cs false false x y none = inr (inl (record { last = of_link y; is_behind = rw none refl }))
 
 -- what is queued over a link
 queued_not : (b c : Bool) (x : List ℕ) → c ≡ false → cond (not b && c) x [] ≡ []
@@ -489,10 +495,11 @@ module _ (setting : Setting) (seat reading word bits number leg server : ℕ) (a
   module _ (meant : Starts word bits reading (Ok (Started number leg server address link id message)) setting here (Some begun)) where
     -- the Start and the calls that tell of it
     agrees_begun : (core : List WorldCall) (held : List Link) → held ≡ held_after from.held core → told messages from.held core ≡ [] → asked setting here begun ≡ told datagrams from.held core →
-        opened here begun ≡ told connects from.held core → ((k : ℕ) → told (written k) from.held core ≡ []) → told faults from.held core ≡ [] → Agrees setting seat from (os ++ start_entry ∷ []) core (behind_start meant held)
-    agrees_begun core held after none sends links writes faults_none =
+        opened here begun ≡ told connects from.held core → ((k : ℕ) → told (written k) from.held core ≡ []) → told faults from.held core ≡ [] →
+        notices_of [] (told datagrams from.held core) (told connects from.held core) [] ≡ told notices from.held core → Agrees setting seat from (os ++ start_entry ∷ []) core (behind_start meant held)
+    agrees_begun core held after none sends links writes faults_none tells =
         agrees_step setting seat from os others start_entry core (behind_start meant held) refl refl after (sym none) sends links
-        (λ k. ap (λ l. l ++ (from.unwritten k ++ queued setting k here begun)) (sym (writes k))) (sym faults_none)
+        (λ k. ap (λ l. l ++ (from.unwritten k ++ queued setting k here begun)) (sym (writes k))) (sym faults_none) (ap₂ (λ asks opens. notices_of [] asks opens []) sends links ∙ tells)
 
     pub start_to : (held : List Link) (other : ℕ) → list_any (is_start_to other) (begun ∷ here) ≡ false → (server == other) ≡ false
     start_to held other none = (or_parts (server == other) (list_any (is_start_to other) here) none).0
@@ -524,7 +531,7 @@ module _ (setting : Setting) (seat reading word bits number leg server : ℕ) (a
     pub asks_datagram : link ≡ 0 → Asks reading word bits setting seat from (os ++ start_entry ∷ []) (serve_unless already server address ++ Send server message WasSent ∷ []) (behind_start meant from.held)
     asks_datagram udp =
         asks_of meant (os ++ start_entry ∷ []) (Send server message WasSent ∷ []) (behind_start meant from.held) begun_one (core_send server message WasSent)
-        (agrees_begun (Send server message WasSent ∷ []) from.held refl refl (asked_udp udp) (opened_udp udp) (λ k. refl) refl) (start_to from.held)
+        (agrees_begun (Send server message WasSent ∷ []) from.held refl refl (asked_udp udp) (opened_udp udp) (λ k. refl) refl refl) (start_to from.held)
 
     -- behind a held link's bytes
     pub asks_queued : (row : Row) → row.number ≡ link → row.number ≢ 0 → list_any (is_start_on row.number) here ≡ true →
@@ -534,7 +541,7 @@ module _ (setting : Setting) (seat reading word bits number leg server : ℕ) (a
         asks_of meant (os ++ start_entry ∷ []) [] (behind_start meant from.held) begun_one (core_none server)
         (agrees_begun [] from.held refl refl (asked_tcp tcp)
         (opened_none (record { server = server; link = link }) (link == 0) (list_any (is_start_on link) here) (or_later (link == 0) (list_any (is_start_on link) here) (ap (λ n. list_any (is_start_on n) here) (sym is) ∙ has)))
-        (λ k. refl) refl) (start_to from.held)
+        (λ k. refl) refl refl) (start_to from.held)
 
     module _ (tcp : link ≢ 0) (none : held_link link (map link_of_row rows) ≡ None) where
       pub opened_tcp : opened here begun ≡ record { server = server; link = link } ∷ []
@@ -542,7 +549,7 @@ module _ (setting : Setting) (seat reading word bits number leg server : ℕ) (a
 
       -- over a new link
       agrees_connected : Agrees setting seat from (os ++ start_entry ∷ []) (Connect server link WasSent ∷ []) (behind_start meant (from.held ++ new_link meant tcp none ∷ []))
-      agrees_connected = agrees_begun (Connect server link WasSent ∷ []) (from.held ++ new_link meant tcp none ∷ []) refl refl (asked_tcp tcp) opened_tcp (λ k. refl) refl
+      agrees_connected = agrees_begun (Connect server link WasSent ∷ []) (from.held ++ new_link meant tcp none ∷ []) refl refl (asked_tcp tcp) opened_tcp (λ k. refl) refl refl
 
       pub asks_connected : Asks reading word bits setting seat from (os ++ start_entry ∷ []) (serve_unless already server address ++ Connect server link WasSent ∷ []) (behind_start meant (from.held ++ new_link meant tcp none ∷ []))
       asks_connected =
@@ -567,6 +574,8 @@ module _ (setting : Setting) (seat reading word bits number leg server : ℕ) (a
           (near_none connects from.held cs ((link == 0) || list_any (is_start_on link) here) (record { server = server; link = link }) n);
       writes = λ k. (from.unwritten k ++ noted seat (queued setting k) from.past (os ++ start_entry ∷ []), rw (w k) refl);
       faults_are = inl (noted-own seat faulted from.past os start_entry others refl ∙ sym f);
+      in_order = subst (λ l. IsNear notices from.held cs l) (sym (noted-own seat (noticed setting) from.past os start_entry others refl))
+          (near_start from.held cs (link == 0) (list_any (is_start_on link) here) (record { server = server; link = 0; bytes = query_bytes setting here attempt }) (record { server = server; link = link }) (told-quiet from.held cs m d n f));
     }
 
     -- memory was wanting behind the serve

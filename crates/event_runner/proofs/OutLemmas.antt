@@ -14,7 +14,7 @@ use Rattle.net_world.specs.declared.answers.Sent.TheVariants.{Failed as NotSent,
 use Rattle.net_world.specs.declared.log.WorldCall.{WorldCall}
 use Rattle.net_world.specs.declared.log.WorldCall.TheVariants.{Connect, Send, Serve}
 use Rattle.channel_model.specs.declared.answers.Begun.TheVariants.{Started}
-use Rattle.channel_model.proofs.Theorems.{flight-cases, followed_by-append, AreOthers, noted-others, noted-own, noted-append}
+use Rattle.channel_model.proofs.Theorems.{fault-behind, flight-cases, followed_by-append, AreOthers, noted-others, noted-own, noted-append, same_notices, told-one}
 use Rattle.channel_model.specs.Adding.{Row, link_of_row}
 use Rattle.channel_model.specs.Frames.{framed}
 use Rattle.channel_model.specs.Journal.{Past, followed_by}
@@ -24,7 +24,7 @@ use Rattle.channel_model.specs.Links.{Link, held_after, held_link, told, without
 use Rattle.channel_model.specs.Meanings.{Fails, Starts}
 use Rattle.channel_model.specs.Setting.{Setting}
 use Rattle.channel_model.specs.Stretch.{Agrees, Standing}
-use Rattle.channel_model.specs.Traffic.{arrived, asked, connects, datagrams, faulted, faults, messages, noted, opened, queued, written}
+use Rattle.channel_model.specs.Traffic.{arrived, asked, connects, datagrams, faulted, faults, messages, noted, noticed, notices, notices_of, of_fault, opened, queued, written}
 use Rattle.channel_model.specs.Turn.{is_start_to}
 use Rattle.event_runner.specs.Goes.{AreMadeInTurns, Ends, Goes, Stops}
 use Rattle.event_runner.specs.Parts.{Asks, CutAsking}
@@ -151,6 +151,17 @@ module _ (reading word bits number leg server : ℕ) (address : ServerAddr) (lin
         unwritten = λ k. from.unwritten k ++ queued a.known.setting k (followed_by from.past os) entry_is;
       }
 
+      -- behind the Start and its Fault all is noted that the failure tells, the Fault last
+      failure_in_order : noticed a.known.setting (followed_by from.past os) entry_is ++ of_fault (record { server = server; link = link }) ∷ [] ≡ told notices from.held core
+      failure_in_order =
+          fault-behind (asked a.known.setting (followed_by from.past os) entry_is) (opened (followed_by from.past os) entry_is) (record { server = server; link = link } ∷ [])
+          ∙ same_notices (sym (is_failure.no_message from.held)) sends links (sym (is_failure.failed from.held)) ∙ sym told_core
+        where
+          told_core : told notices from.held core ≡ notices_of (told messages from.held core) (told datagrams from.held core) (told connects from.held core) (told faults from.held core)
+          told_core =
+              subst (λ c. told notices from.held c ≡ notices_of (told messages from.held c) (told datagrams from.held c) (told connects from.held c) (told faults from.held c)) (sym is_failure.core_is)
+              (told-one from.held is_failure.last)
+
       past_two : Fault server link reading ∷ followed_by (entry_is ∷ followed_by from.past os) more ≡ followed_by from.past (first_entries ++ (more ++ fault_entry ∷ []))
       past_two =
           ap (λ p. Fault server link reading ∷ followed_by p more) (past_behind from os (own a.known.seat entry_is))
@@ -168,6 +179,7 @@ module _ (reading word bits number leg server : ℕ) (address : ServerAddr) (lin
             ap (λ l. from.unwritten k ++ l) (noted_two (queued a.known.setting k) ∙ append-nil (queued a.known.setting k (followed_by from.past os) entry_is))
             ∙ ap (λ l. l ++ (from.unwritten k ++ queued a.known.setting k (followed_by from.past os) entry_is)) (sym (is_failure.no_bytes from.held k));
         faults_are = noted_two faulted ∙ sym (is_failure.failed from.held);
+        in_order = noted_two (noticed a.known.setting) ∙ failure_in_order;
       }
 
       asks_failed : Asks reading word bits a.known.setting a.known.seat from (first_entries ++ (more ++ fault_entry ∷ [])) (calls_are core) failed_standing
@@ -205,15 +217,32 @@ module _ (reading word bits number leg server : ℕ) (address : ServerAddr) (lin
               quiet = refl;
               reached = (
                 noted a.known.seat faulted from.past (first_entries ++ more),
-                ap (λ l. l ++ noted a.known.seat faulted from.past (first_entries ++ more)) (none_told (was_told server a.told) from.held),
+                ap (λ l. l ++ noted a.known.seat faulted from.past (first_entries ++ more)) (none_told faults (λ h. refl) (was_told server a.told) from.held),
               );
               not_passed = (told faults from.held (calls_are core), ap (λ l. l ++ told faults from.held (calls_are core)) (noted_then faulted));
             }));
+            in_order = inr (inr (record {
+              earlier = serve_unless (was_told server a.told) server address;
+              last = is_failure.last;
+              later = [];
+              calls_are = ap (λ l. serve_unless (was_told server a.told) server address ++ l) is_failure.core_is;
+              quiet = refl;
+              reached = (
+                noted a.known.seat (noticed a.known.setting) from.past (first_entries ++ more),
+                ap (λ l. l ++ noted a.known.seat (noticed a.known.setting) from.past (first_entries ++ more)) (none_told notices (λ h. refl) (was_told server a.told) from.held),
+              );
+              not_passed = (
+                of_fault (record { server = server; link = link }) ∷ [],
+                ap (λ l. l ++ of_fault (record { server = server; link = link }) ∷ []) (noted_then (noticed a.known.setting))
+                    ∙ failure_in_order ∙ sym (serves_quiet server address notices (λ h. refl) (was_told server a.told) from.held core),
+              );
+            }));
           })
         where
-          none_told : (already : Bool) (held : List Link) → told faults held (serve_unless already server address) ≡ []
-          none_told true held = refl
-          none_told false held = refl
+          none_told : {A : Type 0} (tells : List Link → WorldCall → List A) → ((held : List Link) → tells held (Serve server address) ≡ []) → (already : Bool) (held : List Link) →
+              told tells held (serve_unless already server address) ≡ []
+          none_told tells none true held = refl
+          none_told tells none false held = ap (λ l. l ++ []) (none held)
 
     module _ (count : ℕ) (fault : Calls (Fails server link reading (Ok count)) 0 m b.known) where
       abbrev fault_is : What

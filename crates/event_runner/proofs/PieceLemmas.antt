@@ -9,7 +9,7 @@ use Rattle.chan_types.specs.declared.journal.What.TheVariants.{Arrive}
 use Rattle.net_world.specs.declared.answers.Got.TheVariants.{Piece}
 use Rattle.net_world.specs.declared.log.WorldCall.{WorldCall}
 use Rattle.net_world.specs.declared.log.WorldCall.TheVariants.{Receive}
-use Rattle.channel_model.proofs.Theorems.{Brings, agrees_piece}
+use Rattle.channel_model.proofs.Theorems.{Brings, agrees_piece, told-one}
 use Rattle.channel_model.specs.Course.{is_of_turn}
 use Rattle.channel_model.specs.Flight.{begun_by}
 use Rattle.channel_model.specs.Frames.{left_in, messages_in}
@@ -18,7 +18,7 @@ use Rattle.channel_model.specs.Links.{held_link, told, with_bytes}
 use Rattle.channel_model.specs.Setting.{Setting}
 use Rattle.channel_model.specs.Stretch.{Standing}
 use Rattle.channel_model.specs.Adding.{Row}
-use Rattle.channel_model.specs.Traffic.{Parcel, arrived, asked, brought, faulted, messages, noted, opened, queued}
+use Rattle.channel_model.specs.Traffic.{Notice, Parcel, arrived, asked, brought, faulted, messages, noted, noticed, notices, of_message, opened, queued}
 use Rattle.channel_model.specs.Turn.{is_among, is_at, is_expire, losses, parts_of_entry, receiving}
 use Rattle.item_list.specs.declared.no_memory.NoMemory.{NoMemory}
 use Rattle.event_runner.specs.Delivering.{Delivers, HasDelivered, HasDeliveredSome, NoteArrivals}
@@ -52,7 +52,7 @@ arrivals_alone reading server link (e ∷ mine) (m ∷ ms) notes =
 module _ (setting : Setting) (seat server link : ℕ) where
   -- arrivals note their messages
   arrivals_bring : (past : Past) (es : List Entry) (ms : List (List ℕ)) → NoteArrivals seat server link ms es → Brings setting seat past es (map (parcel_of server link) ms)
-  arrivals_bring past [] [] notes = record { arrivals = refl; sends = refl; links = refl; writes = λ k. refl; faults_are = refl }
+  arrivals_bring past [] [] notes = record { arrivals = refl; sends = refl; links = refl; writes = λ k. refl; faults_are = refl; in_order = refl }
   arrivals_bring past [] (m ∷ ms) notes = absurd (cc notes)
   arrivals_bring past (e ∷ es) ms notes = by_seat (e.seat == seat) refl ms notes (λ more h. arrivals_bring (e.what ∷ past) es more h)
     where
@@ -61,7 +61,7 @@ module _ (setting : Setting) (seat server link : ℕ) where
           Brings setting seat past (e ∷ es) (map (parcel_of server link) ms)
       by_seat false is ms h rest =
           let x = rest ms h in
-          record { arrivals = rw is x.arrivals; sends = rw is x.sends; links = rw is x.links; writes = λ k. rw is (x.writes k); faults_are = rw is x.faults_are }
+          record { arrivals = rw is x.arrivals; sends = rw is x.sends; links = rw is x.links; writes = λ k. rw is (x.writes k); faults_are = rw is x.faults_are; in_order = rw is x.in_order }
       by_seat true is [] h rest = absurd (cc h)
       by_seat true is (m ∷ ms) h rest =
           let first : e.what ≡ Arrive server link m = cc in
@@ -72,6 +72,7 @@ module _ (setting : Setting) (seat server link : ℕ) where
             links = rw is (ap (λ w. opened past w ++ noted seat opened (e.what ∷ past) es) first ∙ x.links);
             writes = λ k. rw is (ap (λ w. queued setting k past w ++ noted seat (queued setting k) (e.what ∷ past) es) first ∙ x.writes k);
             faults_are = rw is (ap (λ w. faulted past w ++ noted seat faulted (e.what ∷ past) es) first ∙ x.faults_are);
+            in_order = rw is (ap (λ w. noticed setting past w ++ noted seat (noticed setting) (e.what ∷ past) es) first ∙ ap (λ l. of_message (parcel_of server link m) ∷ l) x.in_order);
           }
 
   -- and begin no attempt
@@ -143,6 +144,11 @@ module _ (reading : ℕ) (a b : State) (before : List Row) (row : Row) (after : 
       let rest = delivered.not_more.0 in
       let split : map (parcel_of row.server row.number) delivered.handed ++ map (parcel_of row.server row.number) rest ≡ told messages from.held cs =
       sym (map-append (parcel_of row.server row.number) delivered.handed rest) ∙ ap (map (parcel_of row.server row.number)) delivered.not_more.1 ∙ sym all in
+      let handed : List Notice = map of_message (map (parcel_of row.server row.number) delivered.handed) in
+      let missed : List Notice = map of_message (map (parcel_of row.server row.number) rest) in
+      let told_all : handed ++ missed ≡ told notices from.held cs =
+      sym (map-append of_message (map (parcel_of row.server row.number) delivered.handed) (map (parcel_of row.server row.number) rest)) ∙ ap (map of_message) split
+      ∙ sym (append-nil (map of_message (told messages from.held cs))) ∙ sym (told-one from.held (Receive (Piece row.number bytes))) in
       record {
         within = record {
           nearly = record {
@@ -159,6 +165,15 @@ module _ (reading : ℕ) (a b : State) (before : List Row) (row : Row) (after : 
             links = inl brings.links;
             writes = λ k. (from.unwritten k ++ noted seat (queued setting k) from.past es, refl);
             faults_are = inl brings.faults_are;
+            in_order = inr (inr (record {
+              earlier = [];
+              last = Receive (Piece row.number bytes);
+              later = [];
+              calls_are = refl;
+              quiet = refl;
+              reached = (noted seat (noticed setting) from.past es, refl);
+              not_passed = (missed, rw brings.in_order told_all);
+            }));
           };
           alone = rw alone.0 refl;
         };

@@ -20,7 +20,7 @@ use Rattle.channel_model.specs.Meanings.{Arrives, Fails, Meaning}
 use Rattle.channel_model.specs.Setting.{Setting}
 use Rattle.channel_model.specs.Stretch.{Standing}
 use Rattle.channel_model.specs.Adding.{Row, link_of_row}
-use Rattle.channel_model.specs.Traffic.{arrived, asked, connects, datagrams, fault_received, faulted, faults, messages, messages_of, noted, opened, queued, written}
+use Rattle.channel_model.specs.Traffic.{arrived, asked, connects, datagrams, fault_received, faulted, faults, messages, messages_of, noted, noticed, notices, opened, queued, written}
 use Rattle.channel_model.specs.Turn.{if_held, is_nothing, losses, lost_receiving}
 use Rattle.event_runner.specs.Goes.{Goes, Stops}
 use Rattle.event_runner.specs.Parts.{CutHearing, Hears, HearsNothing}
@@ -59,6 +59,7 @@ nearly_before setting seat from os call others none = record {
   links = stops_before connects from.held call (noted seat opened from.past os) (noted-others seat opened from.past os others);
   writes = λ link. (from.unwritten link ++ noted seat (queued setting link) from.past os, rw (none link) refl);
   faults_are = stops_before faults from.held call (noted seat faulted from.past os) (noted-others seat faulted from.past os others);
+  in_order = stops_before notices from.held call (noted seat (noticed setting) from.past os) (noted-others seat (noticed setting) from.past os others);
 }
 
 -- what was received ends a link or tells its failure
@@ -161,6 +162,7 @@ module _ (reading : ℕ) where
               links = inl (noted-own seat opened from.past os entry others refl);
               writes = λ link. (from.unwritten link ++ noted seat (queued setting link) from.past (os ++ entry ∷ []), refl);
               faults_are = inl (noted-own seat faulted from.past os entry others refl ∙ rw (is_loss.fault from.held (link_of_row row) held, is) refl);
+              in_order = inl (noted-own seat (noticed setting) from.past os entry others refl ∙ rw (is_loss.no_message from.held, is_loss.fault from.held (link_of_row row) held, is) refl);
             };
             alone = rw (mine, eq-eqb reading reading refl) refl;
           };
@@ -204,7 +206,8 @@ module _ (reading : ℕ) where
           past_behind from os entry,
           record {
             within = record {
-              agrees = agrees_step setting seat from os others entry cs to refl refl refl (rw (is_loss.no_message from.held) refl) refl refl (λ link. append-nil (from.unwritten link)) (rw (is_loss.fault from.held (link_of_row row) held, is) refl);
+              agrees = agrees_step setting seat from os others entry cs to refl refl refl (rw (is_loss.no_message from.held) refl) refl refl (λ link. append-nil (from.unwritten link)) (rw (is_loss.fault from.held (link_of_row row) held, is) refl)
+                  (rw (is_loss.no_message from.held, is_loss.fault from.held (link_of_row row) held, is) refl);
               alone = rw (mine, eq-eqb reading reading refl) refl;
               counts = record { received_are = rw is_loss.item refl; expired_are = rw mine refl; started_are = rw mine refl };
             };
@@ -285,7 +288,8 @@ module _ (reading : ℕ) where
           past_behind from os entry,
           record {
             within = record {
-              agrees = agrees_step a.known.setting a.known.seat from os others entry cs to refl refl refl refl refl refl (λ link. append-nil (from.unwritten link)) (rw (not_held from sound) refl);
+              agrees = agrees_step a.known.setting a.known.seat from os others entry cs to refl refl refl refl refl refl (λ link. append-nil (from.unwritten link)) (rw (not_held from sound) refl)
+                  (rw (not_held from sound) refl);
               alone = rw (mine, eq-eqb reading reading refl) refl;
               counts = record { received_are = refl; expired_are = rw mine refl; started_are = rw mine refl };
             };

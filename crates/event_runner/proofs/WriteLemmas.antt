@@ -21,7 +21,7 @@ use Rattle.channel_model.specs.Links.{held_after, held_link, told, without_link}
 use Rattle.channel_model.specs.Meanings.{Fails, Meaning}
 use Rattle.channel_model.specs.Setting.{Setting}
 use Rattle.channel_model.specs.Stretch.{Agrees, Standing}
-use Rattle.channel_model.specs.Traffic.{arrived, asked, connects, datagrams, faulted, faults, is_start_on, messages, noted, opened, queued}
+use Rattle.channel_model.specs.Traffic.{arrived, asked, connects, datagrams, faulted, faults, is_start_on, messages, noted, noticed, notices, opened, queued}
 use Rattle.channel_model.specs.Turn.{closes_made, last_took_nothing, losses, writes_astray, writing, wrotes}
 use Rattle.event_runner.specs.Goes.{Break, Goes, Leads, Leaves, Stops, Stretch}
 use Rattle.event_runner.specs.Parts.{CutWriting, FlushEnds, Flushes, Writes, WritesTo, is_done}
@@ -270,6 +270,7 @@ module _ (reading : ℕ) where
                 ap (λ l. l ++ (from.unwritten k ++ noted a.known.seat (queued a.known.setting k) from.past os)) (none_written k row.unwritten [] refl),
               );
               faults_are = stops_before faults from.held failing (noted a.known.seat faulted from.past os) (noted-others a.known.seat faulted from.past os others);
+              in_order = stops_before notices from.held failing (noted a.known.seat (noticed a.known.setting) from.past os) (noted-others a.known.seat (noticed a.known.setting) from.past os others);
             };
             alone = rw (own_none a.known.seat os others) refl;
           };
@@ -295,6 +296,7 @@ module _ (reading : ℕ) where
                 ap (λ l. l ++ (from.unwritten k ++ noted a.known.seat (queued a.known.setting k) from.past (os ++ entry ∷ []))) (none_written k row.unwritten [] refl),
               );
               faults_are = inl (noted-own a.known.seat faulted from.past os entry others refl ∙ rw (held_here from sound) refl);
+              in_order = inl (noted-own a.known.seat (noticed a.known.setting) from.past os entry others refl ∙ rw (held_here from sound) refl);
             };
             alone = rw (mine, eq-eqb reading reading refl) refl;
           };
@@ -331,7 +333,7 @@ module _ (reading : ℕ) where
             writes = record {
               within = record {
                 agrees = agrees_step setting seat from os others entry cs to refl refl refl refl refl refl
-                    (λ k. append-nil (from.unwritten k) ∙ ap (λ l. l ++ from.unwritten k) (sym (none_written k row.unwritten [] refl))) (rw held refl);
+                    (λ k. append-nil (from.unwritten k) ∙ ap (λ l. l ++ from.unwritten k) (sym (none_written k row.unwritten [] refl))) (rw held refl) (rw held refl);
                 alone = rw (mine, eq-eqb reading reading refl) refl;
                 counts = record { received_are = refl; expired_are = rw mine refl; started_are = rw mine refl };
               };
