@@ -13,6 +13,3 @@ mod searching;
 pub use answering::at_once;
 pub use leg_end::LegEnd;
 pub use merging::merge;
-
-#[cfg(test)]
-mod tests;

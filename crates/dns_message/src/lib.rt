@@ -36,6 +36,3 @@ pub use name_mixing::mixed_names_are_the_same;
 pub use name_printing::printed_names_read_back;
 pub use name_reading::{Run, RunEnd, name_end, run_at};
 pub use shape::{NamesShape, Shape, shape_of, string_count};
-
-#[cfg(test)]
-mod tests;

@@ -17,6 +17,3 @@ pub use laws::{parts_are_as_spelled, printed_words_read_back, well_formed_record
 pub use lines::line;
 pub use typing::rdata;
 pub use words::{class_text, class_word, kind_text, kind_word};
-
-#[cfg(test)]
-mod tests;

@@ -11,6 +11,3 @@ pub use fault::HostsFault;
 pub use hosts::{HostLine, Hosts};
 pub use item_list::NoMemory;
 pub use net_addr::{Addr, AddrList, Family};
-
-#[cfg(test)]
-mod tests;

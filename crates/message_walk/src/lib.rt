@@ -15,6 +15,3 @@ pub use naming::name_is;
 pub use outlining::{Outline, read_outline};
 pub use questions::question_is;
 pub use sections::{OptSeen, Section, section_at};
-
-#[cfg(test)]
-mod tests;

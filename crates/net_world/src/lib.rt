@@ -25,6 +25,3 @@ pub use script_world::ScriptWorld;
 pub use sink::Sink;
 pub use timed::Timed;
 pub use world::World;
-
-#[cfg(test)]
-mod tests;

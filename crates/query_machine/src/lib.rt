@@ -17,6 +17,3 @@ pub use replies::judge;
 pub use reply::{Reply, matching};
 pub use servers::{FailureCount, Servers};
 pub use waiting::{attempts, wait_of};
-
-#[cfg(test)]
-mod tests;

@@ -21,6 +21,3 @@ pub use net_addr::{Addr, AddrList, ServerAddr, ServerList};
 pub use options::Options;
 pub use resolv_reading::read_resolv;
 pub use searching::candidates;
-
-#[cfg(test)]
-mod tests;

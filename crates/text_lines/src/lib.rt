@@ -10,6 +10,3 @@ pub use item_list::NoMemory;
 pub use line_reading::{Lines, before_comment, lines_in};
 pub use name_words::{read_name, read_names};
 pub use word_reading::{words_before_comment, words_in};
-
-#[cfg(test)]
-mod tests;

@@ -1,0 +1,81 @@
+//! A hosts file as machines have it, and what it answers.
+
+use hosts_file::{Hosts, HostsFault, Name};
+use net_addr::{AddrList, Family};
+use std::alloc::Global;
+use std::test::Fail;
+
+/// As a Debian machine has it, with what people add: comments, tabs, CR, an address and a name that are none,
+/// an address alone, a name in other case, a final dot, and an address of a zone, which isn't read.
+const FILE: &[u8] =
+    b"127.0.0.1\tlocalhost\n127.0.1.1 box # this machine\r\n\n# IPv6\n::1     ip6-localhost ip6-loopback localhost\r\n\
+192.0.2.300 box\n192.0.2.1 a..b Www.Test. box#old\n192.0.2.2\nfe80::1%eth0 box\n2001:db8::1 www.test\n  192.0.2.3 fox ; box";
+
+/// The texts of these addresses, with a blank behind each.
+fn texts_of(alloc: Global, addresses: &AddrList) -> Result<Vec<u8>, Fail> {
+    let mut texts = Vec::new(alloc);
+    for address in addresses.as_slice() {
+        texts.extend_from_slice(net_addr::print(alloc, *address)?.as_slice())?;
+        texts.push(b' ')?;
+    }
+    Ok(texts)
+}
+
+/// What the file says of a name: its addresses and its canonical name.
+fn found(alloc: Global, name: &str, family: Family) -> Result<Vec<u8>, Fail> {
+    let hosts = Hosts::read(alloc, FILE)?;
+    let name = Name::from_text(alloc, name.as_bytes())?.name;
+    let mut texts = texts_of(alloc, &hosts.addresses(alloc, &name, family)?)?;
+    if let Some(canonical) = hosts.canonical(alloc, &name, family)? {
+        texts.extend_from_slice(canonical.to_text(alloc)?.as_slice())?;
+    }
+    Ok(texts)
+}
+
+/// By hand after hosts(5).
+#[test]
+fn names_have_addresses(rt: HostRuntime) -> Result<(), Fail> {
+    let alloc = rt.alloc();
+    for (name, family, texts) in [
+        ("localhost", Family::Any, "127.0.0.1 ::1 localhost."),
+        ("LocalHost.", Family::V6, "::1 ip6-localhost."),
+        ("box", Family::Any, "127.0.1.1 192.0.2.1 box."),
+        ("www.test", Family::Any, "192.0.2.1 2001:db8::1 Www.Test."),
+        ("WWW.TEST", Family::V6, "2001:db8::1 www.test."),
+        ("fox", Family::V4, "192.0.2.3 fox."),
+        ("ip6-loopback", Family::V4, ""),
+        ("old", Family::Any, ""),
+    ] {
+        assert_eq!(rt;
+            found(alloc, name, family)?.as_slice(),
+            texts.as_bytes(),
+            "at {name}"
+        );
+    }
+    Ok(())
+}
+
+/// A file of the limit's size is read, and one of a byte more is not.
+#[test]
+fn only_a_file_above_the_limit_is_refused(rt: HostRuntime) -> Result<(), Fail> {
+    let alloc = rt.alloc();
+    let mut bytes = Vec::with_capacity(alloc, 4_194_305)?;
+    bytes.extend_from_slice(b"::1 box #")?;
+    bytes.resize(4_194_304, b' ')?;
+    let hosts = Hosts::read(alloc, bytes.as_slice())?;
+    let name = Name::from_text(alloc, b"box")?.name;
+    assert_eq!(rt; hosts.addresses(alloc, &name, Family::Any)?.len(), 1);
+    assert!(rt;
+        Hosts::empty(alloc)
+            .addresses(alloc, &name, Family::Any)?
+            .is_empty()
+    );
+    bytes.push(b'\n')?;
+    assert!(rt;
+        matches!(
+            Hosts::read(alloc, bytes.as_slice()),
+            Err(HostsFault::TooLarge)
+        )
+    );
+    Ok(())
+}

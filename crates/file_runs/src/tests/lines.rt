@@ -1,0 +1,64 @@
+//! Lines and words, as tables.
+
+use std::alloc::Global;
+use std::test::Fail;
+use text_lines::{before_comment, lines_in, read_name, read_names, words_before_comment, words_in};
+
+/// The words of these lists, with `|` behind each.
+fn joined(alloc: Global, words: &[&[u8]]) -> Result<Vec<u8>, Fail> {
+    let mut text = Vec::new(alloc);
+    for word in words {
+        text.extend_from_slice(word)?;
+        text.push(b'|')?;
+    }
+    Ok(text)
+}
+
+/// A text with CR, an empty line and no LF at its end, by hand after resolv.conf(5) and hosts(5).
+#[test]
+fn a_text_has_lines(rt: HostRuntime) -> Result<(), Fail> {
+    let alloc = rt.alloc();
+    let found: Vec<&[u8]> = lines_in(b"one\r\n\n two").collect(alloc)?;
+    assert_eq!(rt;
+        joined(alloc, found.as_slice())?.as_slice(),
+        b"one\r|| two|".as_slice()
+    );
+    Ok(())
+}
+
+#[test]
+fn a_line_has_words(rt: HostRuntime) -> Result<(), Fail> {
+    let alloc = rt.alloc();
+    for (line, all, kept) in [
+        ("  a\tb  c\r", "a|b|c|", "a|b|c|"),
+        ("a #b c", "a|#b|c|", "a|"),
+        ("a b#c ;d", "a|b#c|;d|", "a|b#c|"),
+        (";a", ";a|", ""),
+        ("", "", ""),
+    ] {
+        let found = words_in(alloc, line.as_bytes())?;
+        assert_eq!(rt; joined(alloc, found.as_slice())?.as_slice(), all.as_bytes());
+        let found = words_before_comment(alloc, line.as_bytes())?;
+        assert_eq!(rt;
+            joined(alloc, found.as_slice())?.as_slice(),
+            kept.as_bytes()
+        );
+    }
+    assert_eq!(rt; before_comment(b"a b#c ;d"), b"a b".as_slice());
+    Ok(())
+}
+
+#[test]
+fn words_are_names(rt: HostRuntime) -> Result<(), Fail> {
+    let alloc = rt.alloc();
+    assert!(rt; read_name(alloc, b"B.")?.is_some() && read_name(alloc, b"a..b")?.is_none());
+    let names = read_names(
+        alloc,
+        &[b"a.test".as_slice(), b"a..b".as_slice(), b"B.".as_slice()],
+    )?;
+    assert_eq!(rt; names.len(), 2);
+    for name in names.as_slice() {
+        assert!(rt; name.labels() > 0);
+    }
+    Ok(())
+}
