@@ -27,88 +27,148 @@ impl From<NoMemory> for Failed {
     }
 }
 
-/// A channel, and the identifiers of its attempts, the oldest first.
+/// The identifiers of the attempts, the oldest first.
 #[derive(Drop)]
-struct Asking {
-    alloc: Global,
-    desk: Alone<Quiet>,
+struct Attempts {
     ids: VecDeque<u16>,
-    /// The random word of the last attempt.
+    /// The random word of the last one.
     word: u16,
 }
 
-impl Asking {
-    fn make(alloc: Global) -> Result<Asking, Failed> {
-        let options = read_resolv(alloc, RESOLV).map_err(|_| Failed)?;
-        Ok(Asking {
-            alloc,
-            desk: Alone::make(alloc, options, Hosts::empty(alloc))?,
+impl Attempts {
+    /// None yet.
+    fn new(alloc: Global) -> Attempts {
+        Attempts {
             ids: VecDeque::new(alloc),
             word: 0,
-        })
-    }
-
-    /// Asks for the addresses of example.com.
-    fn ask(&mut self) -> Result<(), Failed> {
-        let spec = Spec::Query {
-            name: Bytes::of(self.alloc, b"example.com")?,
-            kind: KIND_A,
-            class: CLASS_IN,
-        };
-        match self.desk.accept(spec, Quiet::new(self.alloc)) {
-            Ok(_) => Ok(()),
-            Err(_) => Err(Failed),
         }
     }
 
     /// Begins an attempt of the first request that waits.
-    fn begin(&mut self) -> Result<(), Failed> {
+    fn begin(&mut self, desk: &mut Alone<Quiet>) -> Result<(), Failed> {
         self.word = self.word.wrapping_mul(25_173).wrapping_add(13_849);
-        if let Begun::Started { id, .. } = self.desk.start(self.word, 0, 0)? {
+        if let Begun::Started { id, .. } = desk.start(self.word, 0, 0)? {
             self.ids.push_back(id).map_err(|_| Failed)?;
         }
         Ok(())
     }
 
     /// The reply to the oldest attempt comes. Answers whether a request was answered by it.
-    fn reply(&mut self) -> Result<bool, Failed> {
+    fn reply(&mut self, desk: &mut Alone<Quiet>) -> Result<bool, Failed> {
         let Some(id) = self.ids.pop_front() else {
             return Ok(false);
         };
-        let mut bytes = REPLY;
-        let [high, low] = id.to_be_bytes();
-        bytes[0] = high;
-        bytes[1] = low;
-        let _landed = self.desk.arrive(0, 0, &bytes)?;
-        Ok(match self.desk.take() {
-            Some(ticket) => ticket.answer().status == Status::Success,
-            None => false,
-        })
+        let _landed = desk.arrive(0, 0, &reply_to(id))?;
+        Ok(succeeds(desk))
     }
+}
+
+/// The reply with this identifier.
+fn reply_to(id: u16) -> [u8; 45] {
+    let mut bytes = REPLY;
+    let [high, low] = id.to_be_bytes();
+    bytes[0] = high;
+    bytes[1] = low;
+    bytes
+}
+
+/// Takes a request, if one is ready, and answers whether it was answered.
+fn succeeds(desk: &mut Alone<Quiet>) -> bool {
+    match desk.take() {
+        Some(ticket) => ticket.answer().status == Status::Success,
+        None => false,
+    }
+}
+
+/// A channel that was asked nothing.
+fn channel(alloc: Global) -> Result<Alone<Quiet>, Failed> {
+    let options = read_resolv(alloc, RESOLV).map_err(|_| Failed)?;
+    Ok(Alone::make(alloc, options, Hosts::empty(alloc))?)
+}
+
+/// The addresses of example.com.
+fn query(alloc: Global) -> Result<Spec, NoMemory> {
+    Ok(Spec::Query {
+        name: Bytes::of(alloc, b"example.com")?,
+        kind: KIND_A,
+        class: CLASS_IN,
+    })
+}
+
+/// Asks for the addresses of example.com.
+fn ask(desk: &mut Alone<Quiet>, alloc: Global) -> Result<(), Failed> {
+    let spec = query(alloc)?;
+    match desk.accept(spec, Quiet::new(alloc)) {
+        Ok(_) => Ok(()),
+        Err(_) => Err(Failed),
+    }
+}
+
+/// Asks for them so many times.
+fn ask_all(desk: &mut Alone<Quiet>, alloc: Global, window: u64) -> Result<(), Failed> {
+    for _ in 0..window {
+        ask(desk, alloc)?;
+    }
+    Ok(())
+}
+
+/// Asks for them so many times, and begins an attempt each time.
+fn begin_all(
+    desk: &mut Alone<Quiet>,
+    attempts: &mut Attempts,
+    alloc: Global,
+    window: u64,
+) -> Result<(), Failed> {
+    for _ in 0..window {
+        ask(desk, alloc)?;
+        attempts.begin(desk)?;
+    }
+    Ok(())
+}
+
+/// So many replies come, each with a new request behind it. Answers how many requests were answered.
+fn reply_all(
+    desk: &mut Alone<Quiet>,
+    attempts: &mut Attempts,
+    alloc: Global,
+    replies: u64,
+) -> Result<u64, Failed> {
+    let mut taken = 0u64;
+    for _ in 0..replies {
+        taken = taken.wrapping_add(u64::from(attempts.reply(desk)?));
+        ask(desk, alloc)?;
+        attempts.begin(desk)?;
+    }
+    Ok(taken)
 }
 
 /// So many requests are asked for, and nothing comes. Answers how many were answered, and how many wait.
 pub fn pending(alloc: Global, window: u64) -> Result<(u64, u64), Failed> {
-    let mut asking = Asking::make(alloc)?;
-    for _ in 0..window {
-        asking.ask()?;
-    }
-    Ok((0, asking.desk.counts().waiting))
+    pending_at(&mut channel(alloc)?, alloc, window)
+}
+
+/// The same of this channel.
+fn pending_at(desk: &mut Alone<Quiet>, alloc: Global, window: u64) -> Result<(u64, u64), Failed> {
+    ask_all(desk, alloc, window)?;
+    Ok((0, desk.counts().waiting))
 }
 
 /// So many requests are in flight, and so many replies come, each to the oldest attempt, with a new request behind it.
 /// Answers how many requests were answered, and how many wait.
 pub fn answered(alloc: Global, window: u64, replies: u64) -> Result<(u64, u64), Failed> {
-    let mut asking = Asking::make(alloc)?;
-    for _ in 0..window {
-        asking.ask()?;
-        asking.begin()?;
-    }
-    let mut taken = 0u64;
-    for _ in 0..replies {
-        taken = taken.wrapping_add(u64::from(asking.reply()?));
-        asking.ask()?;
-        asking.begin()?;
-    }
-    Ok((taken, asking.desk.counts().waiting))
+    let desk = &mut channel(alloc)?;
+    answered_at(desk, &mut Attempts::new(alloc), alloc, window, replies)
+}
+
+/// The same of this channel.
+fn answered_at(
+    desk: &mut Alone<Quiet>,
+    attempts: &mut Attempts,
+    alloc: Global,
+    window: u64,
+    replies: u64,
+) -> Result<(u64, u64), Failed> {
+    begin_all(desk, attempts, alloc, window)?;
+    let taken = reply_all(desk, attempts, alloc, replies)?;
+    Ok((taken, desk.counts().waiting))
 }

@@ -12,38 +12,68 @@ use resolv_options::{Flags, Options, ServerList};
 use sock_engine::SockWorld;
 use std::alloc::Global;
 use std::io;
-use std::time::CpuClock;
+use std::time::{CpuClock, Duration};
 
-/// A channel with its runner and its network, and what it came to.
-#[derive(Drop)]
-struct Asking {
-    alloc: Global,
-    desk: Alone<Quiet>,
-    runner: Runner,
-    world: SockWorld<HostRuntime>,
+/// How many queries were asked, how many of them have ended, and how many of those were answered.
+#[derive(Clone, Copy)]
+struct Tally {
     asked: u64,
-    answered: u64,
     ended: u64,
+    answered: u64,
+}
+
+/// How many queries were answered, and the thread's processor time before the first was asked and behind the last.
+#[derive(Clone, Copy)]
+struct Asked {
+    answered: u64,
+    begun: Duration,
+    ended: Duration,
 }
 
 /// Asks the queries of the load, so many of them at once, each tried once. What is timed is the asking, as of the bare
 /// loop: the channel is made before, and dropped with its journal behind it, which is timed apart.
 pub fn ask(rt: HostRuntime, load: &Load) -> io::Result<Spent> {
-    let Ok(mut asking) = Asking::make(rt, load) else {
-        return Err(io::ErrorKind::OutOfMemory.into());
-    };
-    let begun = rt.thread_cpu_time()?;
-    if asking.ask_all(load).is_err() {
-        return Err(io::ErrorKind::OutOfMemory.into());
-    }
-    let ended = rt.thread_cpu_time()?;
-    let answered = asking.answered;
-    drop(asking);
+    let asked = ask_over_network(rt, load)?;
+    let dropped = rt.thread_cpu_time()?;
     Ok(Spent {
-        answered,
-        nanos: ended.saturating_sub(begun).as_nanos(),
-        at_end: rt.thread_cpu_time()?.saturating_sub(ended).as_nanos(),
+        answered: asked.answered,
+        nanos: asked.ended.saturating_sub(asked.begun).as_nanos(),
+        at_end: dropped.saturating_sub(asked.ended).as_nanos(),
     })
+}
+
+/// Asks them over the real network, which is dropped behind them.
+fn ask_over_network(rt: HostRuntime, load: &Load) -> io::Result<Asked> {
+    ask_by_runner(rt, &mut SockWorld::make(rt).map_err(no_memory)?, load)
+}
+
+/// Asks them by a runner of this network.
+fn ask_by_runner(
+    rt: HostRuntime,
+    world: &mut SockWorld<HostRuntime>,
+    load: &Load,
+) -> io::Result<Asked> {
+    let options = options_for(rt.alloc(), load.port).map_err(no_memory)?;
+    let runner = Runner::make(rt.alloc(), world, &options).map_err(no_memory);
+    ask_through_channel(rt, options, &mut runner?, world, load)
+}
+
+/// Asks them through a channel with these options.
+fn ask_through_channel(
+    rt: HostRuntime,
+    options: Options,
+    runner: &mut Runner,
+    world: &mut SockWorld<HostRuntime>,
+    load: &Load,
+) -> io::Result<Asked> {
+    let alloc = rt.alloc();
+    let desk = Alone::make(alloc, options, Hosts::empty(alloc)).map_err(no_memory);
+    time_asking(rt, &mut desk?, runner, world, load)
+}
+
+/// The fault of the program where memory is wanting.
+fn no_memory(_: NoMemory) -> io::Error {
+    io::ErrorKind::OutOfMemory.into()
 }
 
 /// The options: one server at this port, one try of two seconds, and queries without an OPT record.
@@ -63,85 +93,112 @@ fn options_for(alloc: Global, port: u16) -> Result<Options, NoMemory> {
     Ok(options)
 }
 
-impl Asking {
-    /// A channel that was asked nothing yet.
-    fn make(rt: HostRuntime, load: &Load) -> Result<Asking, NoMemory> {
-        let alloc = rt.alloc();
-        let options = options_for(alloc, load.port)?;
-        let mut world = SockWorld::make(rt)?;
-        let runner = Runner::make(alloc, &mut world, &options)?;
-        Ok(Asking {
-            alloc,
-            desk: Alone::make(alloc, options, Hosts::empty(alloc))?,
-            runner,
-            world,
-            asked: 0,
-            answered: 0,
-            ended: 0,
-        })
-    }
+/// Asks them all, and reads the clock before and behind.
+fn time_asking(
+    rt: HostRuntime,
+    desk: &mut Alone<Quiet>,
+    runner: &mut Runner,
+    world: &mut SockWorld<HostRuntime>,
+    load: &Load,
+) -> io::Result<Asked> {
+    let begun = rt.thread_cpu_time()?;
+    let answered = ask_all(desk, runner, world, rt.alloc(), load).map_err(no_memory)?;
+    Ok(Asked {
+        answered,
+        begun,
+        ended: rt.thread_cpu_time()?,
+    })
+}
 
-    /// Asks all, and goes on until the last one has ended.
-    fn ask_all(&mut self, load: &Load) -> Result<(), NoMemory> {
-        self.fill(load)?;
-        for _ in 0..u64::MAX {
-            if self.ended >= load.count {
-                break;
-            }
-            self.go_on(load)?;
+/// Asks all, and goes on until the last one has ended. Answers how many were answered.
+fn ask_all(
+    desk: &mut Alone<Quiet>,
+    runner: &mut Runner,
+    world: &mut SockWorld<HostRuntime>,
+    alloc: Global,
+    load: &Load,
+) -> Result<u64, NoMemory> {
+    let mut tally = Tally {
+        asked: 0,
+        ended: 0,
+        answered: 0,
+    };
+    fill(desk, alloc, load, &mut tally)?;
+    for _ in 0..u64::MAX {
+        if tally.ended >= load.count {
+            break;
         }
-        Ok(())
+        let _turned = runner.turn(desk, world)?;
+        refill(desk, alloc, load, &mut tally)?;
+        let _paused = runner.pause(desk, world, u64::MAX)?;
     }
+    Ok(tally.answered)
+}
 
-    /// Asks the next query, unless all were asked.
-    fn ask_next(&mut self, load: &Load) -> Result<(), NoMemory> {
-        if self.asked >= load.count {
-            return Ok(());
-        }
-        let spec = Spec::Query {
-            name: Bytes::of(self.alloc, b"example.com")?,
-            kind: 1,
-            class: 1,
-        };
-        if self.desk.accept(spec, Quiet::new(self.alloc)).is_err() {
-            return Err(NoMemory);
-        }
-        self.asked = self.asked.saturating_add(1);
-        Ok(())
+/// Asks as many queries as are in flight at once.
+fn fill(
+    desk: &mut Alone<Quiet>,
+    alloc: Global,
+    load: &Load,
+    tally: &mut Tally,
+) -> Result<(), NoMemory> {
+    for _ in 0..load.window {
+        ask_next(desk, alloc, load, tally)?;
     }
+    Ok(())
+}
 
-    /// Takes a ticket, if one is ready, and answers whether one was.
-    fn take_next(&mut self) -> bool {
-        let Some(ticket) = self.desk.take() else {
-            return false;
-        };
-        if ticket.answer().status == Status::Success {
-            self.answered = self.answered.saturating_add(1);
+/// A further query for each that has its answer, as of the bare loop.
+fn refill(
+    desk: &mut Alone<Quiet>,
+    alloc: Global,
+    load: &Load,
+    tally: &mut Tally,
+) -> Result<(), NoMemory> {
+    for _ in 0..load.window {
+        if !take_next(desk, tally) {
+            break;
         }
-        self.ended = self.ended.saturating_add(1);
-        true
+        ask_next(desk, alloc, load, tally)?;
     }
+    Ok(())
+}
 
-    /// Asks as many queries as are in flight at once.
-    fn fill(&mut self, load: &Load) -> Result<(), NoMemory> {
-        for _ in 0..load.window {
-            self.ask_next(load)?;
-        }
-        Ok(())
+/// Asks the next query, unless all were asked.
+fn ask_next(
+    desk: &mut Alone<Quiet>,
+    alloc: Global,
+    load: &Load,
+    tally: &mut Tally,
+) -> Result<(), NoMemory> {
+    if tally.asked >= load.count {
+        return Ok(());
     }
+    let spec = query(alloc)?;
+    if desk.accept(spec, Quiet::new(alloc)).is_err() {
+        return Err(NoMemory);
+    }
+    tally.asked = tally.asked.saturating_add(1);
+    Ok(())
+}
 
-    /// A turn, a further query for each that has its answer, as of the bare loop, and a pause.
-    fn go_on(&mut self, load: &Load) -> Result<(), NoMemory> {
-        let _turned = self.runner.turn(&mut self.desk, &mut self.world)?;
-        for _ in 0..load.window {
-            if !self.take_next() {
-                break;
-            }
-            self.ask_next(load)?;
-        }
-        let _paused = self
-            .runner
-            .pause(&mut self.desk, &mut self.world, u64::MAX)?;
-        Ok(())
+/// The addresses of IPv4 of example.com.
+fn query(alloc: Global) -> Result<Spec, NoMemory> {
+    Ok(Spec::Query {
+        name: Bytes::of(alloc, b"example.com")?,
+        kind: 1,
+        class: 1,
+    })
+}
+
+/// Takes a ticket, if one is ready, and answers whether one was.
+fn take_next(desk: &mut Alone<Quiet>, tally: &mut Tally) -> bool {
+    let Some(ticket) = desk.take() else {
+        return false;
+    };
+    if ticket.answer().status == Status::Success {
+        tally.answered = tally.answered.saturating_add(1);
     }
+    tally.ended = tally.ended.saturating_add(1);
+    true
 }
