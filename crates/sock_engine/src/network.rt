@@ -44,6 +44,8 @@ pub(crate) struct Network {
     /// The last look left something behind. The next one then suspects every socket, also those whose events
     /// no poll was made for.
     cut_off: bool,
+    /// The last look left nothing behind, and since then no poll was made and nothing was sent: a receive need not look.
+    quiet: bool,
 }
 
 impl Network {
@@ -68,6 +70,7 @@ impl Network {
             tokens: 0,
             sends: 0,
             cut_off: false,
+            quiet: false,
         }))
     }
 
@@ -96,6 +99,7 @@ impl Network {
     pub(crate) fn send<R: Net + Clock>(&mut self, rt: &R, server: u32, bytes: &[u8]) -> Sent
         ensures { IsPrefix self.old.inbox self.new.inbox }
     {
+        self.quiet = false;
         self.sends = self.sends.wrapping_add(1);
         if self.sends % SENDS_MOST == 0 {
             self.look_ahead();
@@ -161,7 +165,7 @@ impl Network {
         ensures whole { IfOk result IsWhole }
         ensures err { OnErr result (IsPrefix self.old.inbox self.new.inbox) }
     {
-        if self.inbox.is_empty() {
+        if self.inbox.is_empty() && !self.quiet {
             self.look()?;
         }
         take_first(&mut self.inbox)
@@ -173,6 +177,7 @@ impl Network {
         if !self.inbox.is_empty() {
             return Waited::Woken;
         }
+        self.quiet = false;
         let time = patience(self.is_pending(), self.is_resting(), now, until);
         let time = Duration::from_millis(time);
         if self.poll.poll(&mut self.events, Some(time)).is_err() {
@@ -229,6 +234,7 @@ impl Network {
         look_at_links(&mut self.links, &mut self.inbox)?;
         self.links.retain(|link| !link.is_over());
         self.cut_off = self.is_pending();
+        self.quiet = !self.cut_off;
         Ok(())
     }
 }
