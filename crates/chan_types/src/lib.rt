@@ -32,6 +32,3 @@ pub use spec::Spec;
 pub use status::Status;
 pub use ticket::Ticket;
 pub use token::{Quiet, Token};
-
-#[cfg(test)]
-mod tests;

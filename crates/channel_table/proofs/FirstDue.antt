@@ -1,11 +1,12 @@
 -- The first deadline that is kept is the first of the rows.
-use Rattle.std.proofs.Common.{◌≡◌, ◌∙◌, ℕ, Bool, true, false, ◌&&◌, ◌||◌, List, [], ◌∷◌, ◌++◌, Option, Some, None, refl, ap, sym, subst, append_assoc, arith, ◌⊎◌, inl, inr, ◌==◌}
+use Rattle.std.proofs.Common.{◌≡◌, ◌<◌, ◌∙◌, ℕ, Bool, true, false, ◌&&◌, ◌||◌, List, [], ◌∷◌, ◌++◌, Option, Some, None, refl, ap, sym, subst, append_assoc, arith, ◌⊎◌, inl, inr, ◌==◌}
 use Rattle.std.proofs.lemmas.Bool.{and_parts, eqb-true, false≢true}
 use Rattle.std.proofs.lemmas.Bool.Decides.{nat_tests}
 use Rattle.std.specs.FinMap as map
 use Rattle.std.specs.List.{AllByRecursion, cons_option}
 use Rattle.std.specs.Ordering.{eq_by_cmp, is_eq, is_le, is_lt, nat_cmp, ordering_then}
-use Rattle.std.specs.Prelude.{filter_map, flat_map, if◌then◌else◌, nat_lt, option_map, option_to_list}
+use Rattle.std.specs.Option.{option_map_or}
+use Rattle.std.specs.Prelude.{IfSome, filter_map, flat_map, if◌then◌else◌, nat_le, nat_lt, option_map, option_to_list}
 use Rattle.std.specs.declared.cmp.Ordering.{Ordering}
 use Rattle.std.specs.declared.cmp.Ordering.TheVariants.{Less, Equal, Greater}
 use Rattle.channel_model.specs.Lawful.{Due, is_before, least, least_due}
@@ -141,3 +142,15 @@ no_side_due flown xs (side ∷ ss) empty are = by_flying (flying_of side) refl (
 -- no row has one
 pub none_due : {T : Type 0} (flown : Flown) (rows : List (Row T)) → flown.deadlines ≡ map.empty → AreFlown flown (all_sides rows) → dues rows ≡ []
 none_due flown rows empty are = no_side_due flown [] (all_sides rows) empty are
+
+-- ---- whether the first is due at a moment
+
+-- its moment tells it
+pub due_by_moment : (at : ℕ) (first : Option Due) (moment : Option ℕ) → moment ≡ option_map (λ (d : Due). d.at) first → option_map_or (λ m. nat_le m at) moment false ≡ option_map_or (λ (d : Due). nat_le d.at at) first false
+due_by_moment at None moment is = ap (λ m. option_map_or (λ m. nat_le m at) m false) is
+due_by_moment at (Some d) moment is = ap (λ m. option_map_or (λ m. nat_le m at) m false) is
+
+-- one that isn't due is later
+pub due_later : (at : ℕ) (first : Option Due) → option_map_or (λ (d : Due). nat_le d.at at) first false ≡ false → IfSome first (λ d. at < d.at)
+due_later at None not = tt
+due_later at (Some d) not = grind (arith, nat_tests, not)

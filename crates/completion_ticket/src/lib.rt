@@ -13,6 +13,3 @@ pub use called::Called;
 pub use done::Done;
 pub use hand::Hand;
 pub use scripted::Scripted;
-
-#[cfg(test)]
-mod tests;

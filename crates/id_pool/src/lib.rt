@@ -5,7 +5,5 @@
 mod bitmap;
 mod levels;
 mod pool;
-#[cfg(test)]
-mod tests;
 
 pub use pool::IdPool;

@@ -3,10 +3,9 @@
 #![tactic(auto)]
 
 mod flights;
+mod fresh;
 mod link_ids;
 mod links;
-#[cfg(test)]
-mod tests;
 mod waiting;
 
 pub use flights::Flights;

@@ -8,5 +8,4 @@ mod MakingLemmas
 mod TurnLemmas
 mod CloseLemmas
 mod NewLemmas
-mod SeatRowLemmas
 pub mod Theorems

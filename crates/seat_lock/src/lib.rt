@@ -18,6 +18,3 @@ pub use lock::SeatLock;
 pub use making::make;
 pub use seat::Seat;
 pub use view::Left;
-
-#[cfg(test)]
-mod tests;

@@ -5,8 +5,6 @@ mod by_number;
 mod key;
 mod queue;
 mod rows;
-#[cfg(test)]
-mod tests;
 
 pub use key::Key;
 pub use queue::Queue;

@@ -36,6 +36,7 @@ impl<T: Token> Table<T> {
         make_room(&mut self.entries, self.rows.len(), self.ready.len())?;
         match found {
             None => {
+                self.rows.index_flights();
                 self.entries
                     .push_reserved(arrival(seat, server, link, kept));
                 Ok(Landed::Stray)
@@ -77,6 +78,9 @@ impl<T: Token> Table<T> {
     pub fn expire(&mut self, seat: u64, at: u64) -> Result<Lapse, NoMemory>
         ensures { Happens (Expires at result) seat 0 self.old self.new }
     {
+        if !self.rows.is_due(at) {
+            return Ok(Lapse::NotDue);
+        }
         match self.rows.find_soonest() {
             Some(first) if first.at <= at => {
                 let most = most_attempts(&self.options, &self.list);

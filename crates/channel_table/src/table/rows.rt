@@ -2,9 +2,10 @@
 
 ghost use Rattle.std.specs.FinSet as set;
 ghost use Rattle.std.specs.List.{AllByRecursion, list_any, sum_by};
-ghost use Rattle.std.specs.Prelude.{◌≡◌, ◌≤◌, ◌<◌, ◌+◌, ◌++◌, [], ◌∷◌, false, IfErr, IfOk, IfSome, OnErr, OnOk, Some, flat_map, get_or, length, map, true};
+ghost use Rattle.std.specs.Option.{option_map_or};
+ghost use Rattle.std.specs.Prelude.{◌≡◌, ◌≤◌, ◌<◌, ◌+◌, ◌++◌, [], ◌∷◌, false, IfErr, IfOk, IfSome, OnErr, OnOk, Some, flat_map, get_or, length, map, nat_le, option_map, true};
 ghost use Rattle.std.specs.VecDeque.{deque_capacity, deque_len};
-ghost use Rattle.channel_model.specs.Lawful.{first};
+ghost use Rattle.channel_model.specs.Lawful.{first, least};
 ghost use Rattle.query_machine.specs.Legs.{attempt_from};
 ghost use Rattle.channel_table.specs.Apart.{IsApart};
 ghost use Rattle.channel_table.specs.Arriving.{Finds};
@@ -240,27 +241,34 @@ impl<T: Token> Rows<T> {
         }
     }
 
+    /// When the attempt is due that is due first.
+    pub fn first_due(&self) -> Option<u64>
+        ensures { result ≡ option_map (λ due. due.at) (least (dues self.now)) }
+    {
+        match self.flown.deadlines.first_due() {
+            Some((_, due)) => Some(due),
+            None => None,
+        }
+    }
+
+    /// Whether an attempt is due at this moment.
+    pub fn is_due(&self, at: u64) -> bool
+        ensures { result ≡ option_map_or (λ due. nat_le due.at at) (least (dues self.now)) false }
+    {
+        match self.first_due() {
+            Some(due) => due <= at,
+            None => false,
+        }
+    }
+
     /// The attempt that is due first: by its deadline, then its request, then its leg.
     pub fn find_soonest(&self) -> Option<Soonest>
         ensures { IsSoonest self.now result }
     {
-        if self.none_flies() {
-            return None;
-        }
         if let Some(found) = self.first_side() {
             return Some(found);
         }
         find_soonest(&self.list)
-    }
-
-    /// No attempt is in flight.
-    fn none_flies(&self) -> bool
-        ensures { result ≡ true → dues self.now ≡ [] }
-    {
-        match self.flown.deadlines.first_due() {
-            None => true,
-            Some(_) => false,
-        }
     }
 
     /// The first attempt, by the first deadline that is kept.
@@ -270,6 +278,13 @@ impl<T: Token> Rows<T> {
         let (leg, due) = self.flown.deadlines.first_due()?;
         let index = find_row(&self.list, leg.number)?;
         side_due(row_at(&self.list, index), index, leg, due)
+    }
+
+    /// Puts the attempts into the map that finds them, where many are about to be looked for out of their order.
+    pub fn index_flights(&mut self)
+        ensures { self.new ≡ self.old }
+    {
+        self.flown.flights.index_all();
     }
 
     /// Whether an attempt is in flight on this server over this link.

@@ -27,10 +27,7 @@ impl<T: Token> Table<T> {
     pub fn next_due(&self) -> Option<u64>
         ensures { Happens (TellsDue result) 0 0 self.now self.now }
     {
-        match self.rows.find_soonest() {
-            Some(first) => Some(first.at),
-            None => None,
-        }
+        self.rows.first_due()
     }
 }
 

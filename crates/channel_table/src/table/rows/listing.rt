@@ -46,6 +46,7 @@ impl<T: Token> Rows<T> {
         let Ok(ids) = ids_left(*self.list.allocator(), &self.links, list) else {
             return;
         };
+        self.index_flights();
         for place in 0..ids.len() {
             self.set_with(ids[place], list);
         }

@@ -66,13 +66,13 @@ invariant_of-self-in-None g c =
     let entry : Entry = record { seat = c.args.seat; by = 0; what = what } in
     let added : c.push_reserved.new.self.items ≡ c.self.inside.entries.items ++ entry ∷ [] = rw (c.push_reserved.ensures.items, c.arrival.ensures, c.make_room.ensures.items, c.in_ok-kept.ensures) refl in
     let room = c.in_ok-make_room.ensures in
-    kept_more g.T.Token.plan c.self.inside _ entry refl added c.self.invariant tt
+    rw c.index_flights.ensures (kept_more g.T.Token.plan c.self.inside _ entry refl added c.self.invariant tt
     (table_stray g.T.Token.plan setting past c.args.server c.args.link c.args.bytes.now c.self.inside.rows c.self.inside.ready.items none c.self.invariant.stands)
     (counted_kept setting what past c.self.inside.list c.self.inside.servers c.self.inside.greatest_key c.self.inside.greatest_link c.self.inside.started c.self.invariant.counted refl refl (λ a flies. in_flight-none setting (λ b. closes setting b (Arrive c.args.server c.args.link c.args.bytes.now) past) a.leg past a flies closes_none))
     (no_more (Arrive c.args.server c.args.link c.args.bytes.now) past refl ∙ c.self.invariant.accepts) c.self.invariant.destroyed
     (omega (arith, c.self.invariant.few, c.push_reserved.ensures.len, c.make_room.ensures.len)) (omega (arith, c.self.invariant.few_links, c.push_reserved.ensures.len, c.make_room.ensures.len)) (omega (arith, c.self.invariant.few_starts, c.push_reserved.ensures.len, c.make_room.ensures.len))
     (omega (arith, room.room, c.len.ensures, c.len-2.ensures, c.make_room.ensures.len, c.push_reserved.ensures.len, c.push_reserved.ensures.capacity, few_closed c.self.inside.closed))
-    c.self.invariant.room_ready
+    c.self.invariant.room_ready)
 
 pub returns-in-None : goal.returns-in-None
 returns-in-None g c =

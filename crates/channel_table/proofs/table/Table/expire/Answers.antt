@@ -14,6 +14,7 @@ use Rattle.channel_model.specs.declared.answers.Lapse.TheVariants.{Expired, NotD
 use Rattle.query_machine.specs.Servers.{one_more, recounted}
 use Rattle.channel_table.proofs.Attempts.{attempts_are, list_few, list_some}
 use Rattle.channel_table.proofs.FailureSteps.{counted_expired, past_of-length}
+use Rattle.channel_table.proofs.FirstDue.{due_later}
 use Rattle.channel_table.proofs.Keeping.{few_closed, happens_nothing, happens_one, happens_same, kept_grown, kept_more, no_more}
 use Rattle.channel_table.proofs.Lapsing.{expires_failed, found_says, table_expired}
 use Rattle.channel_table.proofs.RowAt.{counted_at_side, flight_at}
@@ -29,10 +30,18 @@ use Rattle.std.specs.Option.{option_and_then}
 use Rattle.std.specs.Prelude.{IfSome, Option}
 use Rattle.channel_table.specs.Rows.{side_at}
 use Rattle.channel_table.specs.Sides.{at_side, flying_of, leg_of_side}
-use Rattle.channel_table.specs.Soonest.{due_of_side}
+use Rattle.channel_table.specs.Soonest.{due_of_side, dues}
 use Rattle.channel_table.specs.declared.side.Side.{Side}
 use Rattle.channel_table.specs.declared.row.Row.{Row}
 use Rattle.channel_table.proofs.table.Table.expire.Goals as goal
+
+pub returns-then-not-is_due : goal.returns-then-not-is_due
+returns-then-not-is_due g c =
+    let past : Past = past_of c.self.inside.entries.items in
+    let told = first_due_rows g.T.Token.plan (setting_of c.self.inside) past c.self.inside.rows c.self.inside.ready.items c.self.invariant.stands in
+    let later = due_later c.args.at (least (dues c.self.inside.rows)) (sym c.is_due.ensures ∙ c.if-not-is_due.true) in
+    let means : Expires c.args.at (Ok NotDue) (setting_of c.self.inside) past None = (refl, rw told later) in
+    rw (← c.self.view_is) (happens_nothing g.T.Token.plan (Expires c.args.at (Ok NotDue)) c.self.inside c.args.seat 0 c.self.invariant means)
 
 pub most_attempts-most-requires-clause-some : goal.most_attempts-most-requires-clause-some
 most_attempts-most-requires-clause-some g c =

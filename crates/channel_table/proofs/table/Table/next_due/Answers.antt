@@ -1,23 +1,15 @@
-use Rattle.std.proofs.Common.{refl, sym, ap, Some, None, ◌∙◌}
+use Rattle.std.proofs.Common.{refl, sym, ap, ◌∙◌}
 use Rattle.std.specs.Prelude.{option_map}
 use Rattle.channel_model.specs.Journal.{past_of}
-use Rattle.channel_model.specs.Lawful.{Due, least}
+use Rattle.channel_model.specs.Lawful.{Due}
 use Rattle.channel_table.proofs.Keeping.{happens_nothing}
 use Rattle.channel_table.proofs.Telling.{first_due_rows}
 use Rattle.channel_table.specs.Kept.{setting_of}
 use Rattle.channel_model.specs.Meanings.{TellsDue}
 use Rattle.channel_table.proofs.table.Table.next_due.Goals as goal
 
-pub returns-in-Some : goal.returns-in-Some
-returns-in-Some g c =
+pub returns : goal.returns
+returns g c =
     let told = first_due_rows g.T.Token.plan (setting_of c.self.inside) (past_of c.self.inside.entries.items) c.self.inside.rows c.self.inside.ready.items c.self.invariant.stands in
-    let first = c.in-Some.ensures.1 in
-    rw (← c.self.view_is) (happens_nothing g.T.Token.plan (TellsDue (Some c.in-Some.first.at)) c.self.inside 0 0 c.self.invariant
-    (record { nothing = refl; answer = sym (ap (option_map (λ (d : Due). d.at)) (told ∙ first)) }))
-
-pub returns-in-None : goal.returns-in-None
-returns-in-None g c =
-    let told = first_due_rows g.T.Token.plan (setting_of c.self.inside) (past_of c.self.inside.entries.items) c.self.inside.rows c.self.inside.ready.items c.self.invariant.stands in
-    let none = c.in-None.ensures in
-    rw (← c.self.view_is) (happens_nothing g.T.Token.plan (TellsDue None) c.self.inside 0 0 c.self.invariant
-    (record { nothing = refl; answer = sym (ap (option_map (λ (d : Due). d.at)) (told ∙ ap least none)) }))
+    rw (← c.self.view_is) (happens_nothing g.T.Token.plan (TellsDue c.first_due.result) c.self.inside 0 0 c.self.invariant
+    (record { nothing = refl; answer = c.first_due.ensures ∙ sym (ap (option_map (λ (d : Due). d.at)) told) }))

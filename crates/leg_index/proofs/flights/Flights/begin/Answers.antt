@@ -1,12 +1,27 @@
-use Rattle.std.proofs.Common.{sym, subst}
-use Rattle.leg_index.specs.Flights.{AreTaken}
-use Rattle.leg_index.proofs.FlightLemmas.{seen_put, taken_put}
+use Rattle.std.proofs.Common.{sym, ◌∙◌}
+use Rattle.std.proofs.lemmas.Result.{on_ok_weaker, on_err_weaker}
+use Rattle.leg_index.specs.Flights.{leg_by_id}
+use Rattle.leg_index.proofs.FlightLemmas.{seen_gains, seen_same, free_none, pushed, indexed_gains}
 use Rattle.leg_index.proofs.flights.Flights.begin.Goals as goal
 
--- the identifier is taken with its leg
+-- the identifier is in use
+pub returns-then-is_used-clause-ok : goal.returns-then-is_used-clause-ok
+returns-then-is_used-clause-ok c = on_ok_weaker c.begin_again.result (seen_gains c.self.inside.fresh.items c.self.inside.legs _ c.self.view_is c.begin_again.new.fresh.items c.begin_again.new.legs c.args.id c.args.leg) c.begin_again.ensures.ok
+
+pub returns-then-is_used-clause-err : goal.returns-then-is_used-clause-err
+returns-then-is_used-clause-err c = on_err_weaker c.begin_again.result (seen_same c.self.inside.fresh.items c.self.inside.legs _ c.self.view_is c.begin_again.new.fresh.items c.begin_again.new.legs) c.begin_again.ensures.err
+
+-- it isn't, and the attempt stands behind the others
 pub invariant_of-self-2 : goal.invariant_of-self-2
-invariant_of-self-2 c = subst (λ pool. AreTaken pool c.insert.new.self) (sym c.take.ensures.taken)
-    (taken_put c.self.inside.legs c.insert.new.self c.self.inside.pool c.self.invariant c.args.id c.args.leg c.in_ok-insert.ensures.updates.0)
+invariant_of-self-2 c =
+    let legs = leg_by_id c.self.inside.fresh.items c.self.inside.legs in
+    let free = free_none c.self.inside.pool legs legs c.self.invariant.taken c.args.id (sym c.is_used.ensures ∙ c.if-is_used.false) in
+    let put = pushed c.self.inside.fresh.items c.self.inside.legs c.self.invariant.once (record { id = c.args.id; leg = c.args.leg }) free c.push_back.new.self.items c.in_ok-push_back.ensures.items in
+    indexed_gains c.self.inside.fresh.items c.push_back.new.self.items c.self.inside.legs c.self.inside.legs c.self.inside.pool c.take.new.self c.self.invariant put.1 c.args.id c.args.leg c.take.ensures.taken put.0
 
 pub returns-clause-ok : goal.returns-clause-ok
-returns-clause-ok c = seen_put c.self.inside.legs c.insert.new.self _ c.self.view_is c.args.id c.args.leg c.in_ok-insert.ensures.updates.0
+returns-clause-ok c =
+    let legs = leg_by_id c.self.inside.fresh.items c.self.inside.legs in
+    let free = free_none c.self.inside.pool legs legs c.self.invariant.taken c.args.id (sym c.is_used.ensures ∙ c.if-is_used.false) in
+    let put = pushed c.self.inside.fresh.items c.self.inside.legs c.self.invariant.once (record { id = c.args.id; leg = c.args.leg }) free c.push_back.new.self.items c.in_ok-push_back.ensures.items in
+    seen_gains c.self.inside.fresh.items c.self.inside.legs _ c.self.view_is c.push_back.new.self.items c.self.inside.legs c.args.id c.args.leg put.0
