@@ -56,6 +56,10 @@ for _ in $(seq 50); do
   "$adig" --server 127.0.0.1 --port $port --tries 1 --timeout 100 --type SOA example. > /dev/null 2>&1 && break
   sleep 0.1
 done
+for _ in $(seq 50); do # the silent one stands when its address does (127.0.0.3, as Linux writes it)
+  grep -q "0300007F:$(printf %04X "$port")" /proc/net/udp && break
+  sleep 0.1
+done
 
 # try WORDS: adig with these words behind the port, and how it ended
 try() {
