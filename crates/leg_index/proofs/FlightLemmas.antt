@@ -1,5 +1,5 @@
 -- What the legs by their identifiers stand for, and how a change of an attempt changes them.
-use Rattle.std.proofs.Common.{◌≡◌, ℕ, zero, suc, ◌+◌, ◌<◌, Bool, true, false, cond, not, ◌&&◌, ◌||◌, Some, None, Option, List, [], ◌∷◌, ◌++◌, length, take, drop, get_or, arith, ap, refl, sym, subst, ◌∙◌, is_some, MatchOption}
+use Rattle.std.proofs.Common.{◌≡◌, ℕ, zero, suc, ◌+◌, ◌<◌, Bool, true, false, cond, not, ◌&&◌, ◌||◌, Some, None, Option, List, [], ◌∷◌, ◌++◌, length, take, drop, get_or, arith, ap, refl, sym, subst, ◌∙◌, is_some, MatchOption, Result, Ok, Err, OnErr}
 use Rattle.std.specs.Prelude.{nat_eq}
 use Rattle.std.specs.Cmp.{unsigned_tied}
 use Rattle.std.specs.FinMap as map
@@ -277,6 +277,25 @@ module _ {S : Type 0} (fs : List Fresh) (legs : HashMap ℕ Key S) (once : Stand
           let free = no_second (leg_in_row id (f ∷ fs)) (get nat_eq legs id) leg (once.apart id) (first_found id (f ∷ fs) leg is) in
           let both = loses_both id (λ q. leg_in_row q (f ∷ fs)) (get nat_eq legs) (λ q. leg_in_row q fs) (get nat_eq legs) once.apart gone (none_lost id (get nat_eq legs) free) in
           (both.0, record { distinct = once.distinct.1; apart = both.1 })
+
+-- what holds always holds where there is an error
+pub on_err_always : {T E P : Type 0} (r : Result T E) → P → OnErr r P
+on_err_always (Ok x) p = tt
+on_err_always (Err e) p = p
+
+-- a map that has the same legs serves as well
+module _ {S : Type 0} (fs : List Fresh) (legs other : HashMap ℕ Key S) (same : SameLegs (get nat_eq legs) (get nat_eq other)) where
+  pub same_over : SameLegs (leg_by_id fs legs) (leg_by_id fs other)
+  same_over q = ap (option_or (leg_in_row q fs)) (same q)
+
+  pub once_over : StandOnce fs legs → StandOnce fs other
+  once_over once = record { distinct = once.distinct; apart = λ q. ap (λ x. is_some (leg_in_row q fs) && is_some x) (same q) ∙ once.apart q }
+
+  -- for an attempt that begins too
+  pub pushed_over : StandOnce fs legs → (f : Fresh) → leg_by_id fs legs f.id ≡ None → (new : List Fresh) → new ≡ fs ++ f ∷ [] → Gains f.id f.leg (leg_by_id fs legs) (leg_by_id new other) × StandOnce new other
+  pushed_over once f none new is =
+      let put = pushed fs other (once_over once) f (same_over f.id ∙ none) new is in
+      (λ q. put.0 q ∙ ap (cond (nat_eq f.id q) (Some f.leg)) (same_over q), put.1)
 
 module _ {S : Type 0} (fs new : List Fresh) (legs other : HashMap ℕ Key S) (pool after : Identifiers) (indexed : IsFlightIndex fs legs pool) (once : StandOnce new other) where
   pub indexed_gains : (id : ℕ) (leg : Key) → after ≡ set.insert pool id → Gains id leg (leg_by_id fs legs) (leg_by_id new other) → IsFlightIndex new other after

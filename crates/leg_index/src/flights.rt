@@ -1,5 +1,5 @@
 //! The legs in flight, by the identifiers of their attempts.
-ghost use Rattle.std.specs.Prelude.{◌≡◌, IfOk, OnOk, OnErr, MatchOption};
+ghost use Rattle.std.specs.Prelude.{◌≡◌, IfOk, None, OnOk, OnErr, MatchOption};
 ghost use Rattle.std.specs.FinMap as map;
 ghost use Rattle.id_pool.specs.Identifiers.{AllUsed, IsFirstFree};
 ghost use Rattle.leg_index.specs.Flights.{StandOnce, Gains, Loses, SameLegs, leg_by_id};
@@ -13,8 +13,8 @@ use timeout_queue::Key;
 
 /// Legs in flight: for each identifier that an attempt has, the leg whose attempt it is.
 ///
-/// Replies mostly come in the order of their queries, so an attempt isn't put into the map before one is looked for
-/// that isn't the first.
+/// Replies mostly come in the order of their queries, so an attempt isn't put into the map before one ends that isn't the
+/// first, or `index_all` is called. The map has room for all of them, so that no end needs memory.
 #[derive(Drop)]
 pub struct Flights {
     fresh: VecDeque<Fresh>,
@@ -91,7 +91,7 @@ impl Flights {
         if self.pool.is_used(id) {
             return begin_again(&mut self.fresh, &mut self.legs, id, leg);
         }
-        self.fresh.push_back(Fresh { id, leg })?;
+        add_fresh(&mut self.fresh, &mut self.legs, Fresh { id, leg })?;
         self.pool.take(id);
         Ok(())
     }
@@ -126,6 +126,26 @@ fn find_apart(fresh: &VecDeque<Fresh>, legs: &HashMap<u16, Key>, id: u16) -> Opt
     }
 }
 
+// Adds an attempt behind those that aren't in the map yet. The map then has room for each of them.
+#[inline(always)]
+fn add_fresh(
+    fresh: &mut VecDeque<Fresh>,
+    legs: &mut HashMap<u16, Key>,
+    attempt: Fresh,
+) -> Result<(), AllocError>
+    requires once { StandOnce fresh.old.items legs.old }
+    requires free { leg_by_id fresh.old.items legs.old attempt.id ≡ None }
+    ensures once { StandOnce fresh.new.items legs.new }
+    ensures ok { OnOk result (Gains attempt.id attempt.leg (leg_by_id fresh.old.items legs.old)
+        (leg_by_id fresh.new.items legs.new)) }
+    ensures err { OnErr result (SameLegs (leg_by_id fresh.old.items legs.old)
+        (leg_by_id fresh.new.items legs.new)) }
+{
+    legs.reserve(fresh.len().saturating_add(1))?;
+    fresh.push_back(attempt)?;
+    Ok(())
+}
+
 // An attempt of the leg has the identifier, in place of the one that may have it.
 #[inline(never)]
 fn begin_again(
@@ -154,6 +174,9 @@ fn end_apart(fresh: &mut VecDeque<Fresh>, legs: &mut HashMap<u16, Key>, id: u16)
     ensures ended { Loses id (leg_by_id fresh.old.items legs.old) (leg_by_id fresh.new.items legs.new) }
     ensures leg { result ≡ leg_by_id fresh.old.items legs.old id }
 {
+    if let Some(leg) = legs.remove(&id) {
+        return Some(leg);
+    }
     settle(fresh, legs);
     take_out(fresh, legs, id)
 }
