@@ -122,5 +122,6 @@ SetsServers addresses (Ok count) setting past added =
     let list : List ServerKey = keys_for setting addresses past in
     (added ≡ Some (Servers list)) × MaySet setting past list
     × (count ≡ length (filter (λ a. not (has_key a.server list)) (in_flight setting past)))
+    × ¬ IsFull setting past
 SetsServers addresses (Err fault) setting past added =
     (added ≡ None) × ((fault ≡ ChannelClosed) ↔ IsTrue (is_destroyed past)) × ((fault ≡ Full) ↔ (IsFalse (is_destroyed past) × IsFull setting past))

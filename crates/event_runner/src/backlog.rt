@@ -7,7 +7,8 @@ use std::alloc::Global;
 use std::marker::Model;
 
 /// Bytes that come in at the end and go out at the front. Contracts see those that are in it. What goes out is only
-/// marked, and what is left moves to the front where that is no more than what went out: so each byte moves once.
+/// marked, and what is left moves to the front where that is no more than what went out: so no more bytes move than went
+/// out.
 #[derive(Drop)]
 pub struct Backlog {
     bytes: Vec<u8>,

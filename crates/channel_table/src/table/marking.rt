@@ -44,10 +44,13 @@ pub struct Marked {
     pub count: u64,
 }
 
-/// Whether so many attempts are few beside so many rows: each row that leaves the list on its own moves others, so that
-/// many are better taken out in one pass.
+/// How many attempts are few at most: each row that leaves the list on its own moves others, so that many are better
+/// taken out in one pass.
+const FEW_MOST: u64 = 256;
+
+/// Whether so many attempts are few beside so many rows.
 pub fn are_few(count: u64, rows: usize) -> bool {
-    count <= rows as u64 / 4
+    count <= FEW_MOST && count <= rows as u64 / 4
 }
 
 /// The indexes of the rows with an attempt on this server over this link, in order, as the links tell their identifiers.

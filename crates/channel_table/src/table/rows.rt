@@ -28,6 +28,7 @@ use super::flown::{Flown, forget_all, key_of_side};
 use super::found::end_found;
 use super::landing::{Landing, id_of, row_landing};
 use super::linked::add_attempt;
+use super::marking::are_few;
 use super::seeking::{Soonest, find_soonest, side_due};
 use super::starting::{Idle, begin, find_idle};
 use crate::held::{Held, row_at};
@@ -128,7 +129,11 @@ impl<T: Token> Rows<T> {
         ensures found { FindsIdle self.old result }
         ensures same { self.new ≡ self.old }
     {
-        if self.unlisted && list_all(&self.list, &mut self.waiting).is_ok() {
+        // where no identifier is free no attempt begins, and no memory is taken for one
+        if self.unlisted
+            && self.free_id(0).is_some()
+            && list_all(&self.list, &mut self.waiting).is_ok()
+        {
             self.unlisted = false;
         }
         if self.unlisted {
@@ -285,6 +290,15 @@ impl<T: Token> Rows<T> {
         ensures { self.new ≡ self.old }
     {
         self.flown.flights.index_all();
+    }
+
+    /// The same where so many attempts will be looked for one by one, since they are few.
+    pub fn index_few(&mut self, count: u64)
+        ensures { self.new ≡ self.old }
+    {
+        if are_few(count, self.list.len()) {
+            self.index_flights();
+        }
     }
 
     /// Whether an attempt is in flight on this server over this link.

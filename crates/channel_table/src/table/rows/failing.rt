@@ -43,7 +43,7 @@ impl<T: Token> Rows<T> {
         if count == 0 {
             return Ok(0);
         }
-        self.index_flights();
+        self.index_few(count);
         if self.fail_few(alloc, options, ready, server, link, most, count)? {
             return Ok(count);
         }

@@ -40,7 +40,8 @@ impl<T: Token> Rows<T> {
         ensures rows { map (row_set list.now) self.new ≡ map (row_set list.now) self.old }
         ensures len { length self.new ≡ length self.old }
     {
-        if !are_few(self.count_left(list), self.list.len()) {
+        let count = self.count_left(list);
+        if count == 0 || !are_few(count, self.list.len()) {
             return;
         }
         let Ok(ids) = ids_left(*self.list.allocator(), &self.links, list) else {

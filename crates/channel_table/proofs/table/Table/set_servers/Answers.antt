@@ -97,7 +97,8 @@ returns g c =
     let entry : Entry = record { seat = c.args.seat; by = 0; what = what } in
     let added : c.push_reserved.new.self.items ≡ c.self.inside.entries.items ++ entry ∷ [] = rw (c.push_reserved.ensures.items, c.make_room.ensures.items, c.in_ok-kept.ensures, c.as_slice-2.ensures) refl in
     let count : c.count_left-count.result ≡ sum_by (left_in list) c.self.inside.rows = c.count_left-count.ensures ∙ ap (λ (l : List ServerKey). sum_by (left_in l) c.self.inside.rows) c.as_slice-3.ensures in
+    let few : greatest_key setting past ≤ 2 ^ 32 - 9 = omega (arith, c.self.invariant.counted.keyed, c.if-self-gt-KEY_MOST.false) in
     let told = count ∙ sym (set_count g.T.Token.plan setting past list c.self.inside.rows c.self.inside.ready.items c.self.invariant.stands) in
     let means : SetsServers addresses (Ok c.count_left-count.result) setting past (Some what) = subst (λ (l : List ServerKey). SetsServers addresses (Ok c.count_left-count.result) setting past (Some (Servers l))) (sym is)
-    (refl, subst (MaySet setting past) is may, subst (λ (l : List ServerKey). c.count_left-count.result ≡ length (filter (λ (a : Attempt). not (has_key a.server l)) (in_flight setting past))) is told) in
+    (refl, subst (MaySet setting past) is may, subst (λ (l : List ServerKey). c.count_left-count.result ≡ length (filter (λ (a : Attempt). not (has_key a.server l)) (in_flight setting past))) is told, λ full. omega (arith, few, full)) in
     rw (← c.self.view_is) (happens_by g.T.Token.plan (SetsServers addresses (Ok c.count_left-count.result)) c.self.inside c.push_reserved.new.self.items c.args.seat 0 what added c.self.invariant may means)
