@@ -225,6 +225,7 @@ module _ (orders : Orders) (lock : TableId) (passes : List PassView) (all destro
             destroys = destroys;
             last = last;
             delivered = delivered;
+            whole = journal ∙ log_is;
             made = since;
             journal = journal ∙ journal_is;
             first_owns = ap (own_entries all.number) journal ∙ sym last_own ∙ went.own;

@@ -108,7 +108,9 @@ pub record Finishes (orders : Orders) (passes : List PassView) (finished : Finis
   pub destroys : Calls (Destroys is_first) 0 (desk_of all) (desk_of destroyed)
   pub last : PassView
   pub delivered : DeliversAll orders destroyed last
-  -- the journal goes on behind what each pass had seen; a pass's own entries are its filter, and what the first made here stands behind its own
+  -- the journal ends with the last of these calls
+  pub whole : finished.journal ≡ last.seen
+  -- it goes on behind what each pass had seen; a pass's own entries are its filter, and what the first made here stands behind its own
   pub made : List Entry
   pub journal : finished.journal ≡ all.seen ++ made
   pub first_owns : own_entries all.number finished.journal ≡ all.own ++ own_entries all.number made
