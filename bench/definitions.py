@@ -1,7 +1,10 @@
 #!/usr/bin/env python3
 """Lists the files of definitions that the contracts of a source file reach, and fails where docs/DEFINITIONS.md lacks one.
 
-Usage: python3 bench/definitions.py [crates/adig_tool/src/running.rt]
+A file is named there with its crate, as crate/specs/File.antt, or by itself behind one of that crate in the same row, or
+in a section whose heading names the crate.
+
+Usage: python3 bench/definitions.py [SOURCE..]     (without one: the runs of adig, ahost and tns)
 """
 import os
 import re
@@ -37,11 +40,26 @@ def reached(start):
     return sorted(seen)
 
 
-files = reached(sys.argv[1] if len(sys.argv) > 1 else "crates/adig_tool/src/running.rt")
-page = open("docs/DEFINITIONS.md").read()
-count = sum(len(DEFINITION.findall(open(path).read())) for path in files)
-missing = [path for path in files if os.path.basename(path) not in page]
-print(f"{len(files)} files, {count} definitions")
-for path in missing:
+def named(page):
+    """The files that the page names, as (crate, file)."""
+    found, section = set(), []
+    for line in page.split("\n"):
+        if line.startswith("#"):
+            section = re.findall(r"crates/([a-z_]+)/specs", line)
+        within = section
+        for crate, file in re.findall(r"`(?:([a-z_]+)/specs/)?(\w+\.antt)`", line):
+            within = [crate] if crate else within
+            found.update((it, file) for it in within)
+    return found
+
+
+RUNS = [f"crates/{crate}/src/running.rt" for crate in ("adig_tool", "ahost_tool", "test_nameserver")]
+page, lacks = named(open("docs/DEFINITIONS.md").read()), []
+for start in sys.argv[1:] or RUNS:
+    files = reached(start)
+    count = sum(len(DEFINITION.findall(open(path).read())) for path in files)
+    print(f"{start}: {len(files)} files, {count} definitions")
+    lacks += [it for it in files if (it.split("/")[1], os.path.basename(it)) not in page and it not in lacks]
+for path in lacks:
     print("docs/DEFINITIONS.md lacks", path)
-sys.exit(1 if missing else 0)
+sys.exit(1 if lacks else 0)
