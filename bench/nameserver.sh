@@ -70,6 +70,14 @@ try() {
   echo
 }
 
+# the same with standard input and output closed, whose numbers no socket may get
+try_closed() {
+  echo "\$ adig --port $port $* <&- >&-"
+  local status=0
+  "$adig" --port $port "$@" <&- >&- || status=$?
+  echo "(exit status $status)"
+}
+
 try --server 127.0.0.1 www.example
 try --server 127.0.0.1 --type AAAA www.example
 try --server 127.0.0.1 --type MX example
@@ -86,3 +94,5 @@ echo '# a server that is down, one that is silent, and two of which one is down'
 try --server 127.0.0.2 www.example
 try --server 127.0.0.3 --tries 2 --timeout 200 www.example
 try --server 127.0.0.2,127.0.0.1 www.example
+echo '# the page can be put nowhere'
+try_closed --server 127.0.0.1 www.example

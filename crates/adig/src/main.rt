@@ -2,7 +2,7 @@
 #![tactic(auto)]
 
 use adig_tool::run;
-use sock_engine::{RealFiles, RealSink, SockWorld, texts_of, words_of};
+use sock_engine::{RealFiles, RealSink, SockWorld, Streams, texts_of, words_of};
 use std::process::ExitCode;
 use tool_line::Exit;
 
@@ -10,6 +10,7 @@ use tool_line::Exit;
 const TURNS: u64 = 10_000_000;
 
 fn main(rt: HostRuntime) -> ExitCode {
+    let _streams = Streams::hold(&rt);
     let alloc = rt.alloc();
     let Ok(owned) = words_of(&rt, alloc) else {
         return ExitCode::from(Exit::OutOfMemory.number());

@@ -6,7 +6,7 @@ ghost use Rattle.std.specs.Prelude.{◌≡◌, All, IfOk, None};
 use ahost_tool::run;
 use chan_types::{Act, Need, Script, Step, Steps, When};
 use completion_ticket::Scripted;
-use sock_engine::{RealFiles, RealSink, SockWorld, texts_of, words_of};
+use sock_engine::{RealFiles, RealSink, SockWorld, Streams, texts_of, words_of};
 use std::alloc::{AllocError, Global};
 use std::process::ExitCode;
 use tool_line::Exit;
@@ -21,6 +21,7 @@ const BODIES: u64 = 4096;
 const FOLLOW_UP: u64 = 4_294_967_296;
 
 fn main(rt: HostRuntime) -> ExitCode {
+    let _streams = Streams::hold(&rt);
     let alloc = rt.alloc();
     let Ok(owned) = words_of(&rt, alloc) else {
         return ExitCode::from(Exit::OutOfMemory.number());

@@ -46,6 +46,14 @@ IsOfLink server link (Ended number) = number ≡ link
 IsOfLink server link Nothing = ⊥
 IsOfLink server link (LinkFailed number other) = (number ≡ server) × (other ≡ link)
 
+-- it is a piece of this link
+abbrev pub IsPieceOf : ℕ → Got → Type 0
+IsPieceOf link (Datagram number bytes) = ⊥
+IsPieceOf link (Piece number bytes) = number ≡ link
+IsPieceOf link (Ended number) = ⊥
+IsPieceOf link Nothing = ⊥
+IsPieceOf link (LinkFailed number other) = ⊥
+
 -- a socket may have more after a look: only one that found nothing says that it has not
 abbrev pub has_more : Found → Bool
 has_more Came = true

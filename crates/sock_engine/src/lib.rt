@@ -1,5 +1,5 @@
 //! The real outside of a resolver: `World` over sockets, the clock and a generator, `Files` over the system's files,
-//! `Sink` over standard output, and the words of the command line.
+//! `Sink` over standard output, the words of the command line, and the numbers of the standard streams.
 #![tactic(auto)]
 
 mod clock;
@@ -14,9 +14,11 @@ mod real_files;
 mod real_sink;
 mod served;
 mod sock_world;
+mod streams;
 mod words;
 
 pub use real_files::RealFiles;
 pub use real_sink::RealSink;
 pub use sock_world::SockWorld;
+pub use streams::Streams;
 pub use words::{texts_of, words_of};

@@ -1,8 +1,8 @@
 //! One TCP connection to a server.
 
-ghost use Rattle.std.specs.Prelude.{length};
+ghost use Rattle.std.specs.Prelude.{◌≡◌, length, true, false, OnOk};
 ghost use Rattle.net_world.specs.World.{IsPartOf};
-ghost use Rattle.sock_engine.specs.Inbox.{BringsOnly, IsOfLink};
+ghost use Rattle.sock_engine.specs.Inbox.{BringsOnly, IsOfLink, IsPieceOf};
 
 use crate::ends::{Moved, moved_of, wrote_of};
 use crate::inbox::{Found, Inbox, may_have_more};
@@ -84,12 +84,16 @@ impl Link {
         }
     }
 
-    /// Moves some bytes, or its end, into the inbox.
+    /// Moves some bytes, or its end, into the inbox. A link that is over may be looked at again, where memory was wanting
+    /// behind its end: nothing more comes of it.
     #[tactic(auto, using(crate::proofs::BringsLemmas::none_brought, crate::proofs::BringsLemmas::one_brought))]
     pub(crate) fn look(&mut self, inbox: &mut Inbox) -> Result<(), NoMemory>
-        ensures { BringsOnly (IsOfLink self.old.server self.old.number) inbox.old inbox.new }
+        ensures brings { BringsOnly (IsOfLink self.old.server self.old.number) inbox.old inbox.new }
+        ensures over { self.old.over ≡ true → inbox.new ≡ inbox.old }
+        ensures lasts { OnOk result
+            (self.new.over ≡ false → BringsOnly (IsPieceOf self.old.number) inbox.old inbox.new) }
     {
-        if !self.ready || inbox.is_full() {
+        if self.over || !self.ready || inbox.is_full() {
             return Ok(());
         }
         let look = inbox.look_at_link(self.server, self.number, &mut self.stream)?;

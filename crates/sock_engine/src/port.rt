@@ -32,6 +32,8 @@ pub(crate) struct Port {
     ready: bool,
     /// It has brought a reply for each query, as far as their numbers tell, and is left alone until a wait is over.
     rests: bool,
+    /// It has brought more than replies, so that one may stand behind what else came: it rests no longer.
+    crowded: bool,
     /// The system told a refusal that was not added to the inbox yet.
     refused: bool,
     asked: u64,
@@ -56,6 +58,7 @@ impl Port {
             token,
             ready: false,
             rests: false,
+            crowded: false,
             refused: false,
             asked: 0,
             answered: 0,
@@ -152,8 +155,9 @@ impl Port {
     {
         let look = inbox.look_at_server(server, &self.socket)?;
         if look == Found::Came {
+            self.crowded |= self.is_answered();
             self.answered = self.answered.saturating_add(1).min(self.asked);
-            self.rests = self.is_answered();
+            self.rests = self.is_answered() && !self.crowded;
         }
         self.refused |= look == Found::Failed;
         self.ready = may_have_more(look);

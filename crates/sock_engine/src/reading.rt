@@ -11,34 +11,37 @@ use dns_message::{Bytes, NoMemory};
 use net_world::FileRead;
 use std::alloc::Global;
 use std::fs::{File, FileType};
-use std::io::{ErrorKind, Read};
+use std::io::{ErrorKind, IsTerminal, Read};
 use std::os::unix::fs::FileTypeExt;
 use std::{fs, io};
 
-/// Reads the file of this path, where it has at most so many bytes. Only what ends by itself is opened, since a pipe
-/// might keep the caller waiting.
+/// Reads the file of this path, where it has at most so many bytes. A pipe isn't opened and a terminal isn't read, since
+/// both keep the caller waiting. Another device may: what it does isn't known.
 pub(crate) fn read_path<R: fs::Files + AllocGlobal>(
     rt: &R,
     path: &str,
     most: u64,
 ) -> Result<FileRead, NoMemory>
+where
+    R::File: IsTerminal,
     ensures { IfOk result (IsBounded most) }
 {
     let metadata = match rt.metadata(path) {
         Ok(metadata) => metadata,
         Err(error) => return refusal(&error),
     };
-    if !ends_by_itself(metadata.file_type()) {
+    if !is_opened(metadata.file_type()) {
         return Ok(FileRead::Failed);
     }
     match File::open(rt, path) {
+        Ok(file) if file.is_terminal() => Ok(FileRead::Failed),
         Ok(file) => read_all(rt.alloc(), file, metadata.len(), most),
         Err(error) => refusal(&error),
     }
 }
 
-/// Whether reads of it come to an end or to any number of bytes without waiting: a file, or a device such as /dev/null.
-fn ends_by_itself(kind: FileType) -> bool
+/// Whether it is opened: a file, or a character device such as /dev/null.
+fn is_opened(kind: FileType) -> bool
     ensures { IsFile kind → IsTrue result }
 {
     kind.is_file() || kind.is_char_device()

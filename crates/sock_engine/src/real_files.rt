@@ -8,6 +8,7 @@ use crate::reading::read_path;
 use dns_message::NoMemory;
 use net_world::{FileRead, Files, raise};
 use std::fs;
+use std::io::IsTerminal;
 use std::marker::Model;
 
 /// The files of the system. Contracts see how often a read failed, and nothing of what they hold.
@@ -25,7 +26,10 @@ impl<R> Model for RealFiles<R> {
     ghost view = { λ f. f.faults };
 }
 
-impl<R: fs::Files + AllocGlobal> RealFiles<R> {
+impl<R: fs::Files + AllocGlobal> RealFiles<R>
+where
+    R::File: IsTerminal,
+{
     /// The files of this runtime.
     pub fn make(rt: R) -> RealFiles<R>
         ensures { result ≡ 0 }
@@ -33,8 +37,8 @@ impl<R: fs::Files + AllocGlobal> RealFiles<R> {
         RealFiles { rt, faults: 0 }
     }
 
-    /// Reads the whole file of this path, where it has at most so many bytes. What isn't a file of bytes, as a directory
-    /// or a pipe, fails, and isn't opened.
+    /// Reads the whole file of this path, where it has at most so many bytes. What isn't a file of bytes, as a directory,
+    /// a pipe or a terminal, fails, and isn't read.
     pub fn read(&mut self, path: &str, most: u64) -> Result<FileRead, NoMemory>
         ensures ok { IfOk result (λ read. self.new ≡ raised (is_not_read read) self.old) }
         ensures answer { IfOk result (IsReadOf None path.now most) }
@@ -55,7 +59,10 @@ fn is_failed(read: &FileRead) -> bool
     }
 }
 
-impl<R: fs::Files + AllocGlobal> Files for RealFiles<R> {
+impl<R: fs::Files + AllocGlobal> Files for RealFiles<R>
+where
+    R::File: IsTerminal,
+{
     ghost files = { λ _. None };
 
     ghost faults = { λ f. f };

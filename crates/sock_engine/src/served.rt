@@ -19,7 +19,9 @@ const SENDS_MOST: u32 = 4_096;
 /// How many older sockets of a server are read at most. While all are, the last one serves on.
 const OLDER_MOST: usize = 16;
 
-/// How long an older socket is read at most, in milliseconds: the longest wait that options can ask for.
+/// How long an older socket is waited for at most, in milliseconds: the longest first wait that options can ask for.
+/// Later waits may be longer, since they double. A reply that comes to a socket that is closed isn't received: its
+/// attempt expires, as if the reply were lost.
 const OLDER_MILLIS: u64 = 60_000;
 
 /// A socket that asks no more, and until when its replies are waited for.

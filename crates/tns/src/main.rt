@@ -2,12 +2,13 @@
 //! so many messages: `tns --port N --zone PATH --count N`.
 #![tactic(auto)]
 
-use sock_engine::{RealFiles, RealSink, texts_of, words_of};
+use sock_engine::{RealFiles, RealSink, Streams, texts_of, words_of};
 use sock_listener::RealListener;
 use std::process::ExitCode;
 use test_nameserver::{OUT_OF_MEMORY, run};
 
 fn main(rt: HostRuntime) -> ExitCode {
+    let _streams = Streams::hold(&rt);
     let alloc = rt.alloc();
     let Ok(owned) = words_of(&rt, alloc) else {
         return ExitCode::from(OUT_OF_MEMORY);
