@@ -109,7 +109,10 @@ impl Sockets {
     pub fn reply(&mut self, bytes: &[u8]) -> Result<Sent, NoMemory> {
         match self.sender {
             Sender::Nobody => Ok(Sent::Failed),
-            Sender::Datagram(from) => Ok(self.send(bytes, from)),
+            Sender::Datagram(from) => {
+                self.send(bytes, from);
+                Ok(Sent::Sent)
+            }
             Sender::Link(token) => self.write_message(bytes, token),
         }
     }
@@ -205,19 +208,15 @@ impl Sockets {
         Ok(())
     }
 
-    /// Sends a datagram. One for which there is no room is lost.
-    fn send(&self, bytes: &[u8], to: SocketAddr) -> Sent {
+    /// Sends a datagram. One that the system doesn't take is lost, as where it is too long or there is no room: no client
+    /// may end the server by what it asks.
+    fn send(&self, bytes: &[u8], to: SocketAddr) {
         for _ in 0..TRIES {
             match self.udp.send_to(bytes, to) {
-                Ok(_) => return Sent::Sent,
-                Err(error) => match error.kind() {
-                    ErrorKind::WouldBlock => return Sent::Sent,
-                    ErrorKind::Interrupted => {}
-                    _ => return Sent::Failed,
-                },
+                Err(error) if error.kind() == ErrorKind::Interrupted => {}
+                Ok(_) | Err(_) => return,
             }
         }
-        Sent::Failed
     }
 
     /// Writes a message and its length (RFC 1035, section 4.2.2). Where the client is gone it is lost.
@@ -231,7 +230,7 @@ impl Sockets {
         Ok(Sent::Sent)
     }
 
-    /// Writes all bytes, and gives up a client that takes none for long.
+    /// Writes all bytes, and gives up a client that hasn't taken them after so many waits, each of which any event ends.
     fn write_all(&mut self, bytes: &[u8], token: usize) {
         let mut rest = bytes;
         for _ in 0..WAITS_MOST {
