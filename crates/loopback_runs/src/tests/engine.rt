@@ -11,6 +11,7 @@ use std::test::*;
 mod files;
 mod links;
 mod servers;
+mod sockets;
 mod unmade;
 
 /// A server on 127.0.0.1.

@@ -44,12 +44,14 @@ fn files_are_read(rt: HostRuntime) -> Result<(), Fail> {
 }
 
 /// Paths that systems have, each with the most bytes that are taken of it, and what its read gives.
-const PATHS: [(&str, u64, char); 5] = [
+const PATHS: [(&str, u64, char); 6] = [
     ("/tmp/sock_engine/none", 5, 'a'),
     ("", 5, 'a'),
     ("/tmp", 5, 'f'),
     ("/dev/null", 0, 'c'),
     ("/dev/zero", 5, 'l'),
+    // a terminal, whose read would wait
+    ("/dev/ptmx", 5, 'f'),
 ];
 
 #[test]

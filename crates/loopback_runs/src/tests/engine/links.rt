@@ -66,10 +66,15 @@ fn begun<W: World>(world: &mut W, server: u32, link: u64) -> Result<bool, NoMemo
     Ok(world.connect(server, link)? == Sent::Sent)
 }
 
-/// Whether a closed link is silent and takes nothing.
+/// Whether nothing comes, and the link takes nothing.
+fn is_gone<W: World>(world: &mut W, link: u64) -> Result<bool, NoMemory> {
+    Ok(world.receive()? == Got::Nothing && world.write(link, b"a")? == Wrote::Failed)
+}
+
+/// Whether the link is gone once it is closed.
 fn is_closed<W: World>(world: &mut W, link: u64) -> Result<bool, NoMemory> {
     world.close(link)?;
-    Ok(world.receive()? == Got::Nothing && world.write(link, b"a")? == Wrote::Failed)
+    is_gone(world, link)
 }
 
 /// Whether a link to a server that nobody is at fails, at once or behind its beginning.
@@ -93,9 +98,9 @@ fn echoes<R: Abort, W: World>(
     Ok(came.as_slice() == b"query".as_slice())
 }
 
-/// Whether the link is closed then, one of the same server fails, and one of no server can't be begun.
+/// Whether the link is gone then, one of the same server fails, and one of no server can't be begun.
 fn ends<W: World>(world: &mut W) -> Result<bool, NoMemory> {
-    Ok(is_closed(world, 2)? && fails(world, 1, 3)? && !begun(world, 9, 4)?)
+    Ok(is_gone(world, 2)? && fails(world, 1, 3)? && !begun(world, 9, 4)?)
 }
 
 /// A thread that sends five bytes of one connection back, and its port.
@@ -111,7 +116,7 @@ fn echo_thread<R: Threads>(
     ))
 }
 
-/// Whether a network's link echoes and ends, and is closed. Another one is begun where nobody listens any more.
+/// Whether a network's link echoes and ends. Another one is begun where nobody listens any more.
 fn is_echoed<R: Abort + Threads, W: World>(
     threads: &R,
     rt: HostRuntime,
@@ -126,5 +131,45 @@ fn is_echoed<R: Abort + Threads, W: World>(
 fn a_link_echoes_and_ends(rt: HostRuntime) -> Result<(), Fail> {
     let mut world = SockWorld::make(rt)?;
     assert!(rt; is_echoed(&rt, rt, &mut world)?);
+    Ok(())
+}
+
+/// Begins a link to the server, and accepts it.
+fn accepted<W: World>(
+    world: &mut W,
+    listener: &TcpListener,
+    server: u32,
+    link: u64,
+) -> Result<TcpStream, Fail> {
+    if !begun(world, server, link)? {
+        Err("no link was begun")?;
+    }
+    let (stream, _) = listener.accept()?;
+    Ok(stream)
+}
+
+/// Whether the next thing is this piece of the link.
+fn is_piece<W: World>(
+    alloc: Global,
+    world: &mut W,
+    link: u64,
+    bytes: &[u8],
+) -> Result<bool, NoMemory> {
+    Ok(next(world)? == Got::Piece(link, Bytes::of(alloc, bytes)?))
+}
+
+/// Two links are open at once, and the later one brings bytes first. It is closed, and then the other one brings some.
+#[test]
+fn two_links_are_heard(rt: HostRuntime) -> Result<(), Fail> {
+    let listener = TcpListener::bind(&rt, any_local())?;
+    let mut world = SockWorld::make(rt)?;
+    world.serve(1, &local(listener.local_addr()?.port()))?;
+    let mut first = accepted(&mut world, &listener, 1, 2)?;
+    let mut second = accepted(&mut world, &listener, 1, 3)?;
+    second.write_all(b"two")?;
+    assert!(rt; is_piece(rt.alloc(), &mut world, 3, b"two")?);
+    assert!(rt; is_closed(&mut world, 3)?);
+    first.write_all(b"one")?;
+    assert!(rt; is_piece(rt.alloc(), &mut world, 2, b"one")?);
     Ok(())
 }

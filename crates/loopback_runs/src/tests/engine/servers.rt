@@ -11,7 +11,7 @@ use std::time::Duration;
 const LENGTHS: [usize; 4] = [0, 1, 40, 65_507];
 
 /// More than a socket's share of the sends.
-const MANY: usize = 5_000;
+pub const MANY: usize = 5_000;
 
 /// Sends so many datagrams back, and answers how often the port they came from changed.
 fn echo(far: &UdpSocket, times: usize) -> usize {
@@ -30,7 +30,7 @@ fn echo(far: &UdpSocket, times: usize) -> usize {
     changes
 }
 
-fn far_socket(rt: &HostRuntime, at: SocketAddr) -> std::io::Result<UdpSocket> {
+pub fn far_socket(rt: &HostRuntime, at: SocketAddr) -> std::io::Result<UdpSocket> {
     let far = UdpSocket::bind(rt, at)?;
     far.set_read_timeout(Some(Duration::from_secs(10)))?;
     Ok(far)
@@ -77,7 +77,7 @@ fn ask_each<R: Abort, W: World>(
 }
 
 /// Whether nothing comes.
-fn is_silent<W: World>(world: &mut W) -> Result<bool, NoMemory> {
+pub fn is_silent<W: World>(world: &mut W) -> Result<bool, NoMemory> {
     Ok(world.receive()? == Got::Nothing)
 }
 
@@ -136,7 +136,7 @@ fn twice_thread<R: Threads>(
 }
 
 /// Whether the next thing is this datagram of the server.
-fn is_next<W: World>(
+pub fn is_next<W: World>(
     alloc: Global,
     world: &mut W,
     server: u32,
