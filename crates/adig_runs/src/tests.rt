@@ -1,5 +1,6 @@
 //! Whole runs over a network in memory: what happened, what was called, and what was put, as lines of text.
 
+mod ending;
 mod links;
 mod outside;
 mod pages;
@@ -85,10 +86,19 @@ struct Case {
 
 /// Whether a run leaves this.
 fn leaves(alloc: Global, scenario: &Scenario<'_>, wanted: &Wanted<'_>) -> Result<bool, Fail> {
-    let mut outside = outside_of(alloc, scenario)?;
-    let ended = played(alloc, scenario, &mut outside)?;
-    let is_so = is_ended(&ended, wanted.status, wanted.called) && is_put(&outside, wanted.put);
-    Ok(is_so && is_told(alloc, &ended, &outside, wanted)?)
+    leaves_in(alloc, scenario, &mut outside_of(alloc, scenario)?, wanted)
+}
+
+/// The same where it is lent this.
+fn leaves_in(
+    alloc: Global,
+    scenario: &Scenario<'_>,
+    outside: &mut Outside,
+    wanted: &Wanted<'_>,
+) -> Result<bool, Fail> {
+    let ended = played(alloc, scenario, outside)?;
+    let is_so = is_ended(&ended, wanted.status, wanted.called) && is_put(outside, wanted.put);
+    Ok(is_so && is_told(alloc, &ended, outside, wanted)?)
 }
 
 /// What the first of these runs shows that doesn't leave what it has to; nothing where each does.

@@ -3,6 +3,7 @@
 
 mod bodies;
 mod boxes;
+mod ending;
 mod families;
 mod loads;
 mod names;

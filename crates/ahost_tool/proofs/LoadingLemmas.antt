@@ -19,7 +19,7 @@ use Rattle.tool_line.specs.Words.{Text}
 use Rattle.tool_line.specs.declared.ahost.AhostAsk.{AhostAsk}
 use Rattle.tool_line.specs.declared.ahost.Load.{Load}
 use Rattle.ahost_tool.specs.Asked.{asked_of}
-use Rattle.ahost_tool.specs.Loading.{IsLoadRun, IsWithinLimits, asked_by_load, host_spec, host_specs, load_setting, no_orders, over_peers}
+use Rattle.ahost_tool.specs.Loading.{IsLoadRun, IsWithinLimits, asked_by_load, host_spec, host_specs, load_setting, no_orders, over_calls}
 use Rattle.ahost_tool.specs.Promise.{Promise}
 use Rattle.run_end.specs.declared.ended.Ended.{Ended}
 use Rattle.ahost_tool.specs.declared.reporting.Report.TheVariants.{Summary}
@@ -103,19 +103,16 @@ setting_of options hosts = record { options = options; hosts = hosts }
 -- it is kept where a channel was asked of this setting, over a network that was made so
 pub load_run : (load : Load) (plans : List Plan) (turns : ℕ) (ended : Ended) (specs : List Spec) (options : OptionValues) (hosts : List HostLine) (made left : PeerState) (before after : OutputTold) →
     options ≡ plain_values → specs ≡ host_specs load.names → made ≡ at_start (load_zone load.names) load.seed → hosts ≡ [] →
-    Promise (asked_of (Summary load) specs plans no_orders None) (setting_of options hosts) turns ended (over_peers made before) (over_peers left after) → IsLoadRun load plans turns ended before after
+    Promise (asked_of (Summary load) specs plans no_orders None) (setting_of options hosts) turns ended (over_calls made.log before) (over_calls left.log after) → IsLoadRun load plans turns ended before after
 load_run load plans turns ended specs options hosts made left before after options_are specs_are starts no_hosts promise = record {
-  made = made;
-  left = left;
-  from_start = starts;
+  told = left.log;
   promise =
-      subst (λ s. Promise (asked_of (Summary load) s plans no_orders None) load_setting turns ended (over_peers made before) (over_peers left after)) specs_are
-      (subst (λ o. Promise (asked_of (Summary load) specs plans no_orders None) (setting_of o []) turns ended (over_peers made before) (over_peers left after)) options_are
-      (subst (λ h. Promise (asked_of (Summary load) specs plans no_orders None) (setting_of options h) turns ended (over_peers made before) (over_peers left after)) no_hosts promise));
+      subst (λ m. Promise (asked_by_load load plans) load_setting turns ended (over_calls m.log before) (over_calls left.log after)) starts
+      (subst (λ s. Promise (asked_of (Summary load) s plans no_orders None) load_setting turns ended (over_calls made.log before) (over_calls left.log after)) specs_are
+      (subst (λ o. Promise (asked_of (Summary load) specs plans no_orders None) (setting_of o []) turns ended (over_calls made.log before) (over_calls left.log after)) options_are
+      (subst (λ h. Promise (asked_of (Summary load) specs plans no_orders None) (setting_of options h) turns ended (over_calls made.log before) (over_calls left.log after)) no_hosts promise)));
 }
 
 -- and where memory was wanting before there was a channel
 pub early_load : (load : Load) (plans : List Plan) (turns : ℕ) (output : OutputTold) → IsLoadRun load plans turns (record { status = 5; journal = []; calls = [] }) output output
-early_load load plans turns output =
-    let start = at_start (load_zone load.names) load.seed in
-    record { made = start; left = start; from_start = refl; promise = promise_early (asked_by_load load plans) load_setting turns (over_peers start output) }
+early_load load plans turns output = record { told = []; promise = promise_early (asked_by_load load plans) load_setting turns (over_calls [] output) }

@@ -1,15 +1,14 @@
 -- A run of a load: it asks for so many names over a network in memory of its own, and puts a summary.
 use Rattle.std.specs.List.{range_with_len}
-use Rattle.std.specs.Prelude.{List, None, Some, [], codes, decimal, false, map, true, ℕ, ◌++◌, ◌≡◌, ◌≤◌}
+use Rattle.std.specs.Prelude.{List, None, Some, [], codes, decimal, false, map, true, ℕ, ◌++◌, ◌≤◌}
 use Rattle.chan_types.specs.Plans.{Plan}
 use Rattle.chan_types.specs.declared.orders.Orders.{Orders}
 use Rattle.chan_types.specs.declared.spec.Spec.{Spec}
 use Rattle.chan_types.specs.declared.spec.Spec.TheVariants.{Address}
 use Rattle.channel_model.specs.Setting.{Setting}
 use Rattle.net_addr.specs.declared.addr.Family.TheVariants.{V4}
+use Rattle.net_world.specs.declared.log.WorldCall.{WorldCall}
 use Rattle.resolv_options.specs.Defaults.{plain_values}
-use Rattle.test_nameserver.specs.Load.{load_zone}
-use Rattle.test_nameserver.specs.Peer.{PeerState, at_start}
 use Rattle.tool_line.specs.Outside.{Outside, OutputTold}
 use Rattle.tool_line.specs.Words.{Text}
 use Rattle.tool_line.specs.declared.ahost.Load.{Load}
@@ -47,15 +46,13 @@ pub record IsWithinLimits (load : Load) : Type 0 where
   pub few_names : load.names ≤ 4096
   pub small_seed : load.seed ≤ 65535
 
--- what a network in memory tells, and an output
-abbrev pub over_peers : PeerState → OutputTold → Outside
-over_peers peers output = record { network = record { log = Some peers.log; wait_faults = 0 }; output = output }
+-- what a network has told in all that counts no failed wait, and an output
+abbrev pub over_calls : List WorldCall → OutputTold → Outside
+over_calls calls output = record { network = record { log = Some calls; wait_faults = 0 }; output = output }
 
 -- a run of a load, with callbacks of these scripts
 pub record IsLoadRun (load : Load) (plans : List Plan) (turns : ℕ) (ended : Ended) (before after : OutputTold) : Type 0 where
-  -- Its own network, as it was made and as it was left: it was made of the load's zone, loses by the load's seed, and had told nothing.
-  pub made : PeerState
-  pub left : PeerState
-  pub from_start : made ≡ at_start (load_zone load.names) load.seed
-  -- The promise of a run is kept over it, with the log that it tells in the end.
-  pub promise : Promise (asked_by_load load plans) load_setting turns ended (over_peers made before) (over_peers left after)
+  -- What the run's own network told in the end. Which network that is isn't said: its answers are free.
+  pub told : List WorldCall
+  -- The promise of a run is kept over it, and before the run it had told nothing.
+  pub promise : Promise (asked_by_load load plans) load_setting turns ended (over_calls [] before) (over_calls told after)

@@ -140,7 +140,7 @@ const DASH: Case = Case {
 };
 
 /// What a name under `onion` leaves (RFC 7686, section 2): it completes at its Accept, also without turns.
-const NOT_FOUND: Wanted<'static> = Wanted {
+pub const NOT_FOUND: Wanted<'static> = Wanted {
     status: 1,
     put: ";; x.onion IN A\n;; status 4 ENOTFOUND\n",
     journal: "accept 1\ntake 1\ndestroy\n",

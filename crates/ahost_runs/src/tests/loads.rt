@@ -3,6 +3,7 @@
 use super::bodies::Bodies;
 use super::outside::Outside;
 use super::{RUN, Scenario, has_called, is_put, outside_of, played};
+use chan_types::{Entry, What};
 use std::alloc::Global;
 use std::test::Fail;
 
@@ -96,5 +97,90 @@ fn three_names_are_found(rt: HostRuntime) -> Result<(), Fail> {
 fn loads_are_refused(rt: HostRuntime) -> Result<(), Fail> {
     assert!(rt; puts(rt.alloc(), "--load 9", 8, 2, "ahost: usage\n")?);
     assert!(rt; puts(rt.alloc(), "--load 4 --workers 1", 8, 2, "ahost: usage\n")?);
+    Ok(())
+}
+
+/// The lines of the attempts that a journal notes: which request's, by which identifier, when, and which of them expired.
+fn attempts_told(alloc: Global, entries: &[Entry]) -> Result<String, Fail> {
+    let mut text = String::new(alloc);
+    for entry in entries {
+        text.push_str(attempt_told(alloc, &entry.what)?.as_str())?;
+    }
+    Ok(text)
+}
+
+/// The line of an entry, if it begins an attempt, or ends one by its deadline.
+fn attempt_told(alloc: Global, what: &What) -> Result<String, Fail> {
+    Ok(match what {
+        What::Start {
+            number,
+            id,
+            moment,
+            ..
+        } => format!(in alloc; "start {number} by {id} at {moment}\n")?,
+        What::Expire { number, moment, .. } => format!(in alloc; "expire {number} at {moment}\n")?,
+        _ => String::new(alloc),
+    })
+}
+
+/// Whether a load makes these attempts.
+fn attempts(alloc: Global, line: &str, lines: &str) -> Result<bool, Fail> {
+    let scenario = Scenario { line, ..RUN };
+    attempts_in(alloc, &scenario, &mut outside_of(alloc, &scenario)?, lines)
+}
+
+/// The same of a run that is lent this.
+fn attempts_in(
+    alloc: Global,
+    scenario: &Scenario<'_>,
+    outside: &mut Outside,
+    lines: &str,
+) -> Result<bool, Fail> {
+    let ended = played(alloc, scenario, outside)?;
+    let told = attempts_told(alloc, ended.journal.entries())?;
+    Ok(told.as_str() == lines)
+}
+
+/// The attempts of eight names by seed 7. Word i is 40503 i + 7, modulo 65536: words 0 to 7 are the identifiers of the first
+/// turn, and word 8 is drawn where no leg waits any more, as is word 9 in the turn that receives the replies. The question
+/// of request n has the number n - 1: by 2 + 7 and 5 + 7, multiples of three, the queries of requests 3 and 6 are lost. At
+/// their deadline these are asked again, by words 10 and 11.
+const SEED_7: &str = "start 1 by 7 at 0
+start 2 by 40510 at 0
+start 3 by 15477 at 0
+start 4 by 55980 at 0
+start 5 by 30947 at 0
+start 6 by 5914 at 0
+start 7 by 46417 at 0
+start 8 by 21384 at 0
+expire 3 at 2000
+expire 6 at 2000
+start 3 by 11821 at 2000
+start 6 by 52324 at 2000
+";
+
+/// By seed 65000, each word is by 64,993 greater, which is by 543 less. Lost are the questions 1, 4 and 7: 65,001 is a
+/// multiple of three.
+const SEED_65000: &str = "start 1 by 65000 at 0
+start 2 by 39967 at 0
+start 3 by 14934 at 0
+start 4 by 55437 at 0
+start 5 by 30404 at 0
+start 6 by 5371 at 0
+start 7 by 45874 at 0
+start 8 by 20841 at 0
+expire 2 at 2000
+expire 5 at 2000
+expire 8 at 2000
+start 2 by 11278 at 2000
+start 5 by 51781 at 2000
+start 8 by 26748 at 2000
+";
+
+/// What is lost tells a seed modulo three alone; the identifiers tell all of it.
+#[test]
+fn a_seed_gives_words_and_losses(rt: HostRuntime) -> Result<(), Fail> {
+    assert!(rt; attempts(rt.alloc(), "--load 8 --seed 7", SEED_7)?);
+    assert!(rt; attempts(rt.alloc(), "--load 8 --seed 65000", SEED_65000)?);
     Ok(())
 }

@@ -5,10 +5,10 @@ use std::alloc::Global;
 use std::test::Fail;
 
 /// A run whose one request is silent.
-const SILENT: &str = "--server 192.0.2.53 --family 4 --no-edns x.test.";
+pub const SILENT: &str = "--server 192.0.2.53 --family 4 --no-edns x.test.";
 
 /// A run that completes before its first turn.
-const AT_ONCE: &str = "--server 192.0.2.53 192.0.2.1";
+pub const AT_ONCE: &str = "--server 192.0.2.53 192.0.2.1";
 
 const GIVEN: &str = "serve 0 of 3221226037 at 53\n";
 
@@ -28,7 +28,7 @@ const FILE_FAULT: Wanted<'static> = Wanted {
 };
 
 /// What the run leaves that completes at once.
-const FOUND: Wanted<'static> = Wanted {
+pub const FOUND: Wanted<'static> = Wanted {
     status: 0,
     put: "192.0.2.1 0 SUCCESS\n  192.0.2.1\n",
     journal: "accept 1\ntake 1\ndestroy\n",

@@ -1,0 +1,65 @@
+//! Where a run is over its network isn't called any more: its calls are counted, those that no line tells among them.
+
+use super::outside::Outside;
+use super::replies::PRINTED;
+use super::statuses::NOT_FOUND;
+use super::{Case, RUN, Scenario, Sent, Wanted, leaves_in, outside_of};
+use std::alloc::Global;
+use std::test::Fail;
+
+/// Whether a run leaves this, and its network was called so often.
+fn calls_so_often(alloc: Global, case: &Case, count: usize) -> Result<bool, Fail> {
+    calls_in(alloc, case, &mut outside_of(alloc, &case.run)?, count)
+}
+
+/// The same of a run that is lent this.
+fn calls_in(alloc: Global, case: &Case, outside: &mut Outside, count: usize) -> Result<bool, Fail> {
+    let is_so = leaves_in(alloc, &case.run, outside, &case.wanted)?;
+    Ok(is_so && outside.world.log().calls().len() == count)
+}
+
+/// The second wait fails. It is call 12, from 0: before it stand a serve, and two times the clock, a receive, a word, a send
+/// and the word for a further leg, with the first wait between. So there are 13 calls, of which the last one failed.
+const FAILING_LATER_WAIT: Case = Case {
+    shows: "a failing later wait is a fault",
+    run: Scenario {
+        fails: &[12],
+        ..RUN
+    },
+    wanted: Wanted {
+        status: 6,
+        put: "adig: wait fault\n",
+        journal: "accept 1
+start 1 on 0 over 0 at 0
+expire 1 at 2000
+start 1 on 0 over 0 at 2000
+destroy
+take 1
+",
+        calls: "serve 0 of 3221226037 at 53\nwait to 2000\nwait to 6000\n",
+        sent: Sent::Last(2 * 29, b""),
+        ..PRINTED
+    },
+};
+
+#[test]
+fn a_failed_wait_is_the_last_call(rt: HostRuntime) -> Result<(), Fail> {
+    assert!(rt; calls_so_often(rt.alloc(), &FAILING_LATER_WAIT, 13)?);
+    Ok(())
+}
+
+/// What completes at its Accept needs no turn, also where there may be 1,000: one server is told, and that is all.
+const ONION_WITH_TURNS: Case = Case {
+    shows: "onion is not found before a first turn",
+    run: Scenario {
+        line: "--server 192.0.2.53 x.onion",
+        ..RUN
+    },
+    wanted: NOT_FOUND,
+};
+
+#[test]
+fn nothing_pending_makes_no_turn(rt: HostRuntime) -> Result<(), Fail> {
+    assert!(rt; calls_so_often(rt.alloc(), &ONION_WITH_TURNS, 1)?);
+    Ok(())
+}
