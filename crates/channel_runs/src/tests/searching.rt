@@ -44,6 +44,31 @@ take 1 status 0 .
     Ok(())
 }
 
+/// Texts that are no names, one for each fault: an empty label, a backslash at the end, a label of 64 bytes, and labels that
+/// take 256 bytes (RFC 1035, sections 2.3.4 and 5.1).
+const NO_NAMES: &[&[u8]] = &[
+    b"a..b",
+    b"a\\",
+    b"aaaaaaaaaaaaaaaaaaaaaaaaaaaaaaaaaaaaaaaaaaaaaaaaaaaaaaaaaaaaaaaa",
+    b"aaaaaaaaaaaaaaaaaaaaaaaaaaaaaaaaaaaaaaaaaaaaaaaaaaaaaaaaaaaaaaa.aaaaaaaaaaaaaaaaaaaaaaaaaaaaaaaaaaaaaaaaaaaaaaaaaaaaaaaaaaaaaaa.aaaaaaaaaaaaaaaaaaaaaaaaaaaaaaaaaaaaaaaaaaaaaaaaaaaaaaaaaaaaaaa.aaaaaaaaaaaaaaaaaaaaaaaaaaaaaaaaaaaaaaaaaaaaaaaaaaaaaaaaaaaaaa",
+];
+
+/// Whether a query and a search for a text end at once, since it is no name.
+fn ends_at_once(alloc: Global, text: &[u8]) -> Result<bool, Fail> {
+    let query = [Call::Ask(Request::Query(text)), Call::Take];
+    let search = [Call::Ask(Request::Search(text)), Call::Take];
+    let lines = "request 1\ntake 1 status 8 .\n";
+    Ok(is_answered(alloc, DOMAINS, &query, lines)? && is_answered(alloc, DOMAINS, &search, lines)?)
+}
+
+#[test]
+fn no_name_is_asked(rt: HostRuntime) -> Result<(), Fail> {
+    for text in NO_NAMES {
+        assert!(rt; ends_at_once(rt.alloc(), text)?);
+    }
+    Ok(())
+}
+
 /// Replies to the three questions: that the name has no record, and that there is no such name (response code 3).
 const EMPTY_ONE: Call<'static> = Call::Reply(1, 0, ONE, &[]);
 

@@ -48,10 +48,22 @@ fn a_line_has_words(rt: HostRuntime) -> Result<(), Fail> {
     Ok(())
 }
 
+/// Words that aren't names, one for each fault: an empty label, a backslash at the end, a label of 64 bytes, and labels that
+/// take 256 bytes (RFC 1035, sections 2.3.4 and 5.1).
+const NO_NAMES: [&[u8]; 4] = [
+    b"a..b",
+    b"a\\",
+    b"aaaaaaaaaaaaaaaaaaaaaaaaaaaaaaaaaaaaaaaaaaaaaaaaaaaaaaaaaaaaaaaa",
+    b"aaaaaaaaaaaaaaaaaaaaaaaaaaaaaaaaaaaaaaaaaaaaaaaaaaaaaaaaaaaaaaa.aaaaaaaaaaaaaaaaaaaaaaaaaaaaaaaaaaaaaaaaaaaaaaaaaaaaaaaaaaaaaaa.aaaaaaaaaaaaaaaaaaaaaaaaaaaaaaaaaaaaaaaaaaaaaaaaaaaaaaaaaaaaaaa.aaaaaaaaaaaaaaaaaaaaaaaaaaaaaaaaaaaaaaaaaaaaaaaaaaaaaaaaaaaaaa",
+];
+
 #[test]
 fn words_are_names(rt: HostRuntime) -> Result<(), Fail> {
     let alloc = rt.alloc();
-    assert!(rt; read_name(alloc, b"B.")?.is_some() && read_name(alloc, b"a..b")?.is_none());
+    assert!(rt; read_name(alloc, b"B.")?.is_some());
+    for word in NO_NAMES {
+        assert!(rt; read_name(alloc, word)?.is_none());
+    }
     let names = read_names(
         alloc,
         &[b"a.test".as_slice(), b"a..b".as_slice(), b"B.".as_slice()],

@@ -237,7 +237,8 @@ fn finds(alloc: Global, resolv: &str, texts: &str) -> Result<bool, Fail> {
 }
 
 /// Texts of a resolv.conf, and the servers and domains that they set, by hand after resolv.conf(5): as systemd-resolved
-/// and a DHCP client write it, nothing, lines and words that aren't understood, comments, and more than are kept.
+/// and a DHCP client write it, nothing, lines and words that aren't understood, comments, a server and a domain without a word, and
+/// more than are kept.
 const FILES: &[(&str, &str)] = &[
     (
         "# This is managed by man:systemd-resolved(8).\n\nnameserver 127.0.0.53\noptions edns0 trust-ad\nsearch .\n",
@@ -257,6 +258,7 @@ const FILES: &[(&str, &str)] = &[
         "127.0.0.1 a.test. ",
     ),
     ("search a.test\ndomain a..b c.test", "127.0.0.1 "),
+    ("nameserver\nsearch a.test\ndomain", "127.0.0.1 "),
     (
         "search a b c d e f g h i\nnameserver ::1\nnameserver ::2\nnameserver ::3\nnameserver ::4\nnameserver ::5\nnameserver ::6\nnameserver ::7\nnameserver ::8\nnameserver ::9",
         "::1 ::2 ::3 ::4 ::5 ::6 ::7 ::8 a. b. c. d. e. f. g. h. ",

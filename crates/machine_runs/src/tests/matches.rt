@@ -7,7 +7,7 @@ use std::test::Fail;
 
 /// What the bytes are, whether letters' case counts, the bytes, and whether they answer the query of identifier 0x1234 for
 /// the addresses of example.com: header and question by RFC 1035, section 4.1, OPT records by RFC 6891, section 6.1.2.
-const MESSAGES: [(&str, bool, &[u8], bool); 17] = [
+const MESSAGES: [(&str, bool, &[u8], bool); 22] = [
     (
         "a reply without records",
         true,
@@ -31,6 +31,36 @@ const MESSAGES: [(&str, bool, &[u8], bool); 17] = [
         "a question that is cut",
         false,
         b"\x12\x34\x81\x80\0\x01\0\0\0\0\0\0\x07example\x03com\0\0\x01\0",
+        false,
+    ),
+    (
+        "a label of another kind",
+        false,
+        b"\x12\x34\x81\x80\0\x01\0\0\0\0\0\0\x40\0\x01\0\x01",
+        false,
+    ),
+    (
+        "a pointer to itself",
+        false,
+        b"\x12\x34\x81\x80\0\x01\0\0\0\0\0\0\xc0\x0c\0\x01\0\x01",
+        false,
+    ),
+    (
+        "a name of 256 bytes",
+        false,
+        b"\x12\x34\x81\x80\0\x01\0\0\0\0\0\0\x3faaaaaaaaaaaaaaaaaaaaaaaaaaaaaaaaaaaaaaaaaaaaaaaaaaaaaaaaaaaaaaa\x3faaaaaaaaaaaaaaaaaaaaaaaaaaaaaaaaaaaaaaaaaaaaaaaaaaaaaaaaaaaaaaa\x3faaaaaaaaaaaaaaaaaaaaaaaaaaaaaaaaaaaaaaaaaaaaaaaaaaaaaaaaaaaaaaa\x3eaaaaaaaaaaaaaaaaaaaaaaaaaaaaaaaaaaaaaaaaaaaaaaaaaaaaaaaaaaaaaa\0\0\x01\0\x01",
+        false,
+    ),
+    (
+        "an address of 3 bytes",
+        false,
+        b"\x12\x34\x81\x80\0\x01\0\x01\0\0\0\0\x07example\x03com\0\0\x01\0\x01\xc0\x0c\0\x01\0\x01\0\0\0\x3c\0\x03\xc0\0\x02",
+        false,
+    ),
+    (
+        "a byte behind the reply",
+        false,
+        b"\x12\x34\x81\x80\0\x01\0\0\0\0\0\0\x07example\x03com\0\0\x01\0\x01\0",
         false,
     ),
     (

@@ -110,6 +110,18 @@ fn its_reply(rt: HostRuntime) -> Result<(), Fail> {
     Ok(())
 }
 
+/// A message with a record in each section, and without pointers (RFC 1035, section 4.1): 192.0.2.1 is an address of the
+/// root, its server is `a.`, and that has 192.0.2.2.
+const SECTIONS: &[u8] =
+    b"\0\x01\x84\0\0\x01\0\x01\0\x01\0\x01\0\0\x01\0\x01\0\0\x01\0\x01\0\0\0\x3c\0\x04\xc0\0\x02\x01\0\0\x02\0\x01\0\0\0\x3c\0\x03\x01a\0\x01a\0\0\x01\0\x01\0\0\0\x3c\0\x04\xc0\0\x02\x02";
+
+#[test]
+fn all_sections_are_written(rt: HostRuntime) -> Result<(), Fail> {
+    let message = decode(rt.alloc(), SECTIONS)?;
+    assert_eq!(rt; encode(rt.alloc(), &message)?.as_slice(), SECTIONS);
+    Ok(())
+}
+
 #[test]
 fn its_reply_cut_short(rt: HostRuntime) {
     for len in 0..REPLY.len() {

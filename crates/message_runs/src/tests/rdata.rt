@@ -47,8 +47,8 @@ fn rdata_read(
 }
 
 /// The kind, the class, the rdata, and the rdata with its names expanded; none where it hasn't the shape.
-/// The name at offset 12 is `a.`.
-const SHAPES: [(u8, u8, &[u8], Option<&[u8]>); 24] = [
+/// The name at offset 12 is `a.`, so that a name of 253 bytes before a pointer to it has 256.
+const SHAPES: [(u8, u8, &[u8], Option<&[u8]>); 26] = [
     (1, 1, b"abcd", Some(b"abcd")),
     (1, 1, b"abc", None),
     (1, 3, b"abc", Some(b"abc")),
@@ -60,6 +60,13 @@ const SHAPES: [(u8, u8, &[u8], Option<&[u8]>); 24] = [
     (12, 1, b"\0\0", None),
     (12, 1, b"\x01b", None),
     (5, 1, b"\xc0\x1e", None),
+    (2, 1, b"\x40", None),
+    (
+        2,
+        1,
+        b"\x3faaaaaaaaaaaaaaaaaaaaaaaaaaaaaaaaaaaaaaaaaaaaaaaaaaaaaaaaaaaaaaa\x3faaaaaaaaaaaaaaaaaaaaaaaaaaaaaaaaaaaaaaaaaaaaaaaaaaaaaaaaaaaaaaa\x3faaaaaaaaaaaaaaaaaaaaaaaaaaaaaaaaaaaaaaaaaaaaaaaaaaaaaaaaaaaaaaa\x3caaaaaaaaaaaaaaaaaaaaaaaaaaaaaaaaaaaaaaaaaaaaaaaaaaaaaaaaaaaa\xc0\x0c",
+        None,
+    ),
     (5, 1, b"", None),
     (
         6,

@@ -1,7 +1,9 @@
 //! Outside examples: records as bytes and as lines, and the words of types and classes.
 
 use dns_message::{Bytes, Name, Record};
-use dns_rdata::{RdataFault, class_text, class_word, kind_text, kind_word, line, rdata};
+use dns_rdata::{
+    RdataFault, RecordData, class_text, class_word, kind_text, kind_word, line, rdata,
+};
 use std::alloc::Global;
 use std::process::Abort;
 use std::test::Fail;
@@ -250,6 +252,26 @@ fn shapes_are_minded(rt: HostRuntime) -> Result<(), Fail> {
             matches!(rdata(alloc, &item), Err(RdataFault::BadRdata)),
             "{kind}"
         );
+    }
+    Ok(())
+}
+
+// The options of an OPT record stay as they stand (RFC 6891, section 6.1.2).
+#[test]
+fn options_are_kept(rt: HostRuntime) -> Result<(), Fail> {
+    let alloc = rt.alloc();
+    let item = Record {
+        name: Name::root(alloc),
+        kind: 41,
+        class: 1232,
+        ttl: 0,
+        rdata: Bytes::of(alloc, b"\0\x0a\0\x01x")?,
+    };
+    match rdata(alloc, &item)? {
+        RecordData::Opt(options) => {
+            assert_eq!(rt; options.as_slice(), b"\0\x0a\0\x01x".as_slice());
+        }
+        _ => assert!(rt; false),
     }
     Ok(())
 }

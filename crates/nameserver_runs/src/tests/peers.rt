@@ -143,3 +143,23 @@ fn links_lose_nothing(rt: HostRuntime) -> Result<(), Fail> {
     assert!(rt; keeps_links(rt.alloc())?);
     Ok(())
 }
+
+/// Whether nothing comes back from a datagram that is no query, from a link that isn't open, and from an open one's message
+/// that is no query.
+fn passes_others_over<W: World>(world: &mut W) -> Result<bool, NoMemory> {
+    let unheard = is_lost(world, b"\0")? && is_taken(world, FIRST_WRITE)?;
+    world.connect(0, 7)?;
+    Ok(unheard && is_taken(world, b"\0\x01x")? && closes(world)?)
+}
+
+/// Whether a network of two hosts does so.
+fn answers_queries_alone(alloc: Global) -> Result<bool, Fail> {
+    let mut world = peer(alloc, 2, 0)?;
+    Ok(passes_others_over(&mut world)?)
+}
+
+#[test]
+fn what_is_no_query_is_passed_over(rt: HostRuntime) -> Result<(), Fail> {
+    assert!(rt; answers_queries_alone(rt.alloc())?);
+    Ok(())
+}

@@ -313,6 +313,29 @@ fn files_decide(rt: HostRuntime) -> Result<(), Fail> {
     Ok(())
 }
 
+/// Files of which `z` is a byte too large.
+fn large_file(alloc: Global) -> Result<MemFiles, Fail> {
+    let mut bytes = Vec::new(alloc);
+    bytes.resize(1_048_577, b'#')?;
+    let mut files = BTreeMap::new(alloc);
+    files.insert(String::from_str(alloc, "z")?, Bytes::from_vec(bytes))?;
+    Ok(MemFiles::make(files, Vec::new(alloc)))
+}
+
+/// Whether a run over such a file ends for it.
+fn large_file_ends(alloc: Global) -> Result<bool, Fail> {
+    let mut outside = outside_of(alloc, &PLAIN)?;
+    outside.files = large_file(alloc)?;
+    let status = status_of(alloc, ONE, &mut outside)?;
+    Ok(status == 3 && outside.sink.bytes() == b"tns: file fault\n".as_slice())
+}
+
+#[test]
+fn a_large_file_is_a_fault(rt: HostRuntime) -> Result<(), Fail> {
+    assert!(rt; large_file_ends(rt.alloc())?);
+    Ok(())
+}
+
 /// Command lines that are refused, one a line.
 const REFUSED: &str = "
 --port 5353 --zone z

@@ -89,12 +89,40 @@ const REPLY_STATUS: &[u8] = b"\x12\x34\x84\x84\0\x01\0\0\0\0\0\0\x01a\x04test\0\
 /// A response.
 const RESPONSE: &[u8] = b"\x12\x34\x81\0\0\x01\0\0\0\0\0\0\x01a\x04test\0\0\x01\0\x01";
 
-/// Other messages, and their replies. A response, a message without a question, and bytes that are no message, have none.
+/// A query for a name of 256 bytes (RFC 1035, section 2.3.4).
+const LONG_QUERY: &[u8] =
+    b"\x12\x34\x01\0\0\x01\0\0\0\0\0\0\x3faaaaaaaaaaaaaaaaaaaaaaaaaaaaaaaaaaaaaaaaaaaaaaaaaaaaaaaaaaaaaaa\x3faaaaaaaaaaaaaaaaaaaaaaaaaaaaaaaaaaaaaaaaaaaaaaaaaaaaaaaaaaaaaaa\x3faaaaaaaaaaaaaaaaaaaaaaaaaaaaaaaaaaaaaaaaaaaaaaaaaaaaaaaaaaaaaaa\x3eaaaaaaaaaaaaaaaaaaaaaaaaaaaaaaaaaaaaaaaaaaaaaaaaaaaaaaaaaaaaaa\0\0\x01\0\x01";
+
+/// Other messages, and their replies. A response, a message without a question, bytes that are no message (one for each
+/// fault), and a query whose OPT records can't be read, have none.
 const OTHERS: &[Case] = &[
     (QUERY_STATUS, REPLY_STATUS),
     (RESPONSE, b"-"),
     (b"\x12\x34\x01\0\0\0\0\0\0\0\0\0", b"-"),
     (b"\x12\x34", b"-"),
+    (b"\x12\x34\x01\0\0\x01\0\0\0\0\0\0\x01a", b"-"),
+    (b"\x12\x34\x01\0\0\x01\0\0\0\0\0\0\x40\0\x01\0\x01", b"-"),
+    (
+        b"\x12\x34\x01\0\0\x01\0\0\0\0\0\0\xc0\x0c\0\x01\0\x01",
+        b"-",
+    ),
+    (LONG_QUERY, b"-"),
+    (
+        b"\x12\x34\x01\0\0\x01\0\x01\0\0\0\0\x01a\x04test\0\0\x01\0\x01\0\0\x01\0\x01\0\0\0\x3c\0\x03abc",
+        b"-",
+    ),
+    (
+        b"\x12\x34\x01\0\0\x01\0\0\0\0\0\0\x01a\x04test\0\0\x01\0\x01\0",
+        b"-",
+    ),
+    (
+        b"\x12\x34\x01\0\0\x01\0\0\0\0\0\x02\x01a\x04test\0\0\x01\0\x01\0\0\x29\x04\xd0\0\0\0\0\0\0\0\0\x29\x04\xd0\0\0\0\0\0\0",
+        b"-",
+    ),
+    (
+        b"\x12\x34\x01\0\0\x01\0\0\0\0\0\x01\x01a\x04test\0\0\x01\0\x01\0\0\x29\x04\xd0\0\0\0\0\0\x03\0\x0a\0",
+        b"-",
+    ),
 ];
 
 #[test]
@@ -147,6 +175,27 @@ fn long_replies_are_cut(rt: HostRuntime) -> Result<(), Fail> {
     assert!(rt; is_cut(alloc, 196)?);
     assert!(rt; length_of(alloc, 196, QUERY_OPT, false)? == 524);
     assert!(rt; length_of(alloc, 196, QUERY_TXT, true)? == 513);
+    Ok(())
+}
+
+/// A line of a text of 255 bytes, which takes 274 in a reply.
+const TEXT_LINE: &[u8] =
+    b"a.test. 60 TXT xxxxxxxxxxxxxxxxxxxxxxxxxxxxxxxxxxxxxxxxxxxxxxxxxxxxxxxxxxxxxxxxxxxxxxxxxxxxxxxxxxxxxxxxxxxxxxxxxxxxxxxxxxxxxxxxxxxxxxxxxxxxxxxxxxxxxxxxxxxxxxxxxxxxxxxxxxxxxxxxxxxxxxxxxxxxxxxxxxxxxxxxxxxxxxxxxxxxxxxxxxxxxxxxxxxxxxxxxxxxxxxxxxxxxxxxxxxxxxxxxxxxxxxxxxxxxxx\n";
+
+/// Whether the reply of a zone with so many such texts is the one that is cut.
+fn is_cut_of(alloc: Global, count: u8) -> Result<bool, Fail> {
+    let mut lines = Vec::new(alloc);
+    for _ in 0..count {
+        lines.extend_from_slice(TEXT_LINE)?;
+    }
+    let zone = Zone::read(alloc, lines.as_slice())?;
+    Ok(is_answered(alloc, &zone, (QUERY_TXT, REPLY_CUT))?)
+}
+
+// With the question's 24 bytes 240 texts take 65,784, which no message has (RFC 1035, section 4.2.2).
+#[test]
+fn the_longest_replies_are_cut(rt: HostRuntime) -> Result<(), Fail> {
+    assert!(rt; is_cut_of(rt.alloc(), 240)?);
     Ok(())
 }
 
@@ -203,7 +252,18 @@ const BAD_LINES: &[(&str, u64)] = &[
     ("a 1 MX 010 b", 1),
     ("a 1 SRV 1 1 1 b", 1),
     ("a 1 A 192.0.2.1\r", 1),
+    ("a..b 1 A 192.0.2.1", 1),
+    ("a 1 A b", 1),
+    ("a 1 AAAA 192.0.2.1", 1),
+    ("a 1 AAAA b", 1),
+    ("a 1 NS a..b", 1),
+    ("a 1 MX 1 a..b", 1),
+    (LONG_TEXT, 1),
 ];
+
+/// A text of 256 bytes (RFC 1035, section 3.3).
+const LONG_TEXT: &str =
+    "a 1 TXT xxxxxxxxxxxxxxxxxxxxxxxxxxxxxxxxxxxxxxxxxxxxxxxxxxxxxxxxxxxxxxxxxxxxxxxxxxxxxxxxxxxxxxxxxxxxxxxxxxxxxxxxxxxxxxxxxxxxxxxxxxxxxxxxxxxxxxxxxxxxxxxxxxxxxxxxxxxxxxxxxxxxxxxxxxxxxxxxxxxxxxxxxxxxxxxxxxxxxxxxxxxxxxxxxxxxxxxxxxxxxxxxxxxxxxxxxxxxxxxxxxxxxxxxxxxxxxxx";
 
 /// How many records a zone's text has.
 fn records_in(alloc: Global, text: &str) -> Result<usize, ZoneFault> {
@@ -231,4 +291,16 @@ fn bad_lines_are_found(rt: HostRuntime) {
     for (text, line) in BAD_LINES {
         assert!(rt; bad_line(rt.alloc(), text) == *line, "{text}");
     }
+}
+
+// A text of the limit's size is read, and one of a byte more is not.
+#[test]
+fn only_a_text_above_the_limit_is_refused(rt: HostRuntime) -> Result<(), Fail> {
+    let alloc = rt.alloc();
+    let mut text = Vec::new(alloc);
+    text.resize(1_048_576, b'#')?;
+    assert!(rt; Zone::read(alloc, text.as_slice())?.records().is_empty());
+    text.push(b'#')?;
+    assert!(rt; matches!(Zone::read(alloc, text.as_slice()), Err(ZoneFault::TooLarge)));
+    Ok(())
 }

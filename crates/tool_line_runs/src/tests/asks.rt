@@ -341,7 +341,14 @@ fn has_fault(alloc: Global, file: &FileRead, fault: FileFault) -> bool {
     resolv_file(alloc, file).err() == Some(fault) && hosts_read(alloc, file).err() == Some(fault)
 }
 
-// A hosts file, an absent one, and files that can't be read.
+/// A file of so many blanks.
+fn blanks(alloc: Global, len: usize) -> Result<FileRead, Fail> {
+    let mut bytes = Vec::new(alloc);
+    bytes.resize(len, b' ')?;
+    Ok(FileRead::Content(Bytes::from_vec(bytes)))
+}
+
+// A hosts file, an absent one, and files that can't be read. The last is above the limit of either kind.
 #[test]
 fn files_are_read(rt: HostRuntime) -> Result<(), Fail> {
     let alloc = rt.alloc();
@@ -349,5 +356,6 @@ fn files_are_read(rt: HostRuntime) -> Result<(), Fail> {
     assert!(rt; localhosts(alloc, &FileRead::Absent)? == 0);
     assert!(rt; has_fault(alloc, &FileRead::Large, FileFault::TooLarge));
     assert!(rt; has_fault(alloc, &FileRead::Failed, FileFault::Failed));
+    assert!(rt; has_fault(alloc, &blanks(alloc, 4_194_305)?, FileFault::TooLarge));
     Ok(())
 }

@@ -15,6 +15,14 @@ const REPLY: &[u8] =
 const WHOLE: &[u8] =
     b"\x00\x01\x87\x83\x00\x01\x00\x01\x00\x01\x00\x02\x01a\x00\x00\xff\x00\x01\xc0\x0c\xff\x00\x00\x01\x00\x00\x00\x3c\x00\x02\x0a\x0b\xc0\x0c\x00\x02\x00\x01\x00\x00\x00\x05\x00\x05\x02ns\xc0\x0c\xc0\x0c\x00\x01\x00\x01\x00\x00\x00\x00\x00\x04\xc0\x00\x02\x09\x00\x00\x29\x04\xd0\x01\x00\x80\x00\x00\x00";
 
+/// A message with two OPT records, and one whose OPT record has a cut option. The header's response code is 3, which each
+/// record would extend by 1 (RFC 6891, sections 6.1.1 to 6.1.3).
+const TWO_OPTS: &[u8] =
+    b"\x00\x01\x81\x83\x00\x00\x00\x00\x00\x00\x00\x02\x00\x00\x29\x04\xd0\x01\x00\x00\x00\x00\x00\x00\x00\x29\x04\xd0\x01\x00\x00\x00\x00\x00";
+
+const CUT_OPTION: &[u8] =
+    b"\x00\x01\x81\x83\x00\x00\x00\x00\x00\x00\x00\x01\x00\x00\x29\x04\xd0\x01\x00\x00\x00\x00\x03\x00\x0a\x00";
+
 /// A reply with the name host.test of the address 192.0.2.1 (RFC 1035, section 3.5).
 const NAMES: &[u8] =
     b"\x12\x34\x81\x80\x00\x01\x00\x01\x00\x00\x00\x00\x011\x012\x010\x03192\x07in-addr\x04arpa\x00\x00\x0c\x00\x01\xc0\x0c\x00\x0c\x00\x01\x00\x00\x00\x3c\x00\x0b\x04host\x04test\x00";
@@ -77,10 +85,28 @@ a. 0 IN A 192.0.2.9
 . OPT size 1232 ext 1 version 0 do 1 \\# 0
 ";
 
-/// Pages with an address, of all flags and sections, and without a message.
+/// The pages of messages whose OPT records can't be read: the response code is the header's alone.
+const TWO_OPTS_PAGE: &str = ";; a IN A
+;; status 10 EBADRESP
+;; id 1 rcode 3 flags qr rd ra
+;; ADDITIONAL
+. OPT size 1232 ext 1 version 0 do 0 \\# 0
+. OPT size 1232 ext 1 version 0 do 0 \\# 0
+";
+
+const CUT_OPTION_PAGE: &str = ";; a IN A
+;; status 10 EBADRESP
+;; id 1 rcode 3 flags qr rd ra
+;; ADDITIONAL
+. OPT size 1232 ext 1 version 0 do 0 \\# 3 000a00
+";
+
+/// Pages with an address, of all flags and sections, of OPT records that can't be read, and without a message.
 const PAGES: &[Page] = &[
     ("example.com", 1, Status::Success, REPLY, REPLY_PAGE),
     ("a", 255, Status::BadResp, WHOLE, WHOLE_PAGE),
+    ("a", 1, Status::BadResp, TWO_OPTS, TWO_OPTS_PAGE),
+    ("a", 1, Status::BadResp, CUT_OPTION, CUT_OPTION_PAGE),
     (
         "a..b",
         28,
@@ -165,5 +191,65 @@ fn ahost_prints_blocks(rt: HostRuntime) -> Result<(), Fail> {
     assert!(rt; is_block(rt.alloc(), 1, &REVERSED, NAMES_BLOCK)?);
     assert!(rt; is_host_block(rt.alloc(), ADDRESSES_BLOCK)?);
     assert!(rt; is_host_block(rt.alloc(), FAILED_BLOCK)?);
+    Ok(())
+}
+
+/// The names of an address, as the answers to a query or a search.
+const ANSWERS_BLOCK: &Block = &(
+    Status::Success,
+    NAMES,
+    &[],
+    "a 0 SUCCESS\n  1.2.0.192.in-addr.arpa. 60 IN PTR host.test.\n",
+);
+
+/// Whether ahost prints them so.
+fn is_answers_block(alloc: Global, is_search: bool) -> Result<bool, NoMemory> {
+    let (name, kind, class) = (Bytes::of(alloc, b"a")?, 12, 1);
+    let spec = if is_search {
+        Spec::Search { name, kind, class }
+    } else {
+        Spec::Query { name, kind, class }
+    };
+    is_block(alloc, 0, &spec, ANSWERS_BLOCK)
+}
+
+#[test]
+fn ahost_prints_answers(rt: HostRuntime) -> Result<(), Fail> {
+    assert!(rt; is_answers_block(rt.alloc(), false)? && is_answers_block(rt.alloc(), true)?);
+    Ok(())
+}
+
+/// Bytes that are no message, one for each fault (RFC 1035, sections 2.3.4 and 4.1): no header, a name that is cut, a label
+/// of another kind, a pointer to itself, a name of 256 bytes, an address of 3 bytes, and a byte behind the message.
+const NO_MESSAGES: &[&[u8]] = &[
+    b"",
+    b"\0\x01\x81\x80\0\x01\0\0\0\0\0\0\x01a",
+    b"\0\x01\x81\x80\0\x01\0\0\0\0\0\0\x40\0\x01\0\x01",
+    b"\0\x01\x81\x80\0\x01\0\0\0\0\0\0\xc0\x0c\0\x01\0\x01",
+    b"\0\x01\x81\x80\0\x01\0\0\0\0\0\0\x3faaaaaaaaaaaaaaaaaaaaaaaaaaaaaaaaaaaaaaaaaaaaaaaaaaaaaaaaaaaaaaa\x3faaaaaaaaaaaaaaaaaaaaaaaaaaaaaaaaaaaaaaaaaaaaaaaaaaaaaaaaaaaaaaa\x3faaaaaaaaaaaaaaaaaaaaaaaaaaaaaaaaaaaaaaaaaaaaaaaaaaaaaaaaaaaaaaa\x3eaaaaaaaaaaaaaaaaaaaaaaaaaaaaaaaaaaaaaaaaaaaaaaaaaaaaaaaaaaaaaa\0\0\x01\0\x01",
+    b"\0\x01\x81\x80\0\0\0\x01\0\0\0\0\0\0\x01\0\x01\0\0\0\x3c\0\x03abc",
+    b"\0\x01\x81\x80\0\0\0\0\0\0\0\0\0",
+];
+
+/// Whether adig and ahost print of such bytes how the request ended, and no more.
+fn prints_end_alone(alloc: Global, bytes: &'static [u8]) -> Result<bool, NoMemory> {
+    let page = ";; a IN A\n;; status 10 EBADRESP\n";
+    let block = (
+        Status::Success,
+        bytes,
+        [].as_slice(),
+        "192.0.2.1 0 SUCCESS\n",
+    );
+    Ok(
+        is_printed(alloc, &("a", 1, Status::BadResp, bytes, page))?
+            && is_block(alloc, 0, &REVERSED, &block)?,
+    )
+}
+
+#[test]
+fn no_message_is_not_printed(rt: HostRuntime) -> Result<(), Fail> {
+    for bytes in NO_MESSAGES {
+        assert!(rt; prints_end_alone(rt.alloc(), bytes)?);
+    }
     Ok(())
 }

@@ -203,8 +203,22 @@ fn code_of_search(alloc: Global, text: &str) -> Result<u8, Fail> {
     code_of(alloc, &spec)
 }
 
-/// Texts, and the code of the answer at once where a query or a search asks them.
-const NAMES: &[(&str, u8)] = &[("a..b", 8), ("x.onion", 4), ("localhost", 255)];
+/// Texts, and the code of the answer at once where a query or a search asks them. The first four are no names: an empty
+/// label, a backslash at the end, a label of 64 bytes, and labels that take 256 bytes (RFC 1035, sections 2.3.4 and 5.1).
+const NAMES: &[(&str, u8)] = &[
+    ("a..b", 8),
+    ("a\\", 8),
+    (
+        "aaaaaaaaaaaaaaaaaaaaaaaaaaaaaaaaaaaaaaaaaaaaaaaaaaaaaaaaaaaaaaaa",
+        8,
+    ),
+    (
+        "aaaaaaaaaaaaaaaaaaaaaaaaaaaaaaaaaaaaaaaaaaaaaaaaaaaaaaaaaaaaaaa.aaaaaaaaaaaaaaaaaaaaaaaaaaaaaaaaaaaaaaaaaaaaaaaaaaaaaaaaaaaaaaa.aaaaaaaaaaaaaaaaaaaaaaaaaaaaaaaaaaaaaaaaaaaaaaaaaaaaaaaaaaaaaaa.aaaaaaaaaaaaaaaaaaaaaaaaaaaaaaaaaaaaaaaaaaaaaaaaaaaaaaaaaaaaaa",
+        8,
+    ),
+    ("x.onion", 4),
+    ("localhost", 255),
+];
 
 // A query and a search are answered at once for a text that is no name and for a hidden service's name alone.
 #[test]
