@@ -79,25 +79,36 @@ fn shared_by_two<R: Threads + Wait + Sync>(rt: &R, alloc: Global) -> Result<Fini
     Ok(finish(rt, channel, passes, FOLLOW))
 }
 
-/// Whether each accept stands among ten of one seat, one behind the other.
+/// An accept or a take, or another entry.
+fn mark_of(what: &What) -> char {
+    match what {
+        What::Accept { .. } => 'a',
+        What::Take { .. } => 't',
+        _ => '-',
+    }
+}
+
+/// Whether each accept and each take stands among ten of its kind and its seat, one behind the other.
 fn stand_in_tens(entries: &[Entry]) -> bool {
-    let mut seat: u64 = 0;
+    let mut first: (char, u64) = ('-', 0);
     let mut left: u64 = 0;
     for entry in entries {
-        match (&entry.what, left) {
-            (What::Accept { .. }, 0) => {
-                seat = entry.seat;
+        let mark = (mark_of(&entry.what), entry.seat);
+        match (mark.0, left) {
+            ('-', 0) => {}
+            (_, 0) => {
+                first = mark;
                 left = 9;
             }
-            (What::Accept { .. }, _) if entry.seat == seat => left = left.saturating_sub(1),
-            (_, 0) => {}
+            _ if mark == first => left = left.saturating_sub(1),
             _ => return false,
         }
     }
     left == 0
 }
 
-// 2,000 requests are accepted, and each is called once. No contract says that nobody comes between the calls of a hold.
+// 2,000 requests are accepted, and each is called once. Whoever delivers has made ten ready before, so each delivery takes
+// ten. No contract says that nobody comes between the calls of a hold, or between those takes.
 #[test]
 fn two_threads_hold_the_lock(rt: HostRuntime) -> Result<(), Fail> {
     let finished = shared_by_two(&rt, rt.alloc())?;
