@@ -19,7 +19,7 @@ fn main(rt: HostRuntime) -> io::Result<()> {
     let port = number(words.next(), 0).min(65_535) as u16;
     let load = Load {
         port,
-        window: number(words.next(), 1).min(16_384),
+        window: number(words.next(), 1).clamp(1, 16_384),
         count: number(words.next(), 0),
     };
     match task {
