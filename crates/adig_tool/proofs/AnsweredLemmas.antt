@@ -51,7 +51,8 @@ use Rattle.tool_line.specs.declared.files.FileFault.{FileFault as FaultOfFile}
 use Rattle.adig_tool.specs.Output.{text_at}
 use Rattle.tool_line.specs.Put.{PutsText}
 use Rattle.adig_tool.specs.Promise.{IsTraffic, Promise}
-use Rattle.adig_tool.specs.Session.{first_request, longest_slice}
+use Rattle.adig_tool.specs.Session.{first_request}
+use Rattle.owner_laws.specs.Sessions.{longest_slice}
 use Rattle.run_end.specs.declared.ended.Ended.{Ended}
 use Rattle.adig_tool.proofs.ExchangeLemmas.{exchanged, item_passes, two_pass}
 use Rattle.adig_tool.proofs.ListLemmas.{both_hold, heads, one_at_most, tails, three_hold}

@@ -23,7 +23,9 @@ use Rattle.event_runner.specs.UnderWay.{LogGets, RanSince, RunsSince, rested}
 use Rattle.run_end.specs.declared.loop_end.LoopEnd.{LoopEnd}
 use Rattle.adig_tool.specs.Session.{FallsIntoTurns, HasAccepted, IsSession, first_request, is_of_session, leaves_running}
 use Rattle.adig_tool.specs.SessionParts.{MakesTurns, Works}
-use Rattle.adig_tool.specs.Session.{longest_slice}
+use Rattle.owner_laws.specs.Sessions.{longest_slice}
+use Rattle.adig_tool.proofs.LoopLemmas.{falls_short}
+use Rattle.owner_laws.proofs.Well.{well_unbegun}
 use Rattle.adig_tool.proofs.WorkLemmas.{accepted_in, taken_in, works_go_on, works_none, works_own, works_trans}
 use Rattle.run_end.specs.Left.{LeavesPending}
 
@@ -95,7 +97,7 @@ module _ (spec : Spec) (turns : ℕ) (a : Owned) (empty : a.seen ≡ []) (calls 
   session_unasked (Err fault) b err same ran =
       subst (λ d. IsSession spec turns (Err fault) a d calls l m) (sym same)
       (session_of spec turns (Err fault) [] [] calls a a l m empty (works_none a) uncalled (first_request spec ∷ [], refl) tt
-      (ran_at_most longest_slice 0 turns 0 (known_by_owner a) l m (omega arith) ran))
+      (falls_short turns fault a l m (ran_at_most longest_slice 0 turns 0 (known_by_owner a) l m (omega arith) ran) (well_unbegun a l m ran)))
 
   -- the request was accepted, and turns were made
   pub session_asked : (result : Result LoopEnd NoMemory) (b c : Owned) (calls_new : List Answer) (running : Running) (n : Option (List WorldCall)) → (w : Works (first_request spec ∷ []) [] a b) × (has_no_turn w.entries ≡ true) →

@@ -15,7 +15,7 @@ use Rattle.net_world.specs.declared.log.WorldCall.{WorldCall}
 use Rattle.channel_model.specs.Commands.{closing_position, past_at}
 use Rattle.channel_model.specs.Completion.{fate, pending, ready, requests, taken}
 use Rattle.channel_model.specs.Course.{IsCourse, IsCourseSoFar, has_no_turn}
-use Rattle.channel_model.specs.Endings.{IsStalledBehind, LastWaitFailed}
+use Rattle.channel_model.specs.Endings.{IsStalledBehind}
 use Rattle.channel_model.specs.Journal.{Accepted, Past, accepted, followed_by, is_destroy, is_destroyed, past_of}
 use Rattle.channel_model.specs.Lawful.{IsLawful}
 use Rattle.channel_model.specs.Setting.{Setting}
@@ -24,6 +24,7 @@ use Rattle.channel_model.proofs.Theorems.{so_far_nearly}
 use Rattle.channel_model.specs.Turn.{received_in}
 use Rattle.channel_progress.specs.Allowed.{attempts_allowed}
 use Rattle.channel_progress.specs.PlainRun.{IsPlainRun}
+use Rattle.channel_progress.specs.Waking.{NoWaitFailed}
 use Rattle.channel_progress.proofs.Theorems.{not_failed, stalled_one}
 use Rattle.channel_table.specs.Calling.{Owned}
 use Rattle.event_runner.specs.UnderWay.{LogGets}
@@ -38,14 +39,17 @@ use Rattle.tool_line.specs.Outside.{Outside, OutputTold}
 use Rattle.adig_tool.specs.Output.{page_for, text_at}
 use Rattle.tool_line.specs.Put.{IsPut, PutsText}
 use Rattle.adig_tool.specs.Promise.{IsComplete, IsGivenTime, IsOver, IsPageEnd, IsRunEnd, IsTraffic, Promise}
-use Rattle.adig_tool.specs.Session.{FallsIntoTurns, HasAccepted, IsSession, ShowsEnd, first_request, is_of_session, leaves_running, longest_slice}
+use Rattle.adig_tool.specs.Session.{FallsIntoTurns, HasAccepted, IsSession, ShowsEnd, first_request, is_of_session, leaves_running}
+use Rattle.owner_laws.specs.Sessions.{BeginsPending, EndsWithFailedWait, longest_slice}
 use Rattle.adig_tool.specs.SessionParts.{take_entry}
 use Rattle.run_end.specs.declared.loop_end.LoopEnd.{LoopEnd}
 use Rattle.run_end.specs.declared.loop_end.LoopEnd.TheVariants.{Completed, Stalled, WaitFault}
+use Rattle.owner_laws.proofs.Begun.{begins_behind}
 use Rattle.adig_tool.proofs.CalledLemmas.{called_then, numbers_of, taken_all, taken_later}
 use Rattle.adig_tool.proofs.ClosingLemmas.{past_on}
 use Rattle.adig_tool.proofs.ListLemmas.{all_pass, one_at_most, three_hold}
 use Rattle.adig_tool.proofs.ObeyedLemmas.{obeyed}
+use Rattle.owner_laws.proofs.Waits.{last_failed}
 use Rattle.adig_tool.proofs.WholeLemmas.{closing_at, is_kept, kept_open, no_turn, whole, whole_accepted, whole_closed, whole_own}
 use Rattle.run_end.specs.Left.{LeavesPending}
 use Rattle.run_end.specs.Ends.{AreGood}
@@ -153,8 +157,9 @@ log_then P Q follows (Some log) new gets = (gets.0, gets.1, follows gets.0 gets.
 
 module _ (setting : Setting) (turns made : ℕ) (few : made ≤ turns) (es more : List Entry) (none : has_no_turn more ≡ true) (calls : List WorldCall) where
   -- a whole course, and entries behind it
-  traffic_whole : (end : Exit) → IsCourse setting 0 longest_slice es calls made 0 → ((end ≡ FailedWait) → LastWaitFailed calls) → (end ≡ HasStalled → made ≡ turns) → IsTraffic setting turns end (es ++ more) calls
-  traffic_whole end course last_wait all_turns =
+  traffic_whole : (end : Exit) → IsCourse setting 0 longest_slice es calls made 0 → (1 ≤ made → BeginsPending setting es calls) → (end ≡ FailedWait → EndsWithFailedWait calls) → (end ≢ FailedWait → NoWaitFailed calls) →
+      (end ≡ HasStalled → made ≡ turns) → IsTraffic setting turns end (es ++ more) calls
+  traffic_whole end course begins last_wait none_failed all_turns =
       let whole_course = course_then setting 0 longest_slice es more calls made 0 none course in
       record {
         made = made;
@@ -162,15 +167,17 @@ module _ (setting : Setting) (turns made : ℕ) (few : made ≤ turns) (es more 
         readings = so_far_reads setting 0 longest_slice (es ++ more) calls made 0 (inl whole_course) ∙ omega arith;
         course = λ served. whole_course;
         course_so_far = inl whole_course;
+        begins = λ served some. begins_behind setting es more calls (begins some);
         agrees = λ served. course_agrees setting 0 longest_slice (es ++ more) calls made 0 whole_course;
         nearly_agrees = so_far_nearly setting 0 longest_slice (es ++ more) calls made 0 (inl whole_course);
         last_wait = last_wait;
+        none_failed = none_failed;
         all_turns = all_turns;
       }
 
   -- one that was cut short
-  traffic_cut : (end : Exit) → end ≡ OutOfMemory → IsCourseSoFar setting 0 longest_slice es calls made 0 → IsTraffic setting turns end (es ++ more) calls
-  traffic_cut end is course =
+  traffic_cut : (end : Exit) → end ≡ OutOfMemory → IsCourseSoFar setting 0 longest_slice es calls made 0 → NoWaitFailed calls → IsTraffic setting turns end (es ++ more) calls
+  traffic_cut end is course none_failed =
       let so_far = so_far_then setting 0 longest_slice es more calls made 0 none course in
       record {
         made = made;
@@ -178,18 +185,25 @@ module _ (setting : Setting) (turns made : ℕ) (few : made ≤ turns) (es more 
         readings = so_far_reads setting 0 longest_slice (es ++ more) calls made 0 so_far ∙ omega arith;
         course = λ served. absurd (served is);
         course_so_far = so_far;
+        begins = λ served. absurd (served is);
         agrees = λ served. absurd (served is);
         nearly_agrees = so_far_nearly setting 0 longest_slice (es ++ more) calls made 0 so_far;
         last_wait = λ wait. absurd (let e : FailedWait ≡ OutOfMemory = sym wait ∙ is in cc);
+        none_failed = λ other. none_failed;
         all_turns = λ stall. absurd (let e : HasStalled ≡ OutOfMemory = sym stall ∙ is in cc);
       }
 
 -- how the turns ended shows in the calls
-shown_wait : (turns made : ℕ) (channel : Owned) (calls : List WorldCall) (answers : List Answer) (end : Exit) (e : LoopEnd) → IsEndOf (Ok e) answers end → end ≡ FailedWait → ShowsEnd turns e channel made calls → LastWaitFailed calls
+shown_wait : (turns made : ℕ) (channel : Owned) (calls : List WorldCall) (answers : List Answer) (end : Exit) (e : LoopEnd) → IsEndOf (Ok e) answers end → end ≡ FailedWait → ShowsEnd turns e channel made calls → EndsWithFailedWait calls
 shown_wait turns made channel calls answers end Completed (inl good) wait shows = absurd (let h : Success ≡ FailedWait = sym good.0 ∙ wait in cc)
 shown_wait turns made channel calls answers end Completed (inr bad) wait shows = absurd (let h : Failure ≡ FailedWait = sym bad.0 ∙ wait in cc)
 shown_wait turns made channel calls answers end WaitFault is wait shows = shows
 shown_wait turns made channel calls answers end Stalled is wait shows = absurd (let h : HasStalled ≡ FailedWait = sym is ∙ wait in cc)
+
+shown_none : (turns made : ℕ) (channel : Owned) (calls : List WorldCall) (answers : List Answer) (end : Exit) (e : LoopEnd) → IsEndOf (Ok e) answers end → end ≢ FailedWait → ShowsEnd turns e channel made calls → NoWaitFailed calls
+shown_none turns made channel calls answers end Completed is other shows = shows
+shown_none turns made channel calls answers end WaitFault is other shows = absurd (other is)
+shown_none turns made channel calls answers end Stalled is other shows = shows.2
 
 shown_turns : (turns made : ℕ) (channel : Owned) (calls : List WorldCall) (answers : List Answer) (end : Exit) (e : LoopEnd) → IsEndOf (Ok e) answers end → end ≡ HasStalled → ShowsEnd turns e channel made calls → made ≡ turns
 shown_turns turns made channel calls answers end Completed (inl good) stall shows = absurd (let h : Success ≡ HasStalled = sym good.0 ∙ stall in cc)
@@ -203,11 +217,13 @@ traffic_of : (setting : Setting) (turns : ℕ) (result : Result LoopEnd NoMemory
 traffic_of setting turns (Ok e) answers end mid more same none is calls falls =
     traffic_whole setting turns falls.0 falls.1 mid.seen more none calls end
     (subst (λ s. IsCourse s 0 longest_slice mid.seen calls falls.0 0) same falls.2)
-    (λ wait. shown_wait turns falls.0 mid calls answers end e is wait falls.3)
-    (λ stall. shown_turns turns falls.0 mid calls answers end e is stall falls.3)
+    (λ some. subst (λ s. BeginsPending s mid.seen calls) same (falls.3 some))
+    (λ wait. shown_wait turns falls.0 mid calls answers end e is wait falls.4)
+    (λ other. shown_none turns falls.0 mid calls answers end e is other falls.4)
+    (λ stall. shown_turns turns falls.0 mid calls answers end e is stall falls.4)
 traffic_of setting turns (Err e) answers end mid more same none is calls falls =
     traffic_cut setting turns falls.0 falls.1 mid.seen more none calls end is
-    (subst (λ s. IsCourseSoFar s 0 longest_slice mid.seen calls falls.0 0) same falls.2)
+    (subst (λ s. IsCourseSoFar s 0 longest_slice mid.seen calls falls.0 0) same falls.2) falls.3
 
 -- ---- completeness
 
@@ -230,9 +246,9 @@ comes_to_end : (setting : Setting) (turns : ℕ) (result : Result LoopEnd NoMemo
     (calls : List WorldCall) → FallsIntoTurns turns result mid calls → IsGivenTime setting turns (mid.seen ++ more) calls → IsPageEnd end ⊎ (end ≡ OutOfMemory)
 comes_to_end setting turns (Ok Completed) answers end mid spec more same none (inl good) servers tries lawful own at_most calls falls time = inl (inl good.0)
 comes_to_end setting turns (Ok Completed) answers end mid spec more same none (inr bad) servers tries lawful own at_most calls falls time = inl (inr bad.0)
-comes_to_end setting turns (Ok WaitFault) answers end mid spec more same none is servers tries lawful own at_most calls falls time = absurd (not_failed calls time.waited falls.3)
+comes_to_end setting turns (Ok WaitFault) answers end mid spec more same none is servers tries lawful own at_most calls falls time = absurd (not_failed calls time.waited (last_failed calls falls.4))
 comes_to_end setting turns (Ok Stalled) answers end mid spec more same none is servers tries lawful own at_most calls falls time =
-    let shows : (falls.0 ≡ turns) × IsStalledBehind mid.setting 0 longest_slice turns mid.seen calls = falls.3 in
+    let shows : (falls.0 ≡ turns) × IsStalledBehind mid.setting 0 longest_slice turns mid.seen calls × NoWaitFailed calls = falls.4 in
     let stalled : IsStalledBehind setting 0 longest_slice turns mid.seen calls = subst (λ s. IsStalledBehind s 0 longest_slice turns mid.seen calls) same shows.1 in
     let plain : IsPlainRun setting 0 (mid.seen ++ more) calls = record {
       lawful = lawful;
@@ -382,9 +398,11 @@ nothing_called setting turns =
       readings = refl;
       course = λ served. absurd (served refl);
       course_so_far = so_far;
+      begins = λ served. absurd (served refl);
       agrees = λ served. absurd (served refl);
       nearly_agrees = so_far_nearly setting 0 longest_slice [] [] 0 0 so_far;
       last_wait = λ is. absurd (cc is);
+      none_failed = λ other. refl;
       all_turns = λ is. absurd (cc is);
     }
 

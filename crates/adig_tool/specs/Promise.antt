@@ -2,7 +2,6 @@
 use Rattle.std.specs.List.{list_all}
 use Rattle.std.specs.Prelude.{All, IsSomeAnd, IsTrue, List, Some, [], is_some, map, not, ℕ, ◌*◌, ◌++◌, ◌+◌, ◌∷◌, ◌≡◌, ◌≢◌, ◌≤◌, ◌⊎◌}
 use mathlib.Core.List.{IsPrefix}
-use Rattle.chan_types.specs.declared.answer.Answer.{Answer}
 use Rattle.chan_types.specs.declared.journal.Entry.{Entry}
 use Rattle.chan_types.specs.declared.spec.Spec.{Spec}
 use Rattle.net_world.specs.Cause.{Rose}
@@ -11,7 +10,7 @@ use Rattle.channel_model.specs.Commands.{ObeysOrders, closing_position, past_at}
 use Rattle.channel_model.specs.Completion.{fate, pending, ready, requests, taken_by}
 use Rattle.channel_model.specs.Course.{IsCourse, IsCourseSoFar}
 use Rattle.channel_model.specs.CutShort.{NearlyAgrees}
-use Rattle.channel_model.specs.Endings.{LastWaitFailed, turns_in}
+use Rattle.channel_model.specs.Endings.{turns_in}
 use Rattle.channel_model.specs.Journal.{Past, accepted, is_destroy, past_of}
 use Rattle.channel_model.specs.Lawful.{IsLawful}
 use Rattle.channel_model.specs.Setting.{Setting}
@@ -27,7 +26,8 @@ use Rattle.adig_tool.specs.Entries.{closing, is_own, no_orders}
 use Rattle.tool_line.specs.Outside.{GrowsBy, Outside, OutputTold}
 use Rattle.adig_tool.specs.Output.{page_for, text_at}
 use Rattle.tool_line.specs.Put.{IsPut}
-use Rattle.adig_tool.specs.Session.{first_request, longest_slice}
+use Rattle.adig_tool.specs.Session.{first_request}
+use Rattle.owner_laws.specs.Sessions.{BeginsPending, EndsWithFailedWait, longest_slice}
 use Rattle.run_end.specs.Ends.{AreGood}
 use Rattle.run_end.specs.declared.ended.Ended.{Ended}
 
@@ -60,11 +60,15 @@ pub record IsTraffic (setting : Setting) (turns : ℕ) (end : Exit) (journal : L
   -- Journal and calls fall into these turns: the servers of the setting are told before the first, nothing waits before it, and between two there is one wait, up to the first deadline, where there is nothing to do, or none where there is something. Want of memory alone cuts this short.
   pub course : end ≢ OutOfMemory → IsCourse setting 0 longest_slice journal calls made 0
   pub course_so_far : IsCourseSoFar setting 0 longest_slice journal calls made 0
+  -- A first turn is made only where a request is pending, and nothing is ready.
+  pub begins : end ≢ OutOfMemory → 1 ≤ made → BeginsPending setting journal calls
   -- So what the journal notes of messages, queries, links and faults is what these calls tell; where memory was wanting, but for one call.
   pub agrees : end ≢ OutOfMemory → TrafficAgrees setting 0 journal calls
   pub nearly_agrees : NearlyAgrees setting 0 beginning journal calls
-  -- A run ends for a wait only where its last wait failed, and as stalled only where all turns were made.
-  pub last_wait : end ≡ WaitFault → LastWaitFailed calls
+  -- A run ends for a wait only where its last call is a wait that failed, and none before it failed; one that ends otherwise has no wait that failed.
+  pub last_wait : end ≡ WaitFault → EndsWithFailedWait calls
+  pub none_failed : end ≢ WaitFault → NoWaitFailed calls
+  -- It ends as stalled only where all turns were made.
   pub all_turns : end ≡ Stalled → made ≡ turns
 
 -- a run is given turns enough, two for each attempt that its request may spend, one for each item that was received, and four, over a network that wakes in time and whose waits don't fail

@@ -1,6 +1,6 @@
 -- How one request is brought to its end: it is accepted, turns are made with waits between them, and it is called.
 use Rattle.std.specs.List.{list_all}
-use Rattle.std.specs.Prelude.{Bool, Err, IsTrue, List, Ok, Option, Result, Some, [], false, map, true, ℕ, ⊤, ◌&&◌, ◌-◌, ◌==◌, ◌^◌, ◌∷◌, ◌≡◌, ◌≢◌, ◌≤◌}
+use Rattle.std.specs.Prelude.{Bool, Err, IsTrue, List, Ok, Option, Result, Some, [], false, map, true, ℕ, ◌&&◌, ◌-◌, ◌==◌, ◌∷◌, ◌≡◌, ◌≤◌}
 use mathlib.Core.List.{IsPrefix}
 use Rattle.item_list.specs.declared.no_memory.NoMemory.{NoMemory}
 use Rattle.net_world.specs.declared.log.WorldCall.{WorldCall}
@@ -10,14 +10,15 @@ use Rattle.chan_types.specs.declared.journal.Entry.{Entry}
 use Rattle.chan_types.specs.declared.journal.What.{What}
 use Rattle.chan_types.specs.declared.journal.What.TheVariants.{Accept, Arrive, Cancel, Destroy, Expire, Fault, Start, Take, Servers}
 use Rattle.chan_types.specs.declared.spec.Spec.{Spec}
-use Rattle.channel_model.specs.Completion.{fate, pending, ready, taken}
+use Rattle.channel_model.specs.Completion.{fate, pending, taken}
 use Rattle.channel_model.specs.Course.{IsCourse, IsCourseSoFar}
-use Rattle.channel_model.specs.Endings.{IsStalledBehind, LastWaitFailed}
-use Rattle.channel_model.specs.Journal.{Accepted, Past, accepted, past_of}
+use Rattle.channel_model.specs.Endings.{IsStalledBehind}
+use Rattle.channel_model.specs.Journal.{Accepted, accepted, past_of}
 use Rattle.channel_model.specs.Lawful.{IsLawful}
-use Rattle.channel_model.specs.Setting.{Setting}
+use Rattle.channel_progress.specs.Waking.{NoWaitFailed}
 use Rattle.channel_table.specs.Calling.{Owned}
 use Rattle.event_runner.specs.UnderWay.{LogGets}
+use Rattle.owner_laws.specs.Sessions.{BeginsPending, EndsWithFailedWait, longest_slice}
 use Rattle.run_end.specs.Left.{LeavesPending}
 use Rattle.run_end.specs.declared.loop_end.LoopEnd.{LoopEnd}
 use Rattle.run_end.specs.declared.loop_end.LoopEnd.TheVariants.{Completed, Stalled, WaitFault}
@@ -38,10 +39,6 @@ leaves_running (Servers list) = false
 abbrev pub is_of_session : Entry → Bool
 is_of_session entry = (entry.seat == 0) && (entry.by == 0) && leaves_running entry.what
 
--- a wait between two turns may last as long as nothing is due
-abbrev pub longest_slice : ℕ
-longest_slice = 2 ^ 64 - 1
-
 -- the request as it is accepted: it is the channel's first, and its callback commands nothing
 abbrev pub first_request : Spec → Accepted
 first_request spec = record { number = 1; spec = spec; script = blank 0 }
@@ -51,18 +48,19 @@ abbrev pub HasAccepted : Spec → Result LoopEnd NoMemory → List Accepted → 
 HasAccepted spec (Ok end) requests = requests ≡ first_request spec ∷ []
 HasAccepted spec (Err fault) requests = IsPrefix requests (first_request spec ∷ [])
 
--- how the turns ended, as it shows: the last wait failed, or all turns were made with a request pending behind the last
+-- how the turns ended, as it shows: with a wait that failed, or all turns were made with a request pending behind the last; and no other wait failed
 abbrev pub ShowsEnd : ℕ → LoopEnd → Owned → ℕ → List WorldCall → Type 0
-ShowsEnd turns Completed channel made calls = ⊤
-ShowsEnd turns WaitFault channel made calls = LastWaitFailed calls
-ShowsEnd turns Stalled channel made calls = (made ≡ turns) × IsStalledBehind channel.setting 0 longest_slice turns channel.seen calls
+ShowsEnd turns Completed channel made calls = NoWaitFailed calls
+ShowsEnd turns WaitFault channel made calls = EndsWithFailedWait calls
+ShowsEnd turns Stalled channel made calls = (made ≡ turns) × IsStalledBehind channel.setting 0 longest_slice turns channel.seen calls × NoWaitFailed calls
 
--- journal and calls fall into at most so many turns; where memory was wanting they may have been cut short
+-- journal and calls fall into at most so many turns, the first of which begins where a request is pending; where memory was wanting they may have been cut short, and no wait failed
 abbrev pub FallsIntoTurns : ℕ → Result LoopEnd NoMemory → Owned → List WorldCall → Type 0
 FallsIntoTurns turns (Ok end) channel calls =
-    (made : ℕ) × (made ≤ turns) × IsCourse channel.setting 0 longest_slice channel.seen calls made 0 × ShowsEnd turns end channel made calls
+    (made : ℕ) × (made ≤ turns) × IsCourse channel.setting 0 longest_slice channel.seen calls made 0
+    × (1 ≤ made → BeginsPending channel.setting channel.seen calls) × ShowsEnd turns end channel made calls
 FallsIntoTurns turns (Err fault) channel calls =
-    (made : ℕ) × (made ≤ turns) × IsCourseSoFar channel.setting 0 longest_slice channel.seen calls made 0
+    (made : ℕ) × (made ≤ turns) × IsCourseSoFar channel.setting 0 longest_slice channel.seen calls made 0 × NoWaitFailed calls
 
 -- one request was brought to its end, or as far as turns, waits and memory served
 pub record IsSession (spec : Spec) (turns : ℕ) (result : Result LoopEnd NoMemory) (old new : Owned) (answers : List Answer) (log_old log_new : Option (List WorldCall)) : Type 0 where

@@ -14,7 +14,8 @@ use Rattle.event_runner.specs.Running.{Running}
 use Rattle.event_runner.specs.State.{IsTurnOwner}
 use Rattle.event_runner.specs.UnderWay.{LogGets, RunsSince, rested}
 use Rattle.run_end.specs.declared.loop_end.LoopEnd.{LoopEnd}
-use Rattle.adig_tool.specs.Session.{FallsIntoTurns, is_of_session, longest_slice}
+use Rattle.adig_tool.specs.Session.{FallsIntoTurns, is_of_session}
+use Rattle.owner_laws.specs.Sessions.{longest_slice}
 use Rattle.run_end.specs.Left.{LeavesPending}
 
 -- the entry by which a request is taken

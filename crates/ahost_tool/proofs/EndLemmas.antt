@@ -12,12 +12,13 @@ use Rattle.net_world.specs.Cause.{Rose}
 use Rattle.net_world.specs.declared.log.WorldCall.{WorldCall}
 use Rattle.channel_model.specs.Commands.{Asking, closing_position}
 use Rattle.channel_model.specs.Course.{IsCourse, IsCourseSoFar, has_no_turn}
-use Rattle.channel_model.specs.Endings.{IsStalledBehind, LastWaitFailed}
+use Rattle.channel_model.specs.Endings.{IsStalledBehind}
 use Rattle.channel_model.specs.Lawful.{IsLawful}
 use Rattle.channel_model.specs.Setting.{Setting}
 use Rattle.channel_model.proofs.Theorems.{course_agrees, so_far_nearly, so_far_reads}
 use Rattle.channel_progress.specs.PlainRun.{IsPlainRun}
 use Rattle.channel_progress.specs.Prompted.{unprompted_in}
+use Rattle.channel_progress.specs.Waking.{NoWaitFailed}
 use Rattle.channel_progress.proofs.Theorems.{not_failed}
 use Rattle.channel_table.specs.Calling.{Owned}
 use Rattle.event_runner.proofs.Theorems.{course_then, so_far_then}
@@ -29,13 +30,16 @@ use Rattle.ahost_tool.specs.Ends.{IsEndOf}
 use Rattle.ahost_tool.specs.Kinds.{has_servers, is_ruled}
 use Rattle.ahost_tool.specs.Page.{report_of, text_at}
 use Rattle.ahost_tool.specs.Promise.{IsComplete, IsGivenTime, IsPageEnd, IsRunEnd, IsTraffic, last_at}
-use Rattle.ahost_tool.specs.Session.{FallsIntoTurns, HasAccepted, SetsBehindFirst, ShowsEnd, longest_slice}
+use Rattle.ahost_tool.specs.Session.{FallsIntoTurns, HasAccepted, SetsBehindFirst, ShowsEnd}
+use Rattle.owner_laws.specs.Sessions.{BeginsPending, EndsWithFailedWait, longest_slice}
 use Rattle.ahost_tool.specs.declared.reporting.Report.{Report}
 use Rattle.run_end.specs.declared.loop_end.LoopEnd.{LoopEnd}
 use Rattle.run_end.specs.declared.loop_end.LoopEnd.TheVariants.{Completed, Stalled, WaitFault}
+use Rattle.owner_laws.proofs.Begun.{begins_behind}
 use Rattle.ahost_tool.proofs.MoveLemmas.{ruled_seats}
 use Rattle.ahost_tool.proofs.ProgressLemmas.{stalled_few}
 use Rattle.ahost_tool.proofs.ThenLemmas.{behind_more}
+use Rattle.owner_laws.proofs.Waits.{last_failed}
 use Rattle.run_end.specs.Ends.{AreGood}
 
 -- ---- ends
@@ -146,9 +150,9 @@ accepted_part (Err fault) askings accepted_ has = has
 
 module _ (setting : Setting) (later : Option (List ServerAddr)) (turns made : ℕ) (few : made ≤ turns) (es more : List Entry) (none : has_no_turn more ≡ true) (unset : has_servers more ≡ false) (calls : List WorldCall) where
   -- a whole course, and entries behind it
-  traffic_whole : (end : Exit) → IsCourse setting 0 longest_slice es calls made 0 → SetsBehindFirst setting later made es calls → ((end ≡ FailedWait) → LastWaitFailed calls) → (end ≡ HasStalled → made ≡ turns) →
-      IsTraffic setting later turns end (es ++ more) calls
-  traffic_whole end course sets last_wait all_turns =
+  traffic_whole : (end : Exit) → IsCourse setting 0 longest_slice es calls made 0 → SetsBehindFirst setting later made es calls → (1 ≤ made → BeginsPending setting es calls) → (NoWaitFailed calls ⊎ EndsWithFailedWait calls) →
+      (end ≡ FailedWait → EndsWithFailedWait calls) → (end ≢ FailedWait → end ≢ OutOfMemory → NoWaitFailed calls) → (end ≡ HasStalled → made ≡ turns) → IsTraffic setting later turns end (es ++ more) calls
+  traffic_whole end course sets begins waits last_wait none_failed all_turns =
       let whole_course = course_then setting 0 longest_slice es more calls made 0 none course in
       record {
         made = made;
@@ -157,15 +161,18 @@ module _ (setting : Setting) (later : Option (List ServerAddr)) (turns made : �
         course = λ served. whole_course;
         sets_behind = λ served. subst (SetsBehindFirst setting later made (es ++ more)) (append-nil calls) (behind_more setting later made made es more calls [] (λ z. z) unset sets);
         course_so_far = inl whole_course;
+        begins = λ served some. begins_behind setting es more calls (begins some);
         agrees = λ served. course_agrees setting 0 longest_slice (es ++ more) calls made 0 whole_course;
         nearly_agrees = so_far_nearly setting 0 longest_slice (es ++ more) calls made 0 (inl whole_course);
+        waits = waits;
         last_wait = last_wait;
+        none_failed = none_failed;
         all_turns = all_turns;
       }
 
   -- one that was cut short, or where requests of callbacks were lost
-  traffic_cut : (end : Exit) → end ≡ OutOfMemory → IsCourseSoFar setting 0 longest_slice es calls made 0 → IsTraffic setting later turns end (es ++ more) calls
-  traffic_cut end is course =
+  traffic_cut : (end : Exit) → end ≡ OutOfMemory → IsCourseSoFar setting 0 longest_slice es calls made 0 → NoWaitFailed calls → IsTraffic setting later turns end (es ++ more) calls
+  traffic_cut end is course none_failed =
       let so_far = so_far_then setting 0 longest_slice es more calls made 0 none course in
       record {
         made = made;
@@ -174,9 +181,12 @@ module _ (setting : Setting) (later : Option (List ServerAddr)) (turns made : �
         course = λ served. absurd (served is);
         sets_behind = λ served. absurd (served is);
         course_so_far = so_far;
+        begins = λ served. absurd (served is);
         agrees = λ served. absurd (served is);
         nearly_agrees = so_far_nearly setting 0 longest_slice (es ++ more) calls made 0 so_far;
+        waits = inl none_failed;
         last_wait = λ wait. absurd (let e : FailedWait ≡ OutOfMemory = sym wait ∙ is in cc);
+        none_failed = λ other served. none_failed;
         all_turns = λ stall. absurd (let e : HasStalled ≡ OutOfMemory = sym stall ∙ is in cc);
       }
 
@@ -185,7 +195,7 @@ abbrev ok_of : LoopEnd → Result LoopEnd NoMemory
 ok_of e = Ok e
 
 -- how the turns ended shows in the calls
-shown_wait : (turns made : ℕ) (channel : Owned) (calls : List WorldCall) (e : LoopEnd) → ok_of e ≡ ok_of WaitFault → ShowsEnd turns e channel made calls → LastWaitFailed calls
+shown_wait : (turns made : ℕ) (channel : Owned) (calls : List WorldCall) (e : LoopEnd) → ok_of e ≡ ok_of WaitFault → ShowsEnd turns e channel made calls → EndsWithFailedWait calls
 shown_wait turns made channel calls Completed is shows = absurd (cc is)
 shown_wait turns made channel calls WaitFault is shows = shows
 shown_wait turns made channel calls Stalled is shows = absurd (cc is)
@@ -195,6 +205,20 @@ shown_stall turns made channel calls Completed is shows = absurd (cc is)
 shown_stall turns made channel calls WaitFault is shows = absurd (cc is)
 shown_stall turns made channel calls Stalled is shows = shows.0
 
+shown_waits : (turns made : ℕ) (channel : Owned) (calls : List WorldCall) (e : LoopEnd) → ShowsEnd turns e channel made calls → NoWaitFailed calls ⊎ EndsWithFailedWait calls
+shown_waits turns made channel calls Completed shows = inl shows
+shown_waits turns made channel calls WaitFault shows = inr shows
+shown_waits turns made channel calls Stalled shows = inl shows.3
+
+shown_none : (turns made : ℕ) (channel : Owned) (calls : List WorldCall) (answers : List Answer) (end : Exit) (e : LoopEnd) → Came (Ok e) answers end → end ≢ FailedWait → end ≢ OutOfMemory → ShowsEnd turns e channel made calls → NoWaitFailed calls
+shown_none turns made channel calls answers end Completed is other served shows = shows
+shown_none turns made channel calls answers end Stalled is other served shows = shows.3
+shown_none turns made channel calls answers end WaitFault (inl w) other served shows = absurd (cc w.0)
+shown_none turns made channel calls answers end WaitFault (inr (inl w)) other served shows = absurd (cc w.0)
+shown_none turns made channel calls answers end WaitFault (inr (inr (inl w))) other served shows = absurd (other w.1)
+shown_none turns made channel calls answers end WaitFault (inr (inr (inr (inl w)))) other served shows = absurd (cc w.0)
+shown_none turns made channel calls answers end WaitFault (inr (inr (inr (inr w)))) other served shows = absurd (served w)
+
 -- the calls of a session, with what stands behind it
 pub traffic_of : (setting : Setting) (later : Option (List ServerAddr)) (turns : ℕ) (result : Result LoopEnd NoMemory) (answers : List Answer) (end : Exit) (mid : Owned) (more : List Entry) → mid.setting ≡ setting →
     has_no_turn more ≡ true → has_servers more ≡ false → Came result answers end → (calls : List WorldCall) → FallsIntoTurns later turns result mid calls → IsTraffic setting later turns end (mid.seen ++ more) calls
@@ -202,11 +226,14 @@ traffic_of setting later turns (Ok e) answers end mid more same none unset is ca
     traffic_whole setting later turns falls.0 falls.1 mid.seen more none unset calls end
     (subst (λ s. IsCourse s 0 longest_slice mid.seen calls falls.0 0) same falls.2)
     (subst (λ s. SetsBehindFirst s later falls.0 mid.seen calls) same falls.3)
-    (λ wait. shown_wait turns falls.0 mid calls e (wait_of (Ok e) answers end is wait) falls.4)
-    (λ stall. shown_stall turns falls.0 mid calls e (stall_of (Ok e) answers end is stall) falls.4)
+    (λ some. subst (λ s. BeginsPending s mid.seen calls) same (falls.4 some))
+    (shown_waits turns falls.0 mid calls e falls.5)
+    (λ wait. shown_wait turns falls.0 mid calls e (wait_of (Ok e) answers end is wait) falls.5)
+    (λ other served. shown_none turns falls.0 mid calls answers end e is other served falls.5)
+    (λ stall. shown_stall turns falls.0 mid calls e (stall_of (Ok e) answers end is stall) falls.5)
 traffic_of setting later turns (Err e) answers end mid more same none unset is calls falls =
     traffic_cut setting later turns falls.0 falls.1 mid.seen more none unset calls end (err_wanting is)
-    (subst (λ s. IsCourseSoFar s 0 longest_slice mid.seen calls falls.0 0) same falls.2)
+    (subst (λ s. IsCourseSoFar s 0 longest_slice mid.seen calls falls.0 0) same falls.2) falls.3
   where
     err_wanting : Came (Err e) answers end → end ≡ OutOfMemory
     err_wanting (inl w) = absurd (cc w.0)
@@ -240,8 +267,8 @@ module _ (setting : Setting) (later : Option (List ServerAddr)) (turns : ℕ) (r
   pub comes_to_end : Came result answers end → IsPageEnd end ⊎ (end ≡ OutOfMemory)
   comes_to_end (inl w) = inl (inl w.1)
   comes_to_end (inr (inl w)) = inl (inr w.1)
-  comes_to_end (inr (inr (inl w))) = let ended : FallsIntoTurns later turns (Ok WaitFault) mid calls = subst (λ x. FallsIntoTurns later turns x mid calls) w.0 falls in absurd (not_failed calls time.waited ended.4)
-  comes_to_end (inr (inr (inr (inl w)))) = let ended : FallsIntoTurns later turns (Ok Stalled) mid calls = subst (λ x. FallsIntoTurns later turns x mid calls) w.0 falls in absurd (not_stalled ended.4.1 ended.4.2)
+  comes_to_end (inr (inr (inl w))) = let ended : FallsIntoTurns later turns (Ok WaitFault) mid calls = subst (λ x. FallsIntoTurns later turns x mid calls) w.0 falls in absurd (not_failed calls time.waited (last_failed calls ended.5))
+  comes_to_end (inr (inr (inr (inl w)))) = let ended : FallsIntoTurns later turns (Ok Stalled) mid calls = subst (λ x. FallsIntoTurns later turns x mid calls) w.0 falls in absurd (not_stalled ended.5.1 ended.5.2)
   comes_to_end (inr (inr (inr (inr w)))) = inr w
 
 -- and then its report is put, where the output doesn't fail

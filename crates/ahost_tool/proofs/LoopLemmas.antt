@@ -12,11 +12,12 @@ use Rattle.net_world.specs.declared.log.WorldCall.{WorldCall}
 use Rattle.channel_model.specs.Commands.{accepted_for}
 use Rattle.channel_model.specs.Completion.{pending, ready}
 use Rattle.channel_model.specs.Course.{IsCourse, has_no_turn}
-use Rattle.channel_model.specs.Endings.{IsStalledBehind, LastWaitFailed}
+use Rattle.channel_model.specs.Endings.{IsStalledBehind}
 use Rattle.channel_model.specs.Journal.{followed_by, past_of}
 use Rattle.channel_progress.specs.Prompted.{unprompted_in}
+use Rattle.channel_progress.specs.Waking.{NoWaitFailed}
 use Rattle.channel_table.specs.Calling.{Owned, known_by_owner}
-use Rattle.event_runner.proofs.Theorems.{RunsWith, WayWith, ran_at_most, ran_so_far, runs_cut, runs_failed, runs_paused, runs_unpaused, told_as, told_both, told_by, with_any, with_begun, with_behind, with_delivered, with_following, with_paused, with_stalls, with_turned}
+use Rattle.event_runner.proofs.Theorems.{RunsWith, WayWith, ran_at_most, ran_so_far, runs_cut, runs_paused, runs_unpaused, told_as, told_both, told_by, with_any, with_begun, with_behind, with_delivered, with_following, with_paused, with_stalls, with_turned}
 use Rattle.event_runner.specs.declared.answers.Paused.{Paused}
 use Rattle.event_runner.specs.declared.answers.Paused.TheVariants.{Skipped, WaitFault, Woken}
 use Rattle.event_runner.specs.declared.answers.Turned.{Turned}
@@ -24,23 +25,27 @@ use Rattle.event_runner.specs.Goes.{Goes, Stops}
 use Rattle.event_runner.specs.Running.{HasLooked, HasWaited, PausesBy, Running, run_of}
 use Rattle.event_runner.specs.State.{IsTurnOwner}
 use Rattle.event_runner.specs.Turning.{IsCutShort, MakesTurn}
-use Rattle.event_runner.specs.UnderWay.{IsUnderWay, LogGets, Reach, RunsSince, delivered, following, rested, turned}
+use Rattle.event_runner.specs.UnderWay.{IsSoFar, IsUnderWay, LogGets, RanSince, Reach, RunsSince, delivered, following, rested, turned}
 use Rattle.ahost_tool.specs.Kinds.{has_servers, is_of_session}
-use Rattle.ahost_tool.specs.Session.{CountsPending, FallsIntoTurns, MakesTurns, SetsAtMost, SetsBehindFirst, SetsLater, ShowsEnd, longest_slice}
+use Rattle.ahost_tool.specs.Session.{CountsPending, FallsIntoTurns, MakesTurns, SetsAtMost, SetsBehindFirst, SetsLater, ShowsEnd}
+use Rattle.owner_laws.specs.Sessions.{EndsWithFailedWait, longest_slice}
 use Rattle.ahost_tool.specs.declared.caller.Caller.{Caller}
 use Rattle.run_end.specs.declared.loop_end.LoopEnd.{LoopEnd}
 use Rattle.run_end.specs.declared.loop_end.LoopEnd.TheVariants.{Completed, Stalled, WaitFault as WaitFailed}
+use Rattle.owner_laws.proofs.Begun.{IsAsked}
+use Rattle.owner_laws.proofs.Well.{AreBegun, RunsWell, well_begun, well_behind, well_cut, well_failed, well_paused, well_so_far, well_turned}
 use Rattle.ahost_tool.proofs.MoveLemmas.{Moves, accepted_parts, moves_go_on, moves_kept, moves_none, moves_trans, moves_turn, own_all, session_seats, turn_unset}
 use Rattle.owner_laws.proofs.Owner.{looked_same, paused_same, waited_pending}
 use Rattle.ahost_tool.proofs.PromptLemmas.{IsPrompted, MovesBetween, none_unprompted, prompted_none, prompted_trans}
 use Rattle.ahost_tool.proofs.ThenLemmas.{Grows, Then, grows_none, sets_more, then_more, then_set}
 use Rattle.run_end.specs.Left.{LeavesPending}
 
--- so many turns were made, and what completed was delivered, so that requests were accepted between them because others had completed; behind the last turn the run has come so far
+-- so many turns were made, none behind a failed wait and none first where nothing was pending, and what completed was delivered, so that requests were accepted between them because others had completed; behind the last turn the run has come so far
 pub record Made {B : Type 0} (reach : Reach) (turns : ℕ) (old new : Caller B) (before after : Running) (log_old log_new : Option (List WorldCall)) : Type 0 where
   pub moves : Moves old new
   pub told : (log : Option (List WorldCall)) → RunsSince longest_slice 0 0 rested (known_by_owner old.alone) before log log_old →
       RunsWith (IsPrompted old.alone.setting) longest_slice turns 0 reach (known_by_owner new.alone) after log log_new
+  pub well : (log : Option (List WorldCall)) → RunsSince longest_slice 0 0 rested (known_by_owner old.alone) before log log_old → RunsWell turns new.alone log log_new
 
 -- a count of what is pending
 some_counted : (count : ℕ) (xs : List ℕ) → count ≡ length xs → count ≢ 0 → xs ≢ []
@@ -50,9 +55,26 @@ none_counted : (count : ℕ) (xs : List ℕ) → count ≡ length xs → count �
 none_counted count [] is none = refl
 none_counted count (x ∷ xs) is none = let h : length (x ∷ xs) ≡ 0 = sym is ∙ none in absurd (omega (arith, h))
 
+-- what was counted is pending, and nothing is ready
+pub asked_here : (count : ℕ) (b c : Owned) → CountsPending count b c → count ≢ 0 → ready b.setting (past_of b.seen) ≡ [] → IsAsked c
+asked_here count b c counts some none = subst IsAsked (sym counts.same) (some_counted count (pending b.setting (past_of b.seen)) counts.count_is some, none)
+
+-- turns that want of memory may have cut short, without a wait that failed
+pub falls_short : (later : Option (List ServerAddr)) (most : ℕ) (fault : NoMemory) (c : Owned) (l m : Option (List WorldCall)) → RanSince longest_slice most 0 (known_by_owner c) l m →
+    LogGets (λ calls. IsTurnOwner (known_by_owner c) → NoWaitFailed calls) l m → LogGets (λ calls. IsTurnOwner (known_by_owner c) → FallsIntoTurns later most (Err fault) c calls) l m
+falls_short later most fault c l m ran none =
+    told_as (λ calls. (IsTurnOwner (known_by_owner c) → IsSoFar longest_slice most 0 (known_by_owner c) calls) × (IsTurnOwner (known_by_owner c) → NoWaitFailed calls))
+    (λ calls. IsTurnOwner (known_by_owner c) → FallsIntoTurns later most (Err fault) c calls)
+    (λ calls both owner. let far = both.0 owner in (far.0, far.1, far.2, both.1 owner)) l m
+    (told_both (λ calls. IsTurnOwner (known_by_owner c) → IsSoFar longest_slice most 0 (known_by_owner c) calls) (λ calls. IsTurnOwner (known_by_owner c) → NoWaitFailed calls) l m ran none)
+
 -- no turn was made yet
 pub made_none : {B : Type 0} (a : Caller B) (r : Running) (l : Option (List WorldCall)) → Made rested 0 a a r r l l
-made_none a r l = record { moves = moves_none a; told = λ log since. with_begun (IsPrompted a.alone.setting) longest_slice 0 rested (known_by_owner a.alone) r log l since }
+made_none a r l = record {
+  moves = moves_none a;
+  told = λ log since. with_begun (IsPrompted a.alone.setting) longest_slice 0 rested (known_by_owner a.alone) r log l since;
+  well = λ log since. well_begun a.alone r log l since;
+}
 
 module _ {B : Type 0} (turns : ℕ) (a : Caller B) (before : Running) (l : Option (List WorldCall)) where
   -- a part without an entry of a turn
@@ -65,6 +87,7 @@ module _ {B : Type 0} (turns : ℕ) (a : Caller B) (before : Running) (l : Optio
         (λ past between is before. prompted_trans a.alone.setting past between p.0.since before
         (subst (λ s. IsPrompted s (followed_by past between) p.0.since) x.moves.setting (subst (λ q. IsPrompted b.alone.setting q p.0.since) (sym is) p.2)))
         (x.told log since);
+    well = λ log since. well_behind turns b.alone log m (x.well log since) c.alone p.0.since p.0.setting p.0.seen;
   }
 
   module _ (b : Caller B) (r : Running) (m : Option (List WorldCall)) where
@@ -73,6 +96,7 @@ module _ {B : Type 0} (turns : ℕ) (a : Caller B) (before : Running) (l : Optio
     made_delivered none x = record {
       moves = x.moves;
       told = λ log since. with_delivered (IsPrompted a.alone.setting) longest_slice turns 0 log m (known_by_owner b.alone) r none (x.told log since);
+      well = x.well;
     }
 
     -- a request is pending
@@ -82,22 +106,25 @@ module _ {B : Type 0} (turns : ℕ) (a : Caller B) (before : Running) (l : Optio
           moves = x.moves;
           told = λ log since.
               with_following (IsPrompted a.alone.setting) longest_slice turns 0 log m (known_by_owner b.alone) r (some_counted count (pending b.alone.setting (past_of b.alone.seen)) counts.count_is some) (x.told log since);
+          well = x.well;
         })
 
-    -- one turn more
-    pub made_turned : (c : Owned) (s : Running) (n : Option (List WorldCall)) (answer : Turned) → (goes : Goes (MakesTurn answer) (run_of (known_by_owner b.alone) r m) (run_of (known_by_owner c) s n)) → s.reading ≡ answer.reading →
+    -- one turn more, where a request is pending
+    pub made_turned : (c : Owned) (s : Running) (n : Option (List WorldCall)) (answer : Turned) → (goes : Goes (MakesTurn answer) (run_of (known_by_owner b.alone) r m) (run_of (known_by_owner c) s n)) → s.reading ≡ answer.reading → IsAsked b.alone →
         Made following turns a b before r l m → Made turned (turns + 1) a (record b { alone = c }) before s l n
-    made_turned c s n answer goes read x = record {
+    made_turned c s n answer goes read asked x = record {
       moves = moves_trans a b (record b { alone = c }) x.moves (moves_turn b c goes.goes_on goes.made);
       told = λ log since.
           with_turned (IsPrompted a.alone.setting) longest_slice turns 0 log m (prompted_none a.alone.setting) (known_by_owner b.alone) (known_by_owner c) r s n answer goes read (x.told log since);
+      well = λ log since.
+          well_turned turns b.alone log m (x.well log since) c r s n (with_any (IsPrompted a.alone.setting) longest_slice turns 0 log m following (known_by_owner b.alone) r (x.told log since)) answer goes asked;
     }
 
-    -- a pause
-    pub made_paused : (c : Owned) (s : Running) (broken : Bool) (n : Option (List WorldCall)) (answer : Paused) → 1 ≤ turns →
+    -- a pause, in which no wait failed
+    pub made_paused : (c : Owned) (s : Running) (broken : Bool) (n : Option (List WorldCall)) (answer : Paused) → 1 ≤ turns → answer ≢ WaitFault →
         PausesBy (min (r.reading + longest_slice) (2 ^ 64 - 1)) answer (known_by_owner b.alone) (known_by_owner c) m n → s ≡ record r { broken = broken } →
         Made delivered turns a b before r l m → Made rested turns a (record b { alone = c }) before s l n
-    made_paused c s broken n answer some pauses is x = record {
+    made_paused c s broken n answer some other pauses is x = record {
       moves = subst (λ o. Moves a (record b { alone = o })) (sym (paused_same _ answer b.alone c m n pauses)) x.moves;
       told = λ log since.
           let latest : ℕ = min (r.reading + longest_slice) (2 ^ 64 - 1) in
@@ -105,6 +132,7 @@ module _ {B : Type 0} (turns : ℕ) (a : Caller B) (before : Running) (l : Optio
           subst (λ o. RunsWith (IsPrompted a.alone.setting) longest_slice turns 0 rested (known_by_owner o) s log n) (sym same)
           (with_paused (IsPrompted a.alone.setting) longest_slice turns 0 log m (known_by_owner b.alone) r s broken n answer some
           (subst (λ o. PausesBy latest answer (known_by_owner b.alone) (known_by_owner o) m n) same pauses) is (x.told log since));
+      well = λ log since. well_paused turns b.alone log m (x.well log since) c n _ answer other pauses;
     }
 
     -- it is a run
@@ -185,22 +213,27 @@ module _ {B : Type 0} (later : Option (List ServerAddr)) (most : ℕ) (result : 
 module _ {B : Type 0} (later left : Option (List ServerAddr)) (most turns : ℕ) (a b : Caller B) (before r : Running) (l m : Option (List WorldCall)) where
   -- the turns were made, and this shows how they ended
   ends_ok : (end : LoopEnd) → turns ≤ most → Made rested turns a b before r l m → Then later left turns a b before l m → LeavesPending b.alone.setting (Ok end) (past_of b.alone.seen) →
-      ((calls : List WorldCall) → WayWith longest_slice turns 0 (IsPrompted a.alone.setting) rested (known_by_owner b.alone) r calls → ShowsEnd most end b.alone turns calls) → MakesTurns later most (Ok end) a b before l m
+      ((calls : List WorldCall) → WayWith longest_slice turns 0 (IsPrompted a.alone.setting) rested (known_by_owner b.alone) r calls → NoWaitFailed calls → ShowsEnd most end b.alone turns calls) → MakesTurns later most (Ok end) a b before l m
   ends_ok end few x t left_is shows = ends_by later most (Ok end) a b before l m x.moves left_is t.sets.at_most (λ log since unset.
       told_as
+      (λ calls. ((IsTurnOwner (known_by_owner b.alone) → WayWith longest_slice turns 0 (IsPrompted a.alone.setting) rested (known_by_owner b.alone) r calls)
+      × (IsTurnOwner (known_by_owner b.alone) → SetsBehindFirst b.alone.setting later turns b.alone.seen calls)) × (IsTurnOwner (known_by_owner b.alone) → NoWaitFailed calls × AreBegun turns b.alone calls))
+      (λ calls. IsTurnOwner (known_by_owner b.alone) → FallsIntoTurns later most (Ok end) b.alone calls)
+      (λ calls all owner. let way = all.0.0 owner in let well = all.1 owner in (turns, few, way.0.course, all.0.1 owner, well.1, shows calls way well.0)) log m
+      (told_both
       (λ calls. (IsTurnOwner (known_by_owner b.alone) → WayWith longest_slice turns 0 (IsPrompted a.alone.setting) rested (known_by_owner b.alone) r calls)
       × (IsTurnOwner (known_by_owner b.alone) → SetsBehindFirst b.alone.setting later turns b.alone.seen calls))
-      (λ calls. IsTurnOwner (known_by_owner b.alone) → FallsIntoTurns later most (Ok end) b.alone calls)
-      (λ calls both owner. (turns, few, (both.0 owner).0.course, both.1 owner, shows calls (both.0 owner))) log m
+      (λ calls. IsTurnOwner (known_by_owner b.alone) → NoWaitFailed calls × AreBegun turns b.alone calls) log m
       (told_both (λ calls. IsTurnOwner (known_by_owner b.alone) → WayWith longest_slice turns 0 (IsPrompted a.alone.setting) rested (known_by_owner b.alone) r calls)
-      (λ calls. IsTurnOwner (known_by_owner b.alone) → SetsBehindFirst b.alone.setting later turns b.alone.seen calls) log m (x.told log since) (t.sets.told log since unset)))
+      (λ calls. IsTurnOwner (known_by_owner b.alone) → SetsBehindFirst b.alone.setting later turns b.alone.seen calls) log m (x.told log since) (t.sets.told log since unset))
+      (x.well log since)))
 
   -- nothing is pending
   pub ends_completed : (count : ℕ) (c : Owned) → turns ≤ most → ready b.alone.setting (past_of b.alone.seen) ≡ [] → CountsPending count b.alone c → count ≡ 0 → Made rested turns a b before r l m → Then later left turns a b before l m →
       MakesTurns later most (Ok Completed) a (record b { alone = c }) before l m
   ends_completed count c few none counts nothing x t =
       subst (λ o. MakesTurns later most (Ok Completed) a (record b { alone = o }) before l m) (sym counts.same)
-      (ends_ok Completed few x t (none, none_counted count (pending b.alone.setting (past_of b.alone.seen)) counts.count_is nothing) (λ calls way. tt))
+      (ends_ok Completed few x t (none, none_counted count (pending b.alone.setting (past_of b.alone.seen)) counts.count_is nothing) (λ calls way woken. woken))
 
   -- all turns were made, and a request is pending
   pub ends_stalled : (count : ℕ) (c : Owned) → turns ≡ most → ready b.alone.setting (past_of b.alone.seen) ≡ [] → CountsPending count b.alone c → count ≢ 0 → Made rested turns a b before r l m → Then later left turns a b before l m →
@@ -209,11 +242,11 @@ module _ {B : Type 0} (later left : Option (List ServerAddr)) (most turns : ℕ)
       let some = some_counted count (pending b.alone.setting (past_of b.alone.seen)) counts.count_is counted in
       subst (λ o. MakesTurns later most (Ok Stalled) a (record b { alone = o }) before l m) (sym counts.same)
       (ends_ok Stalled (omega (arith, all)) x t (none, some)
-      (λ calls way.
+      (λ calls way woken.
       let stalls = with_stalls (IsPrompted a.alone.setting) longest_slice turns rested (known_by_owner b.alone) r calls some way in
       let shown = subst (λ n. (stalled : IsStalledBehind b.alone.setting 0 longest_slice n b.alone.seen calls) × (unprompted_in b.alone.setting stalled.course.rounds ≡ 0)) all
       (stalls.0, subst (λ s. unprompted_in s stalls.0.course.rounds ≡ 0) (sym x.moves.setting) (none_unprompted a.alone.setting stalls.0.course.rounds stalls.1)) in
-      (all, shown.0, shown.1)))
+      (all, shown.0, shown.1, woken)))
 
   -- a wait failed
   pub ends_failed : (c : Owned) (s : Running) (broken : Bool) (n : Option (List WorldCall)) → 1 ≤ turns → turns ≤ most → ready b.alone.setting (past_of b.alone.seen) ≡ [] →
@@ -229,16 +262,17 @@ module _ {B : Type 0} (later left : Option (List ServerAddr)) (most turns : ℕ)
       (λ log since unset.
       let runs = made_runs turns a before l b r m delivered x log since in
       let way = runs_paused longest_slice turns 0 log m (known_by_owner b.alone) (known_by_owner c) r s broken n WaitFault some waited is runs in
-      let failed = runs_failed (λ calls. IsTurnOwner (known_by_owner b.alone) → IsUnderWay longest_slice turns 0 delivered (known_by_owner b.alone) r calls) latest (known_by_owner b.alone) (known_by_owner c) log m n runs waited in
+      let failed = well_failed turns b.alone log m (x.well log since) c n latest waited in
       told_as
-      (λ calls. ((IsTurnOwner (known_by_owner c) → IsUnderWay longest_slice turns 0 rested (known_by_owner c) s calls) × LastWaitFailed calls)
+      (λ calls. ((IsTurnOwner (known_by_owner c) → IsUnderWay longest_slice turns 0 rested (known_by_owner c) s calls) × (IsTurnOwner (known_by_owner c) → EndsWithFailedWait calls × AreBegun turns c calls))
       × (IsTurnOwner (known_by_owner c) → SetsBehindFirst c.setting later turns c.seen calls))
       (λ calls. IsTurnOwner (known_by_owner c) → FallsIntoTurns later most (Ok WaitFailed) c calls)
-      (λ calls both owner. (turns, few, (both.0.0 owner).course, both.1 owner, both.0.1)) log n
+      (λ calls both owner. let ended = both.0.1 owner in (turns, few, (both.0.0 owner).course, both.1 owner, ended.1, ended.0)) log n
       (told_both
-      (λ calls. (IsTurnOwner (known_by_owner c) → IsUnderWay longest_slice turns 0 rested (known_by_owner c) s calls) × LastWaitFailed calls)
+      (λ calls. (IsTurnOwner (known_by_owner c) → IsUnderWay longest_slice turns 0 rested (known_by_owner c) s calls) × (IsTurnOwner (known_by_owner c) → EndsWithFailedWait calls × AreBegun turns c calls))
       (λ calls. IsTurnOwner (known_by_owner c) → SetsBehindFirst c.setting later turns c.seen calls) log n
-      (told_both (λ calls. IsTurnOwner (known_by_owner c) → IsUnderWay longest_slice turns 0 rested (known_by_owner c) s calls) LastWaitFailed log n way failed)
+      (told_both (λ calls. IsTurnOwner (known_by_owner c) → IsUnderWay longest_slice turns 0 rested (known_by_owner c) s calls)
+      (λ calls. IsTurnOwner (known_by_owner c) → EndsWithFailedWait calls × AreBegun turns c calls) log n way failed)
       (t.sets.told log since unset)))
 
   -- want of memory cut a turn short
@@ -249,7 +283,10 @@ module _ {B : Type 0} (later left : Option (List ServerAddr)) (most turns : ℕ)
   ends_cut (Err fault) c s n err few stops sets x =
       ends_by later most (Err fault) a (record b { alone = c }) before l n
       (moves_trans a b (record b { alone = c }) x.moves (moves_turn b c stops.goes_on stops.made)) tt sets
-      (λ log since unset. ran_at_most longest_slice (turns + 1) most 0 (known_by_owner c) log n few (runs_cut longest_slice turns 0 log m (known_by_owner b.alone) (known_by_owner c) r s n stops (made_runs turns a before l b r m following x log since)))
+      (λ log since unset.
+      let runs = made_runs turns a before l b r m following x log since in
+      falls_short later most fault c log n (ran_at_most longest_slice (turns + 1) most 0 (known_by_owner c) log n few (runs_cut longest_slice turns 0 log m (known_by_owner b.alone) (known_by_owner c) r s n stops runs))
+      (well_cut turns b.alone log m (x.well log since) c r s n runs stops))
 
   -- or it came where the later servers were to be set
   pub ends_unset : (result : Result LoopEnd NoMemory) (ls : Option (List ServerAddr)) (set_result : Result (Unit {0}) NoMemory) (c : Owned) → is_err result ≡ true → is_err set_result ≡ true → turns ≤ most → SetsLater ls set_result b.alone c → (has_servers a.alone.seen ≡ false → SetsAtMost b.alone.setting later b.alone.seen) →
@@ -258,7 +295,10 @@ module _ {B : Type 0} (later left : Option (List ServerAddr)) (most turns : ℕ)
   ends_unset (Err fault) ls set_result c err failed few set sets x =
       subst (λ o. MakesTurns later most (Err fault) a (record b { alone = o }) before l m) (sym (same ls set_result failed set))
       (ends_by later most (Err fault) a b before l m x.moves tt sets
-      (λ log since unset. ran_at_most longest_slice turns most 0 (known_by_owner b.alone) log m few (ran_so_far longest_slice turns 0 log m turned (known_by_owner b.alone) r (made_runs turns a before l b r m turned x log since))))
+      (λ log since unset.
+      falls_short later most fault b.alone log m
+      (ran_at_most longest_slice turns most 0 (known_by_owner b.alone) log m few (ran_so_far longest_slice turns 0 log m turned (known_by_owner b.alone) r (made_runs turns a before l b r m turned x log since)))
+      (well_so_far turns b.alone log m (x.well log since))))
     where
       same : (ls : Option (List ServerAddr)) (set_result : Result (Unit {0}) NoMemory) → is_err set_result ≡ true → SetsLater ls set_result b.alone c → c ≡ b.alone
       same None set_result failed set = set
@@ -274,4 +314,8 @@ module _ {B : Type 0} (later left : Option (List ServerAddr)) (most turns : ℕ)
       ends_by later most (Err fault) a (record b { alone = c }) before l n
       (subst (λ o. Moves a (record b { alone = o })) (sym same) x.moves) tt
       (λ unset. subst (λ o. SetsAtMost o.setting later o.seen) (sym same) (sets unset))
-      (λ log since unset. ran_at_most longest_slice turns most 0 (known_by_owner c) log n few (runs_unpaused longest_slice turns 0 log m (known_by_owner b.alone) (known_by_owner c) r n looked (made_runs turns a before l b r m delivered x log since)))
+      (λ log since unset.
+      falls_short later most fault c log n
+      (ran_at_most longest_slice turns most 0 (known_by_owner c) log n few (runs_unpaused longest_slice turns 0 log m (known_by_owner b.alone) (known_by_owner c) r n looked (made_runs turns a before l b r m delivered x log since)))
+      (subst (λ k. LogGets (λ calls. IsTurnOwner (known_by_owner c) → NoWaitFailed calls) log k) (sym looked.1)
+      (subst (λ o. LogGets (λ calls. IsTurnOwner (known_by_owner o) → NoWaitFailed calls) log m) (sym same) (well_so_far turns b.alone log m (x.well log since)))))

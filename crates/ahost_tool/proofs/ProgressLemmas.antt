@@ -15,7 +15,7 @@ use Rattle.channel_progress.specs.Allowed.{attempts_allowed, attempts_for, attem
 use Rattle.channel_progress.specs.PlainRun.{IsPlainRun}
 use Rattle.channel_progress.specs.Prompted.{unprompted_in}
 use Rattle.channel_progress.proofs.Theorems.{in_use_most-later, stalled_any, times_set-later}
-use Rattle.ahost_tool.specs.Session.{longest_slice}
+use Rattle.owner_laws.specs.Sessions.{longest_slice}
 use Rattle.ahost_tool.proofs.ObeyLemmas.{past_on}
 
 -- ---- more entries

@@ -33,7 +33,8 @@ use Rattle.ahost_tool.specs.Ends.{IsEndOf}
 use Rattle.ahost_tool.specs.Kinds.{has_servers, is_ruled, is_servers}
 use Rattle.ahost_tool.specs.Page.{text_at}
 use Rattle.ahost_tool.specs.Promise.{IsComplete, IsGivenTime, IsOver, IsPageEnd, IsTraffic, Promise, last_at}
-use Rattle.ahost_tool.specs.Session.{FallsIntoTurns, HasObeyed, IsSession, SetsAtMost, longest_slice}
+use Rattle.ahost_tool.specs.Session.{FallsIntoTurns, HasObeyed, IsSession, SetsAtMost}
+use Rattle.owner_laws.specs.Sessions.{longest_slice}
 use Rattle.ahost_tool.specs.declared.caller.Caller.{Caller}
 use Rattle.run_end.specs.declared.loop_end.LoopEnd.{LoopEnd}
 use Rattle.run_end.specs.declared.loop_end.LoopEnd.TheVariants.{Completed, Stalled, WaitFault}
@@ -318,9 +319,12 @@ nothing_called setting later turns =
       course = λ served. absurd (served refl);
       sets_behind = λ served. absurd (served refl);
       course_so_far = so_far;
+      begins = λ served. absurd (served refl);
       agrees = λ served. absurd (served refl);
       nearly_agrees = so_far_nearly setting 0 longest_slice [] [] 0 0 so_far;
+      waits = inl refl;
       last_wait = λ is. absurd (cc is);
+      none_failed = λ other served. refl;
       all_turns = λ is. absurd (cc is);
     }
 

@@ -14,7 +14,7 @@ use Rattle.event_runner.specs.declared.answers.Turned.{Turned}
 use Rattle.ahost_tool.specs.Delivering.{DeliversAll, IsIdle}
 use Rattle.ahost_tool.specs.Session.{CountsPending, SetsLater}
 use Rattle.ahost_tool.specs.declared.caller.Caller.{Caller}
-use Rattle.ahost_tool.proofs.LoopLemmas.{Made, made_delivered, made_following, made_then, made_turned, then_counted, then_turned}
+use Rattle.ahost_tool.proofs.LoopLemmas.{Made, asked_here, made_delivered, made_following, made_then, made_turned, then_counted, then_turned}
 use Rattle.ahost_tool.proofs.MoveLemmas.{MovesQuietly, moves_idle, quiet_all}
 use Rattle.ahost_tool.proofs.PromptLemmas.{prompted_all}
 use Rattle.ahost_tool.proofs.ThenLemmas.{Then, grows_none, moves_set, then_more}
@@ -24,9 +24,9 @@ pub record Round {B : Type 0} (later : Option (List ServerAddr)) (turns : ℕ) (
   pub made : Made delivered turns old new before after log_old log_new
   pub sets : Then later None turns old new before log_old log_new
 
--- before the turn a request is pending, which leaves all as it was
+-- before the turn a request is pending and nothing ready, which leaves all as it was
 module _ {B : Type 0} (later left : Option (List ServerAddr)) (turns count : ℕ) (a b : Caller B) (before r : Running) (l m : Option (List WorldCall)) (c : Owned) (idle : IsIdle a)
-    (made : Made rested turns a b before r l m) (sets : Then later left turns a b before l m) (counts : CountsPending count b.alone c) (some : count ≢ 0) where
+    (made : Made rested turns a b before r l m) (sets : Then later left turns a b before l m) (counts : CountsPending count b.alone c) (some : count ≢ 0) (none_ready : ready b.alone.setting (past_of b.alone.seen) ≡ []) where
   abbrev b_counted : Caller B
   b_counted = record b { alone = c }
 
@@ -42,7 +42,7 @@ module _ {B : Type 0} (later left : Option (List ServerAddr)) (turns count : ℕ
     b_turned = record b { alone = d }
 
     pub turned_made : Made turned (turns + 1) a b_turned before u l n
-    turned_made = made_turned turns a before l b_counted r m d u n answer goes reads counted_made
+    turned_made = made_turned turns a before l b_counted r m d u n answer goes reads (asked_here count b.alone c counts some none_ready) counted_made
 
     -- the servers that were left, and the deliveries
     pub round : (done : Unit {0}) (e : Owned) → SetsLater left (Ok done) d e → (f : Caller B) → DeliversAll (record b { alone = e }) f → ready f.alone.setting (past_of f.alone.seen) ≡ [] →

@@ -28,11 +28,14 @@ use Rattle.event_runner.specs.State.{IsTurnOwner}
 use Rattle.event_runner.specs.UnderWay.{LogGets, RanSince, RunsSince, rested}
 use Rattle.ahost_tool.specs.Delivering.{IsIdle}
 use Rattle.ahost_tool.specs.Kinds.{has_servers, is_cancel, is_of_session, is_ruled, is_servers}
-use Rattle.ahost_tool.specs.Session.{AcceptsAll, FallsIntoTurns, HasAccepted, HasObeyed, IsKept, IsNew, IsSession, MakesTurns, is_asking, longest_slice}
+use Rattle.ahost_tool.specs.Session.{AcceptsAll, FallsIntoTurns, HasAccepted, HasObeyed, IsKept, IsNew, IsSession, MakesTurns, is_asking}
+use Rattle.owner_laws.specs.Sessions.{longest_slice}
 use Rattle.ahost_tool.specs.declared.caller.Caller.{Caller}
 use Rattle.run_end.specs.declared.loop_end.LoopEnd.{LoopEnd}
 use Rattle.ahost_tool.proofs.KeptLemmas.{kept_more}
 use Rattle.ahost_tool.proofs.ListLemmas.{all_pass, none_any, none_of, or_right}
+use Rattle.ahost_tool.proofs.LoopLemmas.{falls_short}
+use Rattle.owner_laws.proofs.Well.{well_unbegun}
 use Rattle.ahost_tool.proofs.MoveLemmas.{own_all, ruled_seats, session_ruled}
 use Rattle.ahost_tool.proofs.ObeyLemmas.{is_plain}
 use Rattle.ahost_tool.proofs.ThenLemmas.{at_most_none}
@@ -136,7 +139,7 @@ module _ {B : Type 0} (askings : List Asking) (later : Option (List ServerAddr))
     sets = at_most_none b.alone.setting later b.alone.seen unset;
     told = told_as (λ calls. IsTurnOwner (known_by_owner b.alone) → FallsIntoTurns later turns (Err fault) b.alone calls) (FallsIntoTurns later turns (Err fault) b.alone)
         (λ calls falls. falls (owner_of b.alone.seen kept.1.ruled)) l m
-        (ran_at_most longest_slice 0 turns 0 (known_by_owner b.alone) l m (omega arith) ran);
+        (falls_short later turns fault b.alone l m (ran_at_most longest_slice 0 turns 0 (known_by_owner b.alone) l m (omega arith) ran) (well_unbegun b.alone l m ran));
   }
 
   -- while the servers were told

@@ -20,7 +20,8 @@ use Rattle.event_runner.specs.Running.{Running}
 use Rattle.event_runner.specs.State.{IsTurnOwner}
 use Rattle.event_runner.specs.UnderWay.{IsUnderWay, LogGets, RunsSince, rested}
 use Rattle.ahost_tool.specs.Kinds.{has_servers, is_servers}
-use Rattle.ahost_tool.specs.Session.{FirstTurn, SetsAtMost, SetsBehindFirst, SetsLater, SetsOnce, SetsThese, longest_slice, servers_entry}
+use Rattle.ahost_tool.specs.Session.{SetsAtMost, SetsBehindFirst, SetsLater, SetsOnce, SetsThese, servers_entry}
+use Rattle.owner_laws.specs.Sessions.{FirstTurn, longest_slice}
 use Rattle.ahost_tool.specs.declared.caller.Caller.{Caller}
 use Rattle.ahost_tool.proofs.ListLemmas.{any_of}
 use Rattle.ahost_tool.proofs.MoveLemmas.{Moves, moves_none, moves_plain}

@@ -9,7 +9,7 @@ use Rattle.channel_model.specs.Commands.{ObeysOrders, accepted_for, closing_posi
 use Rattle.channel_model.specs.Completion.{fate, occurrences, pending, ready, requests}
 use Rattle.channel_model.specs.Course.{IsCourse, IsCourseSoFar}
 use Rattle.channel_model.specs.CutShort.{NearlyAgrees}
-use Rattle.channel_model.specs.Endings.{LastWaitFailed, turns_in}
+use Rattle.channel_model.specs.Endings.{turns_in}
 use Rattle.channel_model.specs.Journal.{Past, is_destroy, past_of}
 use Rattle.channel_model.specs.Lawful.{IsLawful}
 use Rattle.channel_model.specs.Setting.{Setting}
@@ -28,7 +28,8 @@ use Rattle.ahost_tool.specs.Asked.{Asked}
 use Rattle.run_end.specs.Ends.{AreGood}
 use Rattle.ahost_tool.specs.Kinds.{is_ruled}
 use Rattle.ahost_tool.specs.Page.{report_of, text_at}
-use Rattle.ahost_tool.specs.Session.{SetsAtMost, SetsBehindFirst, longest_slice}
+use Rattle.ahost_tool.specs.Session.{SetsAtMost, SetsBehindFirst}
+use Rattle.owner_laws.specs.Sessions.{BeginsPending, EndsWithFailedWait, longest_slice}
 use Rattle.run_end.specs.declared.ended.Ended.{Ended}
 use Rattle.ahost_tool.specs.declared.reporting.Report.{Report}
 
@@ -66,11 +67,16 @@ pub record IsTraffic (setting : Setting) (later : Option (List ServerAddr)) (tur
   -- The later servers, if there are some, are set behind the first turn and before the second, unless the channel was destroyed before that.
   pub sets_behind : end ≢ OutOfMemory → SetsBehindFirst setting later made journal calls
   pub course_so_far : IsCourseSoFar setting 0 longest_slice journal calls made 0
+  -- A first turn is made only where a request is pending, and nothing is ready.
+  pub begins : end ≢ OutOfMemory → 1 ≤ made → BeginsPending setting journal calls
   -- So what the journal notes of messages, queries, links and faults is what these calls tell; where memory was wanting, but for one call.
   pub agrees : end ≢ OutOfMemory → TrafficAgrees setting 0 journal calls
   pub nearly_agrees : NearlyAgrees setting 0 beginning journal calls
-  -- A run ends for a wait only where its last wait failed, and as stalled only where all turns were made.
-  pub last_wait : end ≡ WaitFault → LastWaitFailed calls
+  -- No call is made behind a wait that failed, and one failed only where the run ended for it, or where memory was wanting.
+  pub waits : NoWaitFailed calls ⊎ EndsWithFailedWait calls
+  pub last_wait : end ≡ WaitFault → EndsWithFailedWait calls
+  pub none_failed : end ≢ WaitFault → end ≢ OutOfMemory → NoWaitFailed calls
+  -- A run ends as stalled only where all turns were made.
   pub all_turns : end ≡ Stalled → made ≡ turns
 
 -- a run is given more turns than two for each attempt that its requests may spend and one for each item that was received, over a network that wakes in time and whose waits don't fail

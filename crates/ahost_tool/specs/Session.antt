@@ -1,6 +1,6 @@
 -- How requests are brought to their end: they are accepted, turns are made with waits between them, and what completes is delivered.
 use Rattle.std.specs.List.{AllByRecursion, list_all}
-use Rattle.std.specs.Prelude.{Bool, Err, IsFalse, IsTrue, List, None, Ok, Option, Result, Some, [], is_some, length, map, min, ℕ, ⊤, ◌&&◌, ◌++◌, ◌-◌, ◌==◌, ◌^◌, ◌∷◌, ◌≡◌, ◌≢◌, ◌≤◌, ◌⊎◌}
+use Rattle.std.specs.Prelude.{Bool, Err, IsFalse, IsTrue, List, None, Ok, Option, Result, Some, [], is_some, length, map, min, ℕ, ◌&&◌, ◌++◌, ◌-◌, ◌==◌, ◌^◌, ◌∷◌, ◌≡◌, ◌≤◌, ◌⊎◌}
 use mathlib.Core.List.{IsPrefix}
 use Rattle.item_list.specs.declared.no_memory.NoMemory.{NoMemory}
 use Rattle.net_addr.specs.declared.addr.ServerAddr.{ServerAddr}
@@ -10,14 +10,15 @@ use Rattle.chan_types.specs.declared.journal.Entry.{Entry}
 use Rattle.chan_types.specs.declared.journal.What.TheVariants.{Servers}
 use Rattle.chan_types.specs.declared.orders.Orders.{Orders}
 use Rattle.channel_model.specs.Commands.{Asking, ObeysOrders, accepted_for}
-use Rattle.channel_model.specs.Completion.{fate, pending, ready, taken}
+use Rattle.channel_model.specs.Completion.{fate, pending, taken}
 use Rattle.channel_model.specs.Course.{IsCourse, IsCourseSoFar}
-use Rattle.channel_model.specs.Endings.{IsStalledBehind, LastWaitFailed}
+use Rattle.channel_model.specs.Endings.{IsStalledBehind}
 use Rattle.channel_model.specs.Journal.{Past, accepted_by, is_destroyed, past_of}
 use Rattle.channel_model.specs.Lawful.{IsLawful}
 use Rattle.channel_model.specs.Servers.{keys_for}
 use Rattle.channel_model.specs.Setting.{Setting}
 use Rattle.channel_progress.specs.Prompted.{unprompted_in}
+use Rattle.channel_progress.specs.Waking.{NoWaitFailed}
 use Rattle.channel_table.specs.Calling.{Owned, known_by_owner}
 use Rattle.event_runner.specs.Running.{Running}
 use Rattle.event_runner.specs.State.{IsTurnOwner}
@@ -25,13 +26,10 @@ use Rattle.event_runner.specs.UnderWay.{LogGets, RunsSince, rested}
 use Rattle.ahost_tool.specs.Delivering.{IsIdle}
 use Rattle.ahost_tool.specs.Kinds.{has_servers, is_of_session, is_ruled}
 use Rattle.ahost_tool.specs.declared.caller.Caller.{Caller}
+use Rattle.owner_laws.specs.Sessions.{BeginsPending, EndsWithFailedWait, FirstTurn, longest_slice}
 use Rattle.run_end.specs.Left.{LeavesPending}
 use Rattle.run_end.specs.declared.loop_end.LoopEnd.{LoopEnd}
 use Rattle.run_end.specs.declared.loop_end.LoopEnd.TheVariants.{Completed, Stalled, WaitFault}
-
--- a wait between two turns may last as long as nothing is due
-abbrev pub longest_slice : ℕ
-longest_slice = 2 ^ 64 - 1
 
 -- nothing has happened, and nothing was called or lost
 pub record IsNew {B : Type 0} (caller : Caller B) : Type 0 where
@@ -93,13 +91,6 @@ abbrev pub SetsAtMost : Setting → Option (List ServerAddr) → List Entry → 
 SetsAtMost setting None journal = IsFalse (has_servers journal)
 SetsAtMost setting (Some addresses) journal = IsFalse (has_servers journal) ⊎ SetsOnce setting addresses journal
 
--- a journal and its calls have a beginning that falls into one turn
-pub record FirstTurn (setting : Setting) (earlier : List Entry) (calls : List WorldCall) : Type 0 where
-  pub calls_earlier : List WorldCall
-  pub calls_behind : List WorldCall
-  pub calls_are : calls ≡ calls_earlier ++ calls_behind
-  pub course : IsCourse setting 0 longest_slice earlier calls_earlier 1 0
-
 -- these servers were set behind the first turn and before the second
 pub record AreSetBehind (setting : Setting) (addresses : List ServerAddr) (journal : List Entry) (calls : List WorldCall) : Type 0 where
   pub sets : SetsOnce setting addresses journal
@@ -127,21 +118,21 @@ pub record CountsPending (count : ℕ) (old new : Owned) : Type 0 where
   pub same : new ≡ old
   pub count_is : count ≡ length (pending old.setting (past_of old.seen))
 
--- how the turns ended, as it shows: the last wait failed, or all turns were made with a request pending behind the last, and between turns no request was accepted unprompted
+-- how the turns ended, as it shows: with a wait that failed, or all turns were made with a request pending behind the last, and between turns no request was accepted unprompted; and no other wait failed
 abbrev pub ShowsEnd : ℕ → LoopEnd → Owned → ℕ → List WorldCall → Type 0
-ShowsEnd turns Completed channel made calls = ⊤
-ShowsEnd turns WaitFault channel made calls = LastWaitFailed calls
+ShowsEnd turns Completed channel made calls = NoWaitFailed calls
+ShowsEnd turns WaitFault channel made calls = EndsWithFailedWait calls
 ShowsEnd turns Stalled channel made calls =
     (made ≡ turns) × (stalled : IsStalledBehind channel.setting 0 longest_slice turns channel.seen calls)
-    × (unprompted_in channel.setting stalled.course.rounds ≡ 0)
+    × (unprompted_in channel.setting stalled.course.rounds ≡ 0) × NoWaitFailed calls
 
--- journal and calls fall into at most so many turns, with waits between them; where memory was wanting the last turn may have been cut short, or the telling of the servers
+-- journal and calls fall into at most so many turns, with waits between them, and the first begins where a request is pending; where memory was wanting the last turn may have been cut short, or the telling of the servers, and no wait failed
 abbrev pub FallsIntoTurns : Option (List ServerAddr) → ℕ → Result LoopEnd NoMemory → Owned → List WorldCall → Type 0
 FallsIntoTurns later turns (Ok end) channel calls =
     (made : ℕ) × (made ≤ turns) × IsCourse channel.setting 0 longest_slice channel.seen calls made 0
-    × SetsBehindFirst channel.setting later made channel.seen calls × ShowsEnd turns end channel made calls
+    × SetsBehindFirst channel.setting later made channel.seen calls × (1 ≤ made → BeginsPending channel.setting channel.seen calls) × ShowsEnd turns end channel made calls
 FallsIntoTurns later turns (Err fault) channel calls =
-    (made : ℕ) × (made ≤ turns) × IsCourseSoFar channel.setting 0 longest_slice channel.seen calls made 0
+    (made : ℕ) × (made ≤ turns) × IsCourseSoFar channel.setting 0 longest_slice channel.seen calls made 0 × NoWaitFailed calls
 
 -- what is said of a channel between two calls of its owner, with the answers that were told, and so many requests of callbacks that were lost as far as a count goes: the journal is lawful, callbacks were obeyed, and each request that was taken was called, in this order, with its fate
 pub record HasObeyed (setting : Setting) (journal : List Entry) (orders : Orders) (calls : List Answer) (count : ℕ) : Type 0 where

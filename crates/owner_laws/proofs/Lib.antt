@@ -1,2 +1,5 @@
 pub mod Owner
 pub mod Destroyed
+pub mod Waits
+pub mod Begun
+pub mod Well

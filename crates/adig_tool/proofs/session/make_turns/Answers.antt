@@ -1,5 +1,5 @@
 use Rattle.std.proofs.Common.{arith}
-use Rattle.adig_tool.proofs.LoopLemmas.{ends_cut, ends_failed, ends_stalled, ends_unpaused, made_delivered, made_following, made_none, made_paused, made_then, made_turned}
+use Rattle.adig_tool.proofs.LoopLemmas.{asked_here, ends_completed, ends_cut, ends_failed, ends_stalled, ends_unpaused, made_delivered, made_following, made_none, made_paused, made_then, made_turned}
 use Rattle.owner_laws.proofs.Owner.{paused_ready}
 use Rattle.adig_tool.proofs.session.make_turns.Goals as goal
 
@@ -10,6 +10,10 @@ loop-init g c = record {
   waits = omega arith;
 }
 
+pub returns-then-count_pending-eq0-clause-turns : goal.returns-then-count_pending-eq0-clause-turns
+returns-then-count_pending-eq0-clause-turns g c =
+    ends_completed _ _ _ _ _ _ _ _ _ _ _ _ (omega (arith, c.loop-test.true)) c.loop.invariant.delivered c.count_pending.ensures c.if-count_pending-eq0.true c.loop.invariant.made
+
 pub returns-in_err-turn-clause-turns : goal.returns-in_err-turn-clause-turns
 returns-in_err-turn-clause-turns g c =
     let follows = made_following _ _ _ _ _ _ _ _ _ _ _ c.count_pending.ensures c.if-count_pending-eq0.false c.loop.invariant.made in
@@ -18,7 +22,8 @@ returns-in_err-turn-clause-turns g c =
 pub returns-in_err-pause-clause-turns : goal.returns-in_err-pause-clause-turns
 returns-in_err-pause-clause-turns g c =
     let follows = made_following _ _ _ _ _ _ _ _ _ _ _ c.count_pending.ensures c.if-count_pending-eq0.false c.loop.invariant.made in
-    let turned = made_turned _ _ _ _ _ _ _ _ _ _ c.turn.new.self _ c.in_ok-turn.field-0 c.in_ok-turn.ensures.goes c.in_ok-turn.ensures.reading follows in
+    let turned = made_turned _ _ _ _ _ _ _ _ _ _ c.turn.new.self _ c.in_ok-turn.field-0 c.in_ok-turn.ensures.goes c.in_ok-turn.ensures.reading
+    (asked_here _ _ _ c.count_pending.ensures c.if-count_pending-eq0.false c.loop.invariant.delivered) follows in
     let called = made_then _ _ _ _ _ _ _ _ _ _ _ _ turned c.deliver_all-in-loop.ensures.delivers in
     let delivered = made_delivered _ _ _ _ _ _ _ _ _ c.deliver_all-in-loop.ensures.none_ready called in
     ends_unpaused _ _ _ _ _ _ _ _ _ _ c.from_residual-in_err-pause.result _ _ c.from_residual-in_err-pause.ensures.0 (omega (arith, c.loop-test.true)) c.in_err-pause.ensures.pauses delivered
@@ -26,7 +31,8 @@ returns-in_err-pause-clause-turns g c =
 pub returns-in-WaitFault-clause-turns : goal.returns-in-WaitFault-clause-turns
 returns-in-WaitFault-clause-turns g c =
     let follows = made_following _ _ _ _ _ _ _ _ _ _ _ c.count_pending.ensures c.if-count_pending-eq0.false c.loop.invariant.made in
-    let turned = made_turned _ _ _ _ _ _ _ _ _ _ c.turn.new.self _ c.in_ok-turn.field-0 c.in_ok-turn.ensures.goes c.in_ok-turn.ensures.reading follows in
+    let turned = made_turned _ _ _ _ _ _ _ _ _ _ c.turn.new.self _ c.in_ok-turn.field-0 c.in_ok-turn.ensures.goes c.in_ok-turn.ensures.reading
+    (asked_here _ _ _ c.count_pending.ensures c.if-count_pending-eq0.false c.loop.invariant.delivered) follows in
     let called = made_then _ _ _ _ _ _ _ _ _ _ _ _ turned c.deliver_all-in-loop.ensures.delivers in
     let delivered = made_delivered _ _ _ _ _ _ _ _ _ c.deliver_all-in-loop.ensures.none_ready called in
     ends_failed _ _ _ _ _ _ _ _ _ _ _ _ _ _ (omega arith) (omega (arith, c.loop-test.true)) c.deliver_all-in-loop.ensures.none_ready
@@ -35,14 +41,19 @@ returns-in-WaitFault-clause-turns g c =
 pub loop-preserved : goal.loop-preserved
 loop-preserved g c =
     let follows = made_following _ _ _ _ _ _ _ _ _ _ _ c.count_pending.ensures c.if-count_pending-eq0.false c.loop.invariant.made in
-    let turned = made_turned _ _ _ _ _ _ _ _ _ _ c.turn.new.self _ c.in_ok-turn.field-0 c.in_ok-turn.ensures.goes c.in_ok-turn.ensures.reading follows in
+    let turned = made_turned _ _ _ _ _ _ _ _ _ _ c.turn.new.self _ c.in_ok-turn.field-0 c.in_ok-turn.ensures.goes c.in_ok-turn.ensures.reading
+    (asked_here _ _ _ c.count_pending.ensures c.if-count_pending-eq0.false c.loop.invariant.delivered) follows in
     let called = made_then _ _ _ _ _ _ _ _ _ _ _ _ turned c.deliver_all-in-loop.ensures.delivers in
     let delivered = made_delivered _ _ _ _ _ _ _ _ _ c.deliver_all-in-loop.ensures.none_ready called in
     record {
-      made = made_paused _ _ _ _ _ _ _ _ _ _ _ _ _ c.in_ok-pause.field-0 (omega arith) c.in_ok-pause.ensures.pauses c.in_ok-pause.ensures.kept delivered;
+      made = made_paused _ _ _ _ _ _ _ _ _ _ _ _ _ c.in_ok-pause.field-0 (omega arith) c.in_default.not-WaitFault c.in_ok-pause.ensures.pauses c.in_ok-pause.ensures.kept delivered;
       delivered = paused_ready _ c.in_ok-pause.field-0 _ _ _ _ c.in_ok-pause.ensures.pauses c.deliver_all-in-loop.ensures.none_ready;
       waits = omega (arith, c.loop.invariant.waits, c.turn.ensures.waits, c.pause.ensures.waits);
     }
+
+pub returns-then-count_pending-eq0-2-clause-turns : goal.returns-then-count_pending-eq0-2-clause-turns
+returns-then-count_pending-eq0-2-clause-turns g c =
+    ends_completed _ _ _ _ _ _ _ _ _ _ _ _ (omega (arith, c.loop-test.false, c.loop.auto.counter-end)) c.loop.invariant.delivered c.count_pending-2.ensures c.if-count_pending-eq0-2.true c.loop.invariant.made
 
 pub returns-else-count_pending-eq0-2-clause-turns : goal.returns-else-count_pending-eq0-2-clause-turns
 returns-else-count_pending-eq0-2-clause-turns g c =

@@ -29,8 +29,8 @@ returns-then-count_pending-eq0-clause-turns g c =
 -- want of memory cut the turn short
 pub returns-in_err-turn-clause-turns : goal.returns-in_err-turn-clause-turns
 returns-in_err-turn-clause-turns g c =
-    let follows = counted_made _ _ _ _ _ _ _ _ _ _ _ c.requires.idle c.loop.invariant.made c.loop.invariant.sets c.count_pending.ensures c.if-count_pending-eq0.false in
-    let counted = counted_sets _ _ _ _ _ _ _ _ _ _ _ c.requires.idle c.loop.invariant.made c.loop.invariant.sets c.count_pending.ensures c.if-count_pending-eq0.false in
+    let follows = counted_made _ _ _ _ _ _ _ _ _ _ _ c.requires.idle c.loop.invariant.made c.loop.invariant.sets c.count_pending.ensures c.if-count_pending-eq0.false c.loop.invariant.delivered in
+    let counted = counted_sets _ _ _ _ _ _ _ _ _ _ _ c.requires.idle c.loop.invariant.made c.loop.invariant.sets c.count_pending.ensures c.if-count_pending-eq0.false c.loop.invariant.delivered in
     ends_cut _ c.loop.later _ _ _ _ _ _ _ _ c.from_residual.result _ c.turn.new.self _ c.from_residual.ensures.0 (omega (arith, c.loop-test.true)) c.in_err-turn.ensures.goes
     (most_cut _ _ _ _ _ _ _ _ _ c.loop.runner c.turn.new.self _ c.in_err-turn.ensures.goes counted) follows
 
@@ -39,18 +39,18 @@ returns-in_err-turn-clause-turns g c =
 -- want of memory came where servers were to be set
 pub returns-in_err-set_later-clause-turns : goal.returns-in_err-set_later-clause-turns
 returns-in_err-set_later-clause-turns g c =
-    let counted = counted_sets _ _ _ _ _ _ _ _ _ _ _ c.requires.idle c.loop.invariant.made c.loop.invariant.sets c.count_pending.ensures c.if-count_pending-eq0.false in
-    let turned = turned_made _ _ _ _ _ _ _ _ _ _ _ c.requires.idle c.loop.invariant.made c.loop.invariant.sets c.count_pending.ensures c.if-count_pending-eq0.false _ c.turn.new.self _ c.in_ok-turn.field-0 c.in_ok-turn.ensures.goes c.in_ok-turn.ensures.reading in
+    let counted = counted_sets _ _ _ _ _ _ _ _ _ _ _ c.requires.idle c.loop.invariant.made c.loop.invariant.sets c.count_pending.ensures c.if-count_pending-eq0.false c.loop.invariant.delivered in
+    let turned = turned_made _ _ _ _ _ _ _ _ _ _ _ c.requires.idle c.loop.invariant.made c.loop.invariant.sets c.count_pending.ensures c.if-count_pending-eq0.false c.loop.invariant.delivered _ c.turn.new.self _ c.in_ok-turn.field-0 c.in_ok-turn.ensures.goes c.in_ok-turn.ensures.reading in
     ends_unset _ c.loop.later _ _ _ _ _ _ _ _ c.from_residual-in_err-set_later.result _ c.set_later.result _ c.from_residual-in_err-set_later.ensures.0 (ap is_err c.in_err-set_later.was) (omega (arith, c.loop-test.true)) c.set_later.ensures.sets
     (most_turned _ _ _ _ _ _ _ _ _ c.loop.runner c.turn.new.self _ c.in_ok-turn.field-0 c.in_ok-turn.ensures.goes counted) turned
 
 -- the rest of an iteration goes so
 pub loop-preserved : goal.loop-preserved
 loop-preserved g c =
-    let one = round _ _ _ _ _ _ _ _ _ _ _ c.requires.idle c.loop.invariant.made c.loop.invariant.sets c.count_pending.ensures c.if-count_pending-eq0.false _ c.turn.new.self _ c.in_ok-turn.field-0 c.in_ok-turn.ensures.goes c.in_ok-turn.ensures.reading
+    let one = round _ _ _ _ _ _ _ _ _ _ _ c.requires.idle c.loop.invariant.made c.loop.invariant.sets c.count_pending.ensures c.if-count_pending-eq0.false c.loop.invariant.delivered _ c.turn.new.self _ c.in_ok-turn.field-0 c.in_ok-turn.ensures.goes c.in_ok-turn.ensures.reading
     c.in_ok-set_later.field-0 _ c.in_ok-set_later.ensures.sets _ c.deliver_all-in-loop.ensures.delivers c.deliver_all-in-loop.ensures.none_ready in
     record {
-      made = made_paused _ _ _ _ _ _ _ _ _ _ _ c.in_ok-pause.field-0 (omega arith) c.in_ok-pause.ensures.pauses c.in_ok-pause.ensures.kept one.made;
+      made = made_paused _ _ _ _ _ _ _ _ _ _ _ c.in_ok-pause.field-0 (omega arith) c.in_default.not-WaitFault c.in_ok-pause.ensures.pauses c.in_ok-pause.ensures.kept one.made;
       sets = rw c.set_later.ensures.left (then_paused _ _ _ _ _ _ _ _ _ c.in_ok-pause.field-0 _ _ c.in_ok-pause.ensures.pauses one.sets);
       delivered = paused_ready _ c.in_ok-pause.field-0 _ _ _ _ c.in_ok-pause.ensures.pauses c.deliver_all-in-loop.ensures.none_ready;
       servers = rw c.set_later.ensures.left tt;
@@ -59,13 +59,13 @@ loop-preserved g c =
 
 pub returns-in_err-pause-clause-turns : goal.returns-in_err-pause-clause-turns
 returns-in_err-pause-clause-turns g c =
-    let one = round _ _ _ _ _ _ _ _ _ _ _ c.requires.idle c.loop.invariant.made c.loop.invariant.sets c.count_pending.ensures c.if-count_pending-eq0.false _ c.turn.new.self _ c.in_ok-turn.field-0 c.in_ok-turn.ensures.goes c.in_ok-turn.ensures.reading
+    let one = round _ _ _ _ _ _ _ _ _ _ _ c.requires.idle c.loop.invariant.made c.loop.invariant.sets c.count_pending.ensures c.if-count_pending-eq0.false c.loop.invariant.delivered _ c.turn.new.self _ c.in_ok-turn.field-0 c.in_ok-turn.ensures.goes c.in_ok-turn.ensures.reading
     c.in_ok-set_later.field-0 _ c.in_ok-set_later.ensures.sets _ c.deliver_all-in-loop.ensures.delivers c.deliver_all-in-loop.ensures.none_ready in
     ends_unpaused _ c.loop.later _ _ _ _ _ _ _ _ c.from_residual-in_err-pause.result _ _ c.from_residual-in_err-pause.ensures.0 (omega (arith, c.loop-test.true)) c.in_err-pause.ensures.pauses one.sets.sets.at_most one.made
 
 pub returns-in-WaitFault-clause-turns : goal.returns-in-WaitFault-clause-turns
 returns-in-WaitFault-clause-turns g c =
-    let one = round _ _ _ _ _ _ _ _ _ _ _ c.requires.idle c.loop.invariant.made c.loop.invariant.sets c.count_pending.ensures c.if-count_pending-eq0.false _ c.turn.new.self _ c.in_ok-turn.field-0 c.in_ok-turn.ensures.goes c.in_ok-turn.ensures.reading
+    let one = round _ _ _ _ _ _ _ _ _ _ _ c.requires.idle c.loop.invariant.made c.loop.invariant.sets c.count_pending.ensures c.if-count_pending-eq0.false c.loop.invariant.delivered _ c.turn.new.self _ c.in_ok-turn.field-0 c.in_ok-turn.ensures.goes c.in_ok-turn.ensures.reading
     c.in_ok-set_later.field-0 _ c.in_ok-set_later.ensures.sets _ c.deliver_all-in-loop.ensures.delivers c.deliver_all-in-loop.ensures.none_ready in
     let pauses = rw c.in-WaitFault.is at c.in_ok-pause.ensures.pauses in
     ends_failed _ _ _ _ _ _ _ _ _ _ _ _ _ _ (omega arith) (omega (arith, c.loop-test.true)) c.deliver_all-in-loop.ensures.none_ready pauses c.in_ok-pause.ensures.kept one.made
