@@ -1,5 +1,6 @@
 //! A network that brings the same datagram again and again, or the bytes of one link piece by piece.
 
+ghost use base.Stored.{gnil};
 ghost use Rattle.std.specs.Prelude.{IfOk, IsFalse, None};
 ghost use Rattle.net_world.specs.Cause.{is_link_failed};
 ghost use Rattle.net_world.specs.World.{IsWhole};
@@ -72,6 +73,8 @@ impl World for Flood {
     ghost wait_faults = { λ flood. 0 };
 
     ghost reading = { λ flood. 0 };
+
+    ghost origin = { λ flood. gnil };
 
     fn serve(&mut self, _server: u32, _address: &ServerAddr) -> Result<(), NoMemory> {
         Ok(())

@@ -1,5 +1,6 @@
 pub mod Cause
 pub mod Files
+pub mod Logs
 pub mod MemFiles
 pub mod MemSink
 pub mod Script

@@ -1,7 +1,8 @@
 -- A sink in memory: what a put answers, and what it leaves.
-use Rattle.std.specs.Prelude.{◌≡◌, ℕ, List, ◌++◌, Bool, true, if◌then◌else◌}
+use Rattle.std.specs.Prelude.{◌≡◌, ℕ, List, [], ◌∷◌, ◌++◌, Bool, true, if◌then◌else◌}
 use Rattle.net_world.specs.declared.answers.PutEnd.{PutEnd}
 use Rattle.net_world.specs.declared.answers.PutEnd.TheVariants.{Done, Failed as NotPut}
+use Rattle.net_world.specs.declared.put_call.PutCall.{PutCall}
 use Rattle.net_world.specs.Cause.{raised, fails_at}
 
 -- where a sink in memory stands
@@ -12,6 +13,8 @@ pub record SinkState : Type 0 where
   -- the numbers of the calls that fail
   pub fails : List ℕ
   pub faults : ℕ
+  -- the puts so far, with their ends
+  pub puts : List PutCall
 
 -- the next put fails
 abbrev pub fails_now : SinkState → Bool
@@ -24,4 +27,5 @@ pub record PutsWhole (text : List ℕ) (old new : SinkState) (answer : PutEnd) :
     bytes = if fails_now old then old.bytes else old.bytes ++ text;
     calls = raised true old.calls;
     faults = raised (fails_now old) old.faults;
+    puts = old.puts ++ record { text = text; end = answer } ∷ [];
   }

@@ -1,16 +1,10 @@
--- What the calls of a World do to its log, to what can be received and to the clock's last reading.
-use Rattle.std.specs.Prelude.{◌≡◌, ℕ, ◌<◌, ◌≤◌, ◌==◌, List, [], ◌∷◌, ◌++◌, length, filter, Bool, false, not, Option, option_map, is_some, Result, Ok, Err, OnErr, MatchOption, ⊤}
+-- What the calls of a World do to what can be received and to the clock's last reading.
+use Rattle.std.specs.Prelude.{◌≡◌, ℕ, ◌<◌, ◌≤◌, ◌==◌, List, [], ◌∷◌, length, filter, Bool, false, not, Option, option_map, is_some, Result, Ok, Err, OnErr, MatchOption, ⊤}
 use Rattle.item_list.specs.declared.no_memory.NoMemory.{NoMemory}
 use Rattle.net_world.specs.declared.answers.Wrote.{Wrote}
 use Rattle.net_world.specs.declared.answers.Wrote.TheVariants.{Count, Failed as NotWritten}
 use Rattle.net_world.specs.declared.answers.Got.{Got}
 use Rattle.net_world.specs.declared.answers.Got.TheVariants.{Datagram, Piece, Ended, Nothing, Failed as LinkFailed}
-use Rattle.net_world.specs.declared.log.WorldCall.{WorldCall}
-
--- a log that is told goes on with this call and its answer; want of memory leaves it
-abbrev pub Logs : {T : Type 0} → Option (List WorldCall) → Option (List WorldCall) → Result T NoMemory → (T → WorldCall) → Type 0
-Logs old new (Ok answer) call = new ≡ option_map (λ calls. calls ++ call answer ∷ []) old
-Logs old new (Err e) call = new ≡ old
 
 -- the reading isn't below the last one, and is now the last; want of memory leaves it
 abbrev pub Reads : ℕ → ℕ → Result ℕ NoMemory → Type 0

@@ -16,6 +16,8 @@ impl<W: World> World for &mut W {
 
     ghost reading = { λ world. W.reading world.now };
 
+    ghost origin = { λ world. W.origin world.now };
+
     fn serve(&mut self, server: u32, address: &ServerAddr) -> Result<(), NoMemory> {
         (**self).serve(server, address)
     }

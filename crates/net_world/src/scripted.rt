@@ -7,6 +7,7 @@ use dns_message::NoMemory;
 use net_addr::ServerAddr;
 
 impl World for ScriptWorld {
+    ghost use base.Stored.{gnil};
     ghost use Rattle.std.specs.Prelude.{Some};
     ghost use Rattle.net_world.specs.Script.{due};
 
@@ -19,6 +20,8 @@ impl World for ScriptWorld {
     ghost wait_faults = { λ w. w.wait_faults };
 
     ghost reading = { λ w. w.reading };
+
+    ghost origin = { λ _. gnil };
 
     fn serve(&mut self, server: u32, address: &ServerAddr) -> Result<(), NoMemory> {
         ScriptWorld::serve(self, server, address)

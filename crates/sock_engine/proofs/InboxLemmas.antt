@@ -1,5 +1,5 @@
 -- What the inbox keeps where a link is closed.
-use Rattle.std.proofs.Common.{◌≡◌, ℕ, List, ◌++◌, Bool, true, false, not, Option, Some, None, refl, filter, All, arith}
+use Rattle.std.proofs.Common.{◌≡◌, ℕ, List, ◌++◌, not, Option, Some, None, refl, filter, All, arith}
 use Rattle.std.proofs.lemmas.Grind.{common_steps}
 use Rattle.std.proofs.lemmas.List.Elements.{filter-append, All-filter}
 use Rattle.net_world.specs.declared.answers.Got.{Got}

@@ -1,5 +1,5 @@
 -- What a part from a list's beginning says of its length.
-use Rattle.std.proofs.Common.{◌≡◌, ℕ, ◌<◌, List, length, take, min, arith}
+use Rattle.std.proofs.Common.{◌≡◌, ℕ, ◌<◌, List, length, take, arith}
 use Rattle.std.proofs.lemmas.List.{length-take, take_all}
 
 -- a part that is shorter than it might be is the whole list

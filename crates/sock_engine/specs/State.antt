@@ -4,7 +4,6 @@ use mathlib.Core.List.{IsPrefix}
 use Rattle.net_world.specs.declared.answers.Got.{Got}
 use Rattle.net_world.specs.declared.answers.Sent.{Sent}
 use Rattle.net_world.specs.Cause.{raised, is_not_sent, is_link_failed}
-use Rattle.net_world.specs.World.{is_of_link}
 use Rattle.sock_engine.specs.declared.network.Network.{Network}
 use Rattle.sock_engine.specs.Inbox.{GivesFirst}
 

@@ -209,6 +209,7 @@ fn is_unwaited(waited: Waited) -> bool
 }
 
 impl<R: Net + Clock + RandomSource + AllocGlobal> World for SockWorld<R> {
+    ghost use base.Stored.{gnil};
     ghost use Rattle.std.specs.Prelude.{None};
 
     ghost log = { λ _. None };
@@ -220,6 +221,8 @@ impl<R: Net + Clock + RandomSource + AllocGlobal> World for SockWorld<R> {
     ghost wait_faults = { λ world. world.wait_faults };
 
     ghost reading = { λ world. world.reading };
+
+    ghost origin = { λ _. gnil };
 
     fn serve(&mut self, server: u32, address: &ServerAddr) -> Result<(), NoMemory> {
         SockWorld::serve(self, server, address)

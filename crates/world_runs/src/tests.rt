@@ -3,8 +3,8 @@
 use dns_message::{Bytes, NoMemory};
 use net_addr::{Addr, ServerAddr};
 use net_world::{
-    FileRead, Files, Got, MemFiles, MemSink, PutEnd, ScriptWorld, Sent, Sink, Timed, Waited, World,
-    WorldCall, Wrote,
+    FileRead, Files, Got, MemFiles, MemSink, PutCall, PutEnd, ReadCall, ScriptWorld, Sent, Sink,
+    Timed, Waited, World, WorldCall, Wrote,
 };
 use std::alloc::Global;
 use std::collections::BTreeMap;
@@ -314,6 +314,48 @@ fn files_are_read(rt: HostRuntime) -> Result<(), Fail> {
     Ok(())
 }
 
+/// What a read gives.
+fn read_of(alloc: Global, end: ReadEnd) -> Result<FileRead, NoMemory> {
+    Ok(match end {
+        ReadEnd::Content(text) => FileRead::Content(Bytes::of(alloc, text)?),
+        ReadEnd::Absent => FileRead::Absent,
+        ReadEnd::Large => FileRead::Large,
+        ReadEnd::Failed => FileRead::Failed,
+    })
+}
+
+/// The read of a row, with what it gives.
+fn read_call(alloc: Global, path: &str, most: u64, end: ReadEnd) -> Result<ReadCall, NoMemory> {
+    let path = Bytes::of(alloc, path.as_bytes())?;
+    let read = read_of(alloc, end)?;
+    Ok(ReadCall { path, most, read })
+}
+
+/// The reads of a table.
+fn reads_of(alloc: Global, rows: &[(&str, u64, ReadEnd)]) -> Result<Vec<ReadCall>, NoMemory> {
+    let mut calls = Vec::new(alloc);
+    for (path, most, end) in rows {
+        calls.push(read_call(alloc, path, *most, *end)?)?;
+    }
+    Ok(calls)
+}
+
+/// Whether those files tell these reads behind them, and none before.
+fn one_file_tells(alloc: Global) -> Result<bool, Fail> {
+    let mut files = one_file(alloc)?;
+    let told = reads_of(alloc, READS)?;
+    let none = files.reads().is_empty();
+    let is_so = none && reads_so(&mut files, READS)?;
+    Ok(is_so && files.reads() == told.as_slice())
+}
+
+// One of them fails, and is told as such.
+#[test]
+fn files_tell_their_reads(rt: HostRuntime) -> Result<(), Fail> {
+    assert!(rt; one_file_tells(rt.alloc())?);
+    Ok(())
+}
+
 /// Whether a put ends so.
 fn ends<K: Sink>(sink: &mut K, text: &[u8], end: PutEnd) -> Result<bool, NoMemory> {
     Ok(sink.put(text)? == end)
@@ -337,5 +379,48 @@ fn keeps_two(alloc: Global) -> Result<bool, NoMemory> {
 #[test]
 fn a_sink_keeps_what_was_put(rt: HostRuntime) -> Result<(), Fail> {
     assert!(rt; keeps_two(rt.alloc())?);
+    Ok(())
+}
+
+/// Puts and their ends. The second fails, and the third is of no byte.
+const PUTS: &[(&[u8], PutEnd)] = &[
+    (b"a", PutEnd::Done),
+    (b"bc", PutEnd::Failed),
+    (b"", PutEnd::Done),
+    (b"d", PutEnd::Done),
+];
+
+/// Whether each put of a table ends so.
+fn puts_so<K: Sink>(sink: &mut K, rows: &[(&[u8], PutEnd)]) -> Result<bool, NoMemory> {
+    for (text, end) in rows {
+        if !ends(sink, text, *end)? {
+            return Ok(false);
+        }
+    }
+    Ok(true)
+}
+
+/// The puts of a table.
+fn puts_of(alloc: Global, rows: &[(&[u8], PutEnd)]) -> Result<Vec<PutCall>, NoMemory> {
+    let mut calls = Vec::new(alloc);
+    for (text, end) in rows {
+        let text = Bytes::of(alloc, text)?;
+        calls.push(PutCall { text, end: *end })?;
+    }
+    Ok(calls)
+}
+
+/// Whether a sink tells these puts behind them, and none before.
+fn tells_puts(alloc: Global) -> Result<bool, NoMemory> {
+    let mut sink = MemSink::make(vec![in alloc; 1]?);
+    let told = puts_of(alloc, PUTS)?;
+    let none = sink.puts().is_empty();
+    let is_so = none && puts_so(&mut sink, PUTS)?;
+    Ok(is_so && sink.puts() == told.as_slice() && sink.bytes() == b"ad".as_slice())
+}
+
+#[test]
+fn a_sink_tells_its_puts(rt: HostRuntime) -> Result<(), Fail> {
+    assert!(rt; tells_puts(rt.alloc())?);
     Ok(())
 }

@@ -1,4 +1,3 @@
-use Rattle.std.proofs.Common.{rules}
 use Rattle.sock_engine.proofs.InboxLemmas.{others_whole, other_held}
 use Rattle.sock_engine.proofs.inbox.Inbox.drop_link.Goals as goal
 
