@@ -1,4 +1,4 @@
--- A course that was cut short agrees with its log up to one call.
+-- A course that was cut short agrees with its log, but for what want of memory cut off at its end.
 use Rattle.std.proofs.Common.{◌≡◌, ℕ, List, [], ◌∷◌, ◌++◌, refl, sym, ap, subst, ◌∙◌, inl, inr}
 use Rattle.std.specs.Prelude.{IsTrue}
 use mathlib.Core.List.{IsPrefix}
@@ -9,7 +9,7 @@ use Rattle.net_addr.specs.declared.addr.ServerAddr.{ServerAddr}
 use Rattle.net_world.specs.declared.log.WorldCall.{WorldCall}
 use Rattle.net_world.specs.declared.log.WorldCall.TheVariants.{Now, Serve}
 use Rattle.channel_model.specs.Course.{serves_from, has_no_turn, standing_after, IsCutServing, IsCutCourse, IsCourseSoFar}
-use Rattle.channel_model.specs.CutShort.{IsNear, NearlyAgrees}
+use Rattle.channel_model.specs.CutShort.{FallsShort, MayLackOne, NearlyAgrees, NearlyInOrder}
 use Rattle.channel_model.specs.Journal.{Past, followed_by}
 use Rattle.channel_model.specs.Links.{Link, held_after, told}
 use Rattle.channel_model.specs.Setting.{Setting}
@@ -36,13 +36,13 @@ module _ (setting : Setting) (seat : ℕ) where
   nearly_silent : (a : Standing) (es os : List Entry) (cs : List WorldCall) → IsTrue (has_no_turn os) → NearlyAgrees setting seat a es cs → NearlyAgrees setting seat a (es ++ os) cs
   nearly_silent a es os cs none x =
       record {
-        arrivals = subst (λ l. IsNear messages a.held cs l) (noted_behind seat arrived silent_arrived a.past es os none) x.arrivals;
-        sends = subst (λ l. IsNear datagrams a.held cs l) (noted_behind seat (asked setting) (silent_asked setting) a.past es os none) x.sends;
-        links = subst (λ l. IsNear connects a.held cs l) (noted_behind seat opened silent_opened a.past es os none) x.links;
+        arrivals = subst (λ l. FallsShort messages a.held cs l) (noted_behind seat arrived silent_arrived a.past es os none) x.arrivals;
+        sends = subst (λ l. MayLackOne datagrams a.held cs l) (noted_behind seat (asked setting) (silent_asked setting) a.past es os none) x.sends;
+        links = subst (λ l. MayLackOne connects a.held cs l) (noted_behind seat opened silent_opened a.past es os none) x.links;
         writes = λ link.
             subst (λ l. IsPrefix (told (written link) a.held cs) (a.unwritten link ++ l)) (noted_behind seat (queued setting link) (silent_queued setting link) a.past es os none) (x.writes link);
-        faults_are = subst (λ l. IsNear faults a.held cs l) (noted_behind seat faulted silent_faulted a.past es os none) x.faults_are;
-        in_order = subst (λ l. IsNear notices a.held cs l) (noted_behind seat (noticed setting) (silent_noticed setting) a.past es os none) x.in_order;
+        faults_are = subst (λ l. FallsShort faults a.held cs l) (noted_behind seat faulted silent_faulted a.past es os none) x.faults_are;
+        in_order = subst (λ l. NearlyInOrder a.held cs l) (noted_behind seat (noticed setting) (silent_noticed setting) a.past es os none) x.in_order;
       }
 
   -- a turn that was cut short
@@ -85,7 +85,7 @@ module _ (setting : Setting) (seat : ℕ) where
           ap (λ l. l ++ noted seat (queued setting link) [] journal) (some_serves_quiet (written link) (λ h s d. refl) log setting.options.servers x.told_so_far),
         );
         faults_are = inl (noted-silent seat faulted silent_faulted [] journal x.no_turn ∙ sym (some_serves_quiet faults (λ h s d. refl) log setting.options.servers x.told_so_far));
-        in_order = inl (noted-silent seat (noticed setting) (silent_noticed setting) [] journal x.no_turn ∙ sym (some_serves_quiet notices (λ h s d. refl) log setting.options.servers x.told_so_far));
+        in_order = inl (inl (noted-silent seat (noticed setting) (silent_noticed setting) [] journal x.no_turn ∙ sym (some_serves_quiet notices (λ h s d. refl) log setting.options.servers x.told_so_far)));
       }
 
   -- a course, whole or cut short

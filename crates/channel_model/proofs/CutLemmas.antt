@@ -1,11 +1,11 @@
--- Behind a stretch that agrees, one that is one call apart is one call apart.
+-- Behind a stretch that agrees, one that want of memory cut short lacks no more than before.
 use Rattle.std.proofs.Common.{◌≡◌, ℕ, List, [], ◌∷◌, ◌++◌, refl, sym, ap, subst, ◌∙◌, inl, inr}
 use mathlib.Core.List.{IsPrefix}
 use Rattle.std.proofs.lemmas.List.{append_assoc}
 use Rattle.chan_types.specs.declared.journal.Entry.{Entry}
 use Rattle.chan_types.specs.declared.journal.What.{What}
 use Rattle.net_world.specs.declared.log.WorldCall.{WorldCall}
-use Rattle.channel_model.specs.CutShort.{HasOneMore, StopsShort, IsNear, NearlyAgrees}
+use Rattle.channel_model.specs.CutShort.{FallsShort, HasOneMore, MayLackOne, NearlyAgrees, NearlyInOrder, StopsShort}
 use Rattle.channel_model.specs.Journal.{Past, followed_by}
 use Rattle.channel_model.specs.Links.{Link, held_after, told}
 use Rattle.channel_model.specs.Setting.{Setting}
@@ -55,11 +55,25 @@ module _ {A : Type 0} (seat : ℕ) (notes : Past → What → List A) (tells : L
         (prefix_behind (told tells held cs) (noted seat notes (followed_by past es) fs) (told tells (held_after held cs) ds) stops.not_passed));
   }
 
-  -- near behind what is the same
-  near_behind : IsNear tells (held_after held cs) ds (noted seat notes (followed_by past es) fs) → IsNear tells held (cs ++ ds) (noted seat notes past (es ++ fs))
-  near_behind (inl alike) = inl (joined seat notes tells past (followed_by past es) held (held_after held cs) es fs cs ds refl refl same alike)
-  near_behind (inr (inl more)) = inr (inl (goes_on_behind more))
-  near_behind (inr (inr stops)) = inr (inr (stops_short_behind stops))
+  -- the same in both stretches
+  same_behind : noted seat notes (followed_by past es) fs ≡ told tells (held_after held cs) ds → noted seat notes past (es ++ fs) ≡ told tells held (cs ++ ds)
+  same_behind alike = joined seat notes tells past (followed_by past es) held (held_after held cs) es fs cs ds refl refl same alike
+
+  pub falls_behind : FallsShort tells (held_after held cs) ds (noted seat notes (followed_by past es) fs) → FallsShort tells held (cs ++ ds) (noted seat notes past (es ++ fs))
+  falls_behind (inl alike) = inl (same_behind alike)
+  falls_behind (inr stops) = inr (stops_short_behind stops)
+
+  pub lacks_behind : MayLackOne tells (held_after held cs) ds (noted seat notes (followed_by past es) fs) → MayLackOne tells held (cs ++ ds) (noted seat notes past (es ++ fs))
+  lacks_behind (inl alike) = inl (same_behind alike)
+  lacks_behind (inr more) = inr (goes_on_behind more)
+
+-- all in the order in which it came
+in_order_behind : (setting : Setting) (seat : ℕ) (past : Past) (held : List Link) (es fs : List Entry) (cs ds : List WorldCall) →
+    noted seat (noticed setting) past es ≡ told notices held cs → NearlyInOrder (held_after held cs) ds (noted seat (noticed setting) (followed_by past es) fs) →
+    NearlyInOrder held (cs ++ ds) (noted seat (noticed setting) past (es ++ fs))
+unfolding goes_on_behind
+in_order_behind setting seat past held es fs cs ds same (inl short) = inl (falls_behind seat (noticed setting) notices past held es fs cs ds same short)
+in_order_behind setting seat past held es fs cs ds same (inr more) = inr (goes_on_behind seat (noticed setting) notices past held es fs cs ds same more.0, more.1)
 
 -- the bytes written, and those to be written
 writes_behind : (setting : Setting) (seat link : ℕ) (a b : Standing) (es fs : List Entry) (cs ds : List WorldCall) → Agrees setting seat a es cs b →
@@ -88,15 +102,15 @@ nearly_behind setting seat a b es fs cs ds x y =
     subst (λ h. NearlyAgrees setting seat (record { past = followed_by a.past es; held = h; unwritten = b.unwritten }) fs ds) x.held_are
     (subst (λ p. NearlyAgrees setting seat (record { past = p; held = b.held; unwritten = b.unwritten }) fs ds) x.past_is y) in
     record {
-      arrivals = near_behind seat arrived messages a.past a.held es fs cs ds x.arrivals z.arrivals;
-      sends = near_behind seat (asked setting) datagrams a.past a.held es fs cs ds x.sends z.sends;
-      links = near_behind seat opened connects a.past a.held es fs cs ds x.links z.links;
+      arrivals = falls_behind seat arrived messages a.past a.held es fs cs ds x.arrivals z.arrivals;
+      sends = lacks_behind seat (asked setting) datagrams a.past a.held es fs cs ds x.sends z.sends;
+      links = lacks_behind seat opened connects a.past a.held es fs cs ds x.links z.links;
       writes = λ link. writes_behind setting seat link a b es fs cs ds x (y.writes link);
-      faults_are = near_behind seat faulted faults a.past a.held es fs cs ds x.faults_are z.faults_are;
-      in_order = near_behind seat (noticed setting) notices a.past a.held es fs cs ds x.in_order z.in_order;
+      faults_are = falls_behind seat faulted faults a.past a.held es fs cs ds x.faults_are z.faults_are;
+      in_order = in_order_behind setting seat a.past a.held es fs cs ds x.in_order z.in_order;
     }
 
--- a stretch that agrees is not even one call apart
+-- a stretch that agrees lacks nothing
 pub agrees_nearly : (setting : Setting) (seat : ℕ) (a b : Standing) (es : List Entry) (cs : List WorldCall) → Agrees setting seat a es cs b → NearlyAgrees setting seat a es cs
 agrees_nearly setting seat a b es cs x =
-    record { arrivals = inl x.arrivals; sends = inl x.sends; links = inl x.links; writes = λ link. (b.unwritten link, sym (x.writes link)); faults_are = inl x.faults_are; in_order = inl x.in_order }
+    record { arrivals = inl x.arrivals; sends = inl x.sends; links = inl x.links; writes = λ link. (b.unwritten link, sym (x.writes link)); faults_are = inl x.faults_are; in_order = inl (inl x.in_order) }

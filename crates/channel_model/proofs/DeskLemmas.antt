@@ -13,17 +13,18 @@ use Rattle.channel_model.specs.Meanings.{Meaning}
 use Rattle.channel_model.specs.Seen.{entries_of}
 
 -- the entries of others aren't the desk's own
-none_own : (seat : ℕ) (others : List Entry) → AllByRecursion (λ entry. entry.seat ≢ seat) others → own_entries seat others ≡ []
-none_own seat [] each = refl
-none_own seat (entry ∷ others) each = rw (ne_eqb entry.seat seat each.0) (none_own seat others each.1)
+pub own-others : (seat : ℕ) (others : List Entry) → AllByRecursion (λ entry. entry.seat ≢ seat) others → own_entries seat others ≡ []
+own-others seat [] each = refl
+own-others seat (entry ∷ others) each = rw (ne_eqb entry.seat seat each.0) (own-others seat others each.1)
 
-own-append : (seat : ℕ) (entries more : List Entry) → own_entries seat (entries ++ more) ≡ own_entries seat entries ++ own_entries seat more
+-- the seat's own of two stretches of entries
+pub own-append : (seat : ℕ) (entries more : List Entry) → own_entries seat (entries ++ more) ≡ own_entries seat entries ++ own_entries seat more
 own-append seat entries more = filter-append (λ (entry : Entry). entry.seat == seat) entries more
 
 -- what a call adds for a seat is its own
-added_own : (seat by : ℕ) (added : Option What) → own_entries seat (entries_of seat by added) ≡ entries_of seat by added
-added_own seat by None = refl
-added_own seat by (Some what) = rw (eq-eqb seat seat refl) refl
+pub own_added : (seat by : ℕ) (added : Option What) → own_entries seat (entries_of seat by added) ≡ entries_of seat by added
+own_added seat by None = refl
+own_added seat by (Some what) = rw (eq-eqb seat seat refl) refl
 
 -- a desk goes on by doing nothing
 pub goes_on_refl : (known : Known) → GoesOn known known
@@ -41,7 +42,7 @@ pub adds_goes_on : (by : ℕ) (old new : Known) (here : List Entry) (added : Opt
 adds_goes_on by old new here added desk stands seen own lawful =
     let more : List Entry = entries_of old.seat by added in
     let mine : own_entries old.seat (stands.others ++ more) ≡ more =
-    own-append old.seat stands.others more ∙ ap₂ (λ xs ys. xs ++ ys) (none_own old.seat stands.others stands.by_others) (added_own old.seat by added) in
+    own-append old.seat stands.others more ∙ ap₂ (λ xs ys. xs ++ ys) (own-others old.seat stands.others stands.by_others) (own_added old.seat by added) in
     record {
       desk = desk;
       since = stands.others ++ more;
@@ -53,6 +54,13 @@ adds_goes_on by old new here added desk stands seen own lawful =
 -- so each call lets its desk go on
 pub call_goes_on : (meaning : Meaning) (by : ℕ) (old new : Known) → Calls meaning by old new → GoesOn old new
 call_goes_on meaning by old new call = adds_goes_on by old new call.here call.added call.desk call.stands call.seen call.own call.lawful
+
+-- behind one call, what is seen has gone on by entries of others, and then by what the call added
+pub calls_stretch : (meaning : Meaning) (by : ℕ) (old new : Known) (calls : Calls meaning by old new) →
+    (new.seen ≡ old.seen ++ (calls.stands.others ++ entries_of old.seat by calls.added))
+    × (new.own ≡ old.own ++ own_entries old.seat (calls.stands.others ++ entries_of old.seat by calls.added))
+unfolding call_goes_on adds_goes_on
+calls_stretch meaning by old new calls = let goes = call_goes_on meaning by old new calls in (goes.seen, goes.own)
 
 -- and then by going on
 pub goes_on_trans : (old middle new : Known) → GoesOn old middle → GoesOn middle new → GoesOn old new

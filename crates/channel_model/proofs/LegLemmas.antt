@@ -2,9 +2,9 @@
 use Rattle.std.proofs.Common.{◌≡◌, ◌∙◌, ℕ, true, false, List, ◌∷◌, Option, Some, None, refl, ap, subst}
 use Rattle.std.specs.Bool.{then_some}
 use Rattle.std.specs.Option.{option_map_or}
-use Rattle.std.specs.Prelude.{IfSome, IsFalse, IsTrue, not}
+use Rattle.std.specs.Prelude.{IfSome, IsFalse, IsTrue}
 use Rattle.chan_types.specs.declared.journal.What.{What}
-use Rattle.chan_types.specs.declared.journal.What.TheVariants.{Accept, Arrive, Cancel, Destroy, Expire, Fault, Servers, Start, Take}
+use Rattle.chan_types.specs.declared.journal.What.TheVariants.{Accept, Arrive, Expire, Fault, Start, Take}
 use Rattle.chan_types.specs.declared.script.Script.{Script}
 use Rattle.chan_types.specs.declared.server_key.ServerKey.{ServerKey}
 use Rattle.chan_types.specs.declared.spec.Spec.{Spec}
@@ -157,19 +157,3 @@ module _ (setting : Setting) (past : Past) (leg : Leg) where
   -- a Fault of another link
   pub fault_spares : (server link moment : ℕ) → IfSome (flight setting leg past) (λ a. IsFalse (closes setting a (Fault server link moment) past)) → Spares setting (Fault server link moment) past leg
   fault_spares server link moment open' = spares_by (Fault server link moment) refl refl open'
-
-  -- a Cancel or a Destroy, where it isn't in flight
-  pub cancel_spares : flight setting leg past ≡ None → Spares setting Cancel past leg
-  cancel_spares idle = spares_by Cancel refl refl (if_none _ (flight setting leg past) idle)
-
-  pub destroy_spares : flight setting leg past ≡ None → Spares setting Destroy past leg
-  destroy_spares idle = spares_by Destroy refl refl (if_none _ (flight setting leg past) idle)
-
-  -- a new list that has the server of its attempt, and the one that its next attempt has to go to
-  pub servers_spares : (list : List ServerKey) → IfSome (flight setting leg past) (λ a. IsTrue (has_key a.server list)) → IfSome (forced_server setting leg past) (λ key. IsTrue (has_key key list))
-      → Spares setting (Servers list) past leg
-  servers_spares list flies forced = record { begins_other = tt; closes_none = by_flight (flight setting leg past) flies; leaves_forced = forced }
-    where
-      by_flight : (o : Option Attempt) → IfSome o (λ a. IsTrue (has_key a.server list)) → IfSome o (λ a. IsFalse (not (has_key a.server list)))
-      by_flight None has = tt
-      by_flight (Some a) has = ap not has

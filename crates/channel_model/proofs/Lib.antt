@@ -18,7 +18,6 @@ pub mod CutLemmas
 pub mod ReadingLemmas
 pub mod CutCourseLemmas
 pub mod CommandLemmas
-pub mod AddingLemmas
 pub mod LinkChoiceLemmas
 pub mod OrderLemmas
 pub mod PerformanceLemmas

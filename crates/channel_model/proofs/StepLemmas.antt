@@ -1,16 +1,16 @@
 -- Single steps: one entry with its calls, an entry alone, calls alone.
-use Rattle.std.proofs.Common.{◌≡◌, ℕ, ◌==◌, if◌then◌else◌, List, [], ◌∷◌, ◌++◌, Bool, true, false, not, ◌&&◌, Some, refl, sym, ap, ◌∙◌, eq-eqb}
-use Rattle.std.specs.List.{list_all}
+use Rattle.std.proofs.Common.{◌≡◌, ℕ, ◌==◌, if◌then◌else◌, List, [], ◌∷◌, ◌++◌, Bool, true, false, not, ◌&&◌, ◌≢◌, refl, sym, ap, ◌∙◌, eq-eqb, ne_eqb}
+use Rattle.std.specs.List.{AllByRecursion, list_all}
 use Rattle.std.proofs.lemmas.List.{append-nil}
 use Rattle.chan_types.specs.declared.journal.Entry.{Entry}
 use Rattle.chan_types.specs.declared.journal.What.{What}
-use Rattle.chan_types.specs.declared.journal.What.TheVariants.{Arrive, Expire, Fault}
+use Rattle.chan_types.specs.declared.journal.What.TheVariants.{Arrive, Expire}
 use Rattle.net_addr.specs.declared.addr.ServerAddr.{ServerAddr}
 use Rattle.net_world.specs.declared.log.WorldCall.{WorldCall}
-use Rattle.net_world.specs.declared.log.WorldCall.TheVariants.{Receive, Close, Serve, Word}
-use Rattle.net_world.specs.declared.answers.Got.TheVariants.{Datagram, Ended, Nothing}
+use Rattle.net_world.specs.declared.log.WorldCall.TheVariants.{Receive, Serve}
+use Rattle.net_world.specs.declared.answers.Got.TheVariants.{Datagram, Nothing}
 use Rattle.channel_model.specs.Journal.{Past, followed_by}
-use Rattle.channel_model.specs.Links.{Link, held_link, held_after, told}
+use Rattle.channel_model.specs.Links.{held_after, told}
 use Rattle.channel_model.specs.Setting.{Setting}
 use Rattle.channel_model.specs.Stretch.{Standing, Agrees}
 use Rattle.channel_model.specs.Traffic.{noted, arrived, faulted, opened, asked, queued, noticed, messages, datagrams, connects, written, faults, notices}
@@ -21,6 +21,11 @@ use Rattle.channel_model.proofs.TrafficLemmas.{noted-append}
 -- the entries are of other seats
 abbrev pub AreOthers : ℕ → List Entry → Type 0
 AreOthers seat entries = list_all (λ entry. not (entry.seat == seat)) entries ≡ true
+
+-- entries of other seats, as a desk's calls say it
+pub others_are : (seat : ℕ) (os : List Entry) → AllByRecursion (λ entry. entry.seat ≢ seat) os → AreOthers seat os
+others_are seat [] others = refl
+others_are seat (o ∷ os) others = rw (ne_eqb o.seat seat others.0) (others_are seat os others.1)
 
 -- entries of other seats note nothing
 pub noted-others : {A : Type 0} (seat : ℕ) (notes : Past → What → List A) (past : Past) (os : List Entry) → AreOthers seat os → noted seat notes past os ≡ []
@@ -45,12 +50,7 @@ noted-own seat notes past os e others own =
     last = rw (eq-eqb e.seat seat own, noted) (append-nil (notes (followed_by past os) e.what))
 
 module _ (setting : Setting) (seat : ℕ) (a b : Standing) (es : List Entry) (cs : List WorldCall) where
-  -- a word that is drawn before a stretch that agrees
-  pub agrees_word : (word : ℕ) → Agrees setting seat a es cs b → Agrees setting seat a es (Word word ∷ cs) b
-  agrees_word word x =
-      record { past_is = x.past_is; held_are = x.held_are; arrivals = x.arrivals; sends = x.sends; links = x.links; writes = x.writes; faults_are = x.faults_are; in_order = x.in_order }
-
-  -- a server that is told before it
+  -- a server that is told before a stretch that agrees
   pub agrees_serve : (server : ℕ) (address : ServerAddr) → Agrees setting seat a es cs b → Agrees setting seat a es (Serve server address ∷ cs) b
   agrees_serve server address x =
       record { past_is = x.past_is; held_are = x.held_are; arrivals = x.arrivals; sends = x.sends; links = x.links; writes = x.writes; faults_are = x.faults_are; in_order = x.in_order }
@@ -112,13 +112,6 @@ module _ (setting : Setting) (seat : ℕ) (a : Standing) (os : List Entry) (othe
   pub agrees_expire : (e : Entry) (number leg moment : ℕ) → e.seat ≡ seat → e.what ≡ Expire number leg moment → Agrees setting seat a (os ++ e ∷ []) [] (moved e.what [])
   agrees_expire e number leg moment own is =
       agrees_step e [] (moved e.what []) own refl refl (rw is refl) (rw is refl) (rw is refl) (λ link. rw is (append-nil (a.unwritten link))) (rw is refl) (rw is refl)
-
-  -- the end of a held link, its Fault and its close
-  pub agrees_ended : (e : Entry) (link : Link) (number moment : ℕ) → e.seat ≡ seat → held_link number a.held ≡ Some link → e.what ≡ Fault link.server link.number moment →
-      Agrees setting seat a (os ++ e ∷ []) (Receive (Ended number) ∷ Close number ∷ []) (moved e.what (Receive (Ended number) ∷ Close number ∷ []))
-  agrees_ended e link number moment own held is =
-      agrees_step e (Receive (Ended number) ∷ Close number ∷ []) (moved e.what (Receive (Ended number) ∷ Close number ∷ [])) own refl refl (rw is refl) (rw is refl) (rw is refl)
-      (λ k. rw is (append-nil (a.unwritten k))) (rw is (rw held refl)) (rw is (rw held refl))
 
   -- a receive of nothing
   pub agrees_nothing : Agrees setting seat a os (Receive Nothing ∷ []) (record { past = followed_by a.past os; held = a.held; unwritten = a.unwritten })

@@ -2,12 +2,12 @@
 -- A longer journal.
 pub use Rattle.channel_model.proofs.JournalLemmas.{IsLawfulPast-before, fate-one, followed_by-append, lawful_push, past_of-prefix, past_of-push}
 -- Calls of a desk, one after the other.
-pub use Rattle.channel_model.proofs.DeskLemmas.{adds_goes_on, call_goes_on, goes_on_refl, goes_on_trans, own_stays}
+pub use Rattle.channel_model.proofs.DeskLemmas.{adds_goes_on, call_goes_on, calls_stretch, goes_on_refl, goes_on_trans, own-append, own-others, own_added, own_stays}
 -- Legs in flight and waiting, in any past and in a lawful one.
 pub use Rattle.channel_model.proofs.FlightLemmas.{begun_or-other, each_flies, flight-cases, flight-leg, flight-started, has_leg-new, in_flight-none, is_leg-itself, is_leg-says, unless_closed-says}
 pub use Rattle.channel_model.proofs.LawfulLemmas.{Waits, each_waits, ended_lands, first_waits, flies_by_position, flight_open, idle_says, legs_of_request, none_says, one_leg, start_allowed, start_idle, waits_says}
 -- One leg behind an entry: one that spares it, one that closes its attempt, its Start, and any where it is idle.
-pub use Rattle.channel_model.proofs.LegLemmas.{Spares, accept_spares, arrive_spares, begun-flight, cancel_spares, closed-closings, closed-flight, closed-forced, destroy_spares, expire_spares, fault_spares, forced_behind-spared, idle-closings, idle-end, idle-forced, if_any, if_left-spared, if_none, if_that, servers_spares, spared-closings, spared-deadline, spared-end, spared-flight, spared-forced, spares_by, start_spares, take_spares, unless_closed-spared, with_closing-spared}
+pub use Rattle.channel_model.proofs.LegLemmas.{Spares, accept_spares, arrive_spares, begun-flight, closed-closings, closed-flight, closed-forced, expire_spares, fault_spares, forced_behind-spared, idle-closings, idle-end, idle-forced, if_any, if_left-spared, if_none, if_that, spared-closings, spared-deadline, spared-end, spared-flight, spared-forced, spares_by, start_spares, take_spares, unless_closed-spared, with_closing-spared}
 -- All that a past says of a leg, as one value, behind each of these.
 pub use Rattle.channel_model.proofs.LegFactsLemmas.{begun-facts, begun-sets_none, closed-end, closed-facts, set-end, set-facts, spared-facts, spent-more, unjudged-end}
 -- Requests behind an entry: accepted, pending, completed and ready.
@@ -33,15 +33,14 @@ pub use Rattle.channel_model.proofs.CommandLemmas.{each_is_accepted}
 pub use Rattle.channel_model.proofs.PerformanceLemmas.{all_became_append, all_became_longer, position_after}
 -- The order of addresses.
 pub use Rattle.channel_model.proofs.SortingLemmas.{sorted_is}
--- Journals and logs that agree, those that are one call apart, and the frames of messages on a link.
+-- Journals and logs that agree, those that agree but for what want of memory cut off, and the frames of messages on a link.
 pub use Rattle.channel_model.proofs.TrafficLemmas.{agrees_none, agrees_trans, agrees_whole, held_after-append, noted-append, noted_one, told-append}
 pub use Rattle.channel_model.proofs.NoticeLemmas.{fault-behind, same_notices, told-one, told-quiet}
 pub use Rattle.channel_model.proofs.CutLemmas.{agrees_nearly, nearly_behind}
 pub use Rattle.channel_model.proofs.FrameLemmas.{head-messages_in, left_in-append, messages_in-append, messages_in-framed, part-left_in, part-messages_in, whole-messages_in}
 -- Call by call: a call and the entries that note it, entries of others, pieces of a link, and what goes out.
-pub use Rattle.channel_model.proofs.StepLemmas.{AreOthers, agrees_calls, agrees_datagram, agrees_ended, agrees_expire, agrees_nothing, agrees_serve, agrees_step, agrees_word, moved, noted-others, noted-own}
-pub use Rattle.channel_model.proofs.PieceLemmas.{Brings, agrees_piece, agrees_sent, agrees_written, brings_append, brings_none, brings_one, without_taken}
-pub use Rattle.channel_model.proofs.AddingLemmas.{advances_call, advances_joined, advances_none, advances_trans, breaks_joined, breaks_trans, breaks_whole, calls_stretch, leads_joined, leaves_joined, others_are, own-others}
+pub use Rattle.channel_model.proofs.StepLemmas.{AreOthers, agrees_calls, agrees_datagram, agrees_expire, agrees_nothing, agrees_serve, agrees_step, moved, noted-others, noted-own, others_are}
+pub use Rattle.channel_model.proofs.PieceLemmas.{Brings, agrees_piece, agrees_written, without_taken}
 -- Turns, and courses of turns.
 pub use Rattle.channel_model.proofs.TurnLemmas.{now_agrees, part_agrees, parts_agree, turn_agrees, turn_of}
 pub use Rattle.channel_model.proofs.CourseLemmas.{course_agrees, rounds_agree, serves_agree}

@@ -208,7 +208,3 @@ module _ (setting : Setting) where
 -- the position of the Destroy that no callback commanded, or the journal's length where there is none
 abbrev pub closing_position : List Entry → ℕ
 closing_position journal = closing_from 0 journal
-
--- the last position at which a command may be performed: the closing Destroy's; where the run was stopped before its end, the journal's end
-abbrev pub last_position : Bool → List Entry → ℕ
-last_position stopped journal = if stopped then length journal else closing_position journal

@@ -1,11 +1,10 @@
 -- What ends a run before its page: a wait that failed, or turns that are used up while a request is pending.
-use Rattle.std.specs.Prelude.{Bool, IsTrue, List, None, Option, Some, [], count_by, false, filter_map, length, nat_lt, not, true, ℕ, ◌&&◌, ◌++◌, ◌==◌, ◌∷◌, ◌≡◌}
+use Rattle.std.specs.Prelude.{Bool, IsTrue, List, None, Option, Some, [], count_by, false, filter_map, length, not, true, ℕ, ◌++◌, ◌==◌, ◌∷◌, ◌≡◌}
 use Rattle.chan_types.specs.declared.journal.Entry.{Entry}
 use Rattle.net_world.specs.declared.answers.Waited.{Waited}
 use Rattle.net_world.specs.declared.answers.Waited.TheVariants.{Failed as NotWaited}
 use Rattle.net_world.specs.declared.log.WorldCall.{WorldCall}
 use Rattle.net_world.specs.declared.log.WorldCall.TheVariants.{Close, Connect, Now, Receive, Send, Serve, Wait, Word, Write}
-use Rattle.channel_model.specs.Commands.{closing_position, past_at}
 use Rattle.channel_model.specs.Completion.{pending}
 use Rattle.channel_model.specs.Course.{IsCourse, Round}
 use Rattle.channel_model.specs.Journal.{Past}
@@ -53,16 +52,6 @@ somewhere_behind test first (round ∷ []) = somewhere test round.new.past round
 somewhere_behind test first (round ∷ next ∷ rounds) = somewhere_behind test first (next ∷ rounds)
 
 module _ (setting : Setting) where
-  -- a request was pending at the Destroy that no callback commanded
-  abbrev pub is_left_pending : List Entry → Bool
-  is_left_pending journal =
-      nat_lt (closing_position journal) (length journal) && not (length (pending setting (past_at journal (closing_position journal))) == 0)
-
-  -- all turns were made, and a request was pending at the Destroy that no callback commanded
-  pub record IsStalled (turns : ℕ) (journal : List Entry) (log : List WorldCall) : Type 0 where
-    pub turns_made : turns_in log ≡ turns
-    pub pending : IsTrue (is_left_pending journal)
-
   -- all turns were made by the seat, and a request was pending at a position behind the last
   pub record IsStalledBehind (seat slice turns : ℕ) (journal : List Entry) (log : List WorldCall) : Type 0 where
     pub course : IsCourse setting seat slice journal log turns 0

@@ -25,11 +25,11 @@ pub mod Calls
 pub mod Links
 pub mod Traffic
 pub mod Stretch
+pub mod KeptLinks
 pub mod CutShort
 pub mod Turn
 pub mod Course
 pub mod Commands
 pub mod Endings
-pub mod Adding
 pub mod AsMany
 pub mod LegFacts

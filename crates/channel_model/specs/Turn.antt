@@ -2,7 +2,7 @@
 -- The journal is cut where the turn looked and found a part done. Entries of other seats may stand between its own.
 use Rattle.std.specs.List.{list_all, list_any}
 use Rattle.std.specs.Option.{option_map_or}
-use Rattle.std.specs.Prelude.{Bool, IsFalse, IsTrue, List, None, Option, Some, [], count_by, false, filter_map, if◌then◌else◌, find, is_some, length, map, not, option_to_list, true, ℕ, ⊤, ◌&&◌, ◌++◌, ◌<◌, ◌==◌, ◌^◌, ◌||◌, ◌∷◌, ◌≡◌, ◌≤◌, ◌⊎◌, IfSome}
+use Rattle.std.specs.Prelude.{Bool, IsFalse, IsTrue, List, None, Option, Some, [], count_by, false, filter_map, if◌then◌else◌, find, is_some, length, map, nat_le, not, option_to_list, true, ℕ, ◌&&◌, ◌++◌, ◌<◌, ◌==◌, ◌^◌, ◌||◌, ◌∷◌, ◌≡◌, ◌≤◌, ◌⊎◌, IfSome}
 use mathlib.Core.List.{IsPrefix}
 use Rattle.chan_types.specs.declared.journal.Entry.{Entry}
 use Rattle.chan_types.specs.declared.server_key.ServerKey.{ServerKey}
@@ -16,7 +16,7 @@ use Rattle.net_world.specs.declared.log.WorldCall.{WorldCall}
 use Rattle.net_world.specs.declared.log.WorldCall.TheVariants.{Close, Connect, Now, Receive, Send, Serve, Wait, Word, Write}
 use Rattle.channel_model.specs.Calls.{Writing, closed_by, connected_by, drawn_by, received_by, sent_by, written_by}
 use Rattle.channel_model.specs.Completion.{waiting}
-use Rattle.channel_model.specs.CutShort.{IsNear, NearlyAgrees}
+use Rattle.channel_model.specs.CutShort.{HasOneMore, NearlyAgrees}
 use Rattle.channel_model.specs.Flight.{begun_by, closes, in_flight, went_over}
 use Rattle.channel_model.specs.Identifiers.{AllUsed, IsFirstFree}
 use Rattle.channel_model.specs.Journal.{Past, own_entries}
@@ -284,11 +284,17 @@ module _ (setting : Setting) where
   HasBits true mix rest [] = ⊥
   HasBits true mix rest (bits ∷ words) = IfSome mix (λ drawn. drawn ≡ bits) × rest words
 
-  -- each attempt has the first free identifier from its own word upwards, and its own bits; further words may be drawn
-  abbrev pub AreDrawn : List Numbered → List ℕ → Type 0
-  AreDrawn [] words = ⊤
-  AreDrawn (start ∷ starts) [] = ⊥
-  AreDrawn (start ∷ starts) (word ∷ words) = IsFirstFree setting word start.id start.past × HasBits setting.options.flags.mix start.mix (AreDrawn starts) words
+  -- each attempt has the first free identifier from its own word upwards, and its own bits
+  -- the count of the words that are left behind those of the last attempt passes the test
+  abbrev pub AreDrawn : (ℕ → Bool) → List Numbered → List ℕ → Type 0
+  AreDrawn may_be_left [] words = IsTrue (may_be_left (length words))
+  AreDrawn may_be_left (start ∷ starts) [] = ⊥
+  AreDrawn may_be_left (start ∷ starts) (word ∷ words) =
+      IsFirstFree setting word start.id start.past × HasBits setting.options.flags.mix start.mix (AreDrawn may_be_left starts) words
+
+  -- how many words a look for something to start draws: one for an identifier, and one more where the case of letters is drawn
+  abbrev pub words_of_look : ℕ
+  words_of_look = if setting.options.flags.mix then 2 else 1
 
   -- a server that wasn't there at the opening is told with its address where the first attempt on it begins
   abbrev pub served_by : Past → What → List ServerKey
@@ -320,13 +326,25 @@ module _ (setting : Setting) where
       pub all : NoneDue reading new.past ⊎ (expired_in seat entries ≡ most_entries)
       pub few : expired_in seat entries ≤ most_entries
 
-    -- it starts until it has seen that none can start, or 65,536 times, each time with a word of its own
+    -- the words that the calls draw are those of the Starts, and behind the last one's as many as pass the test
+    abbrev pub DrawsForStarts : (ℕ → Bool) → Standing → List Entry → List WorldCall → Type 0
+    DrawsForStarts may_be_left old entries calls = AreDrawn may_be_left (noted seat numbered old.past entries) (told draws old.held calls)
+
+    -- the later servers are told; or the last of them isn't, and then nothing was sent to it
+    abbrev pub MayLackServer : Standing → List Entry → List WorldCall → Type 0
+    MayLackServer old entries calls =
+        (noted seat served_by old.past entries ≡ told serves old.held calls)
+        ⊎ ((more : HasOneMore (noted seat served_by old.past entries) (told serves old.held calls))
+        × IsTrue (list_all (λ call. not (is_sent_to more.last.key call)) calls))
+
+    -- it starts until it has seen that none can start, or 65,536 times, each time with words of its own
     pub record HasStarted (old : Standing) (entries : List Entry) (calls : List WorldCall) (new : Standing) : Type 0 where
       pub agrees : Agrees setting seat old entries calls new
       pub alone : IsTrue (are_of starting seat reading entries calls)
-      pub all : NoneStarts new.past ⊎ (started_in seat entries ≡ most_entries)
+      -- the look that found that none can start had its words too; no other word is drawn
+      pub all : (NoneStarts new.past × DrawsForStarts (λ left. left == words_of_look) old entries calls)
+          ⊎ ((started_in seat entries ≡ most_entries) × DrawsForStarts (λ left. left == 0) old entries calls)
       pub few : started_in seat entries ≤ most_entries
-      pub drawn : AreDrawn (noted seat numbered old.past entries) (told draws old.held calls)
       -- each later server is told once, before the first query goes to it
       pub served : noted seat served_by old.past entries ≡ told serves old.held calls
       pub served_first : IsTrue (are_served_first calls)
@@ -371,10 +389,11 @@ module _ (setting : Setting) where
     CutAsRule receiving old entries calls =
         (IsPartialReceive (told receives old.held calls)) × IsPrefix (told closes_made old.held calls) (told losses old.held calls)
     CutAsRule expiring old entries calls = expired_in seat entries ≤ most_entries
-    -- its words are drawn as in a whole part, and its later servers told so but for the last
+    -- its words are those of the Starts and at most those of one look more, behind which no Start was made
+    -- its later servers are told, but perhaps for that of the last Start, whose query then isn't sent
     CutAsRule starting old entries calls =
-        (started_in seat entries ≤ most_entries) × AreDrawn (noted seat numbered old.past entries) (told draws old.held calls)
-        × IsNear serves old.held calls (noted seat served_by old.past entries) × IsTrue (are_served_first calls)
+        (started_in seat entries ≤ most_entries) × DrawsForStarts (λ left. nat_le left words_of_look) old entries calls
+        × MayLackServer old entries calls × IsTrue (are_served_first calls)
     CutAsRule writing old entries calls =
         (told writes_astray old.held calls ≡ []) × IsPrefix (told closes_made old.held calls) (told losses old.held calls)
     -- it closed held links that weren't busy where it looked, and no other

@@ -20,7 +20,7 @@ pub fn a_course_is_agreed_traffic()
         IsCourse setting seat slice journal log turns asides → TrafficAgrees setting seat journal log }
 {}
 
-/// The law that a run that may have been cut short agrees with its log up to one call.
+/// The law that a run that may have been cut short agrees with its log, but for what want of memory cut off at its end.
 pub fn a_course_so_far_nearly_agrees()
     ensures { (setting : Setting) (seat slice : ℕ) (journal : List Entry) (log : List WorldCall)
         (turns asides : ℕ) →

@@ -12,7 +12,7 @@ use Rattle.net_world.specs.declared.answers.Waited.TheVariants.{Failed as NotWai
 use Rattle.net_world.specs.declared.log.WorldCall.{WorldCall}
 use Rattle.net_world.specs.declared.log.WorldCall.TheVariants.{Now, Receive, Send, Serve, Wait, Word}
 use Rattle.resolv_options.specs.Defaults.{plain_values}
-use Rattle.channel_model.proofs.Theorems.{agrees_none, turn_of}
+use Rattle.channel_model.proofs.Theorems.{turn_of}
 use Rattle.channel_model.specs.Course.{Round}
 use Rattle.channel_model.specs.Endings.{IsStalledBehind, waited_by}
 use Rattle.channel_model.specs.Journal.{past_of}
@@ -34,43 +34,49 @@ journal = accepts ∷ starts 7 0 ∷ []
 abbrev log : Waited → List WorldCall
 log outcome =
     Serve 0 server
-    ∷ Now 0 ∷ Receive Nothing ∷ Word 7 ∷ Send 0 (query 7) WasSent
-    ∷ Wait 2000 outcome ∷ Now 1 ∷ Receive Nothing
-    ∷ Wait 2000 outcome ∷ Now 2 ∷ Receive Nothing
-    ∷ Wait 2000 outcome ∷ Now 3 ∷ Receive Nothing
-    ∷ Wait 2000 outcome ∷ Now 4 ∷ Receive Nothing
-    ∷ Wait 2000 outcome ∷ Now 5 ∷ Receive Nothing ∷ []
+    ∷ Now 0 ∷ Receive Nothing ∷ Word 7 ∷ Send 0 (query 7) WasSent ∷ Word 0
+    ∷ Wait 2000 outcome ∷ Now 1 ∷ Receive Nothing ∷ Word 0
+    ∷ Wait 2000 outcome ∷ Now 2 ∷ Receive Nothing ∷ Word 0
+    ∷ Wait 2000 outcome ∷ Now 3 ∷ Receive Nothing ∷ Word 0
+    ∷ Wait 2000 outcome ∷ Now 4 ∷ Receive Nothing ∷ Word 0
+    ∷ Wait 2000 outcome ∷ Now 5 ∷ Receive Nothing ∷ Word 0 ∷ []
 
 -- nothing starts while the query is in flight
-none_started : (reading : ℕ) → HasStarted setting 0 reading (at journal) [] [] (at journal)
+none_started : (reading : ℕ) → HasStarted setting 0 reading (at journal) [] (Word 0 ∷ []) (at journal)
 unfolding NameText.units_of
-none_started reading = record { agrees = agrees_none setting 0 (at journal); alone = refl; all = inl (inl refl); few = omega arith; drawn = tt; served = refl; served_first = refl }
+none_started reading = record {
+  agrees = record { past_is = refl; held_are = refl; arrivals = refl; sends = refl; links = refl; writes = λ link. refl; faults_are = refl; in_order = refl };
+  alone = refl;
+  all = inl (inl refl, refl);
+  few = omega arith;
+  served = refl;
+  served_first = refl;
+}
 
 -- the query is begun
-one_started : HasStarted setting 0 0 (at (accepts ∷ [])) (starts 7 0 ∷ []) (Word 7 ∷ Send 0 (query 7) WasSent ∷ []) (at journal)
+one_started : HasStarted setting 0 0 (at (accepts ∷ [])) (starts 7 0 ∷ []) (Word 7 ∷ Send 0 (query 7) WasSent ∷ Word 0 ∷ []) (at journal)
 unfolding NameText.units_of
 one_started = record {
   agrees = record { past_is = refl; held_are = refl; arrivals = refl; sends = refl; links = refl; writes = λ link. refl; faults_are = refl; in_order = refl };
   alone = refl;
-  all = inl (inl refl);
+  all = inl (inl refl, (record { steps = 0; few = omega arith; reached = refl; free = refl; passed = λ step before. absurd (omega (arith, before)) }, refl));
   few = omega arith;
-  drawn = (record { steps = 0; few = omega arith; reached = refl; free = refl; passed = λ step before. absurd (omega (arith, before)) }, tt);
   served = refl;
   served_first = refl;
 }
 
 -- the first turn
-first_turn : IsTurn setting 0 0 (at (accepts ∷ [])) (starts 7 0 ∷ []) (Now 0 ∷ Receive Nothing ∷ Word 7 ∷ Send 0 (query 7) WasSent ∷ []) (at journal)
+first_turn : IsTurn setting 0 0 (at (accepts ∷ [])) (starts 7 0 ∷ []) (Now 0 ∷ Receive Nothing ∷ Word 7 ∷ Send 0 (query 7) WasSent ∷ Word 0 ∷ []) (at journal)
 first_turn =
     turn_of setting 0 0 (at (accepts ∷ [])) (at (accepts ∷ [])) (at (accepts ∷ [])) (at journal) (at journal) (at journal)
-    [] [] (starts 7 0 ∷ []) [] [] (Receive Nothing ∷ []) [] (Word 7 ∷ Send 0 (query 7) WasSent ∷ []) [] []
+    [] [] (starts 7 0 ∷ []) [] [] (Receive Nothing ∷ []) [] (Word 7 ∷ Send 0 (query 7) WasSent ∷ Word 0 ∷ []) [] []
     (heard_nothing setting 0 (accepts ∷ [])) (none_expired setting 0 (accepts ∷ []) tt) one_started (none_written setting 0 journal) (none_closed setting 0 journal)
 
--- a turn in which nothing happens, before the query is due
-later_turn : (reading : ℕ) → NoneDue setting reading (past_of journal) → IsTurn setting 0 reading (at journal) [] (Now reading ∷ Receive Nothing ∷ []) (at journal)
+-- a turn in which nothing happens but the look for something to start, before the query is due
+later_turn : (reading : ℕ) → NoneDue setting reading (past_of journal) → IsTurn setting 0 reading (at journal) [] (Now reading ∷ Receive Nothing ∷ Word 0 ∷ []) (at journal)
 later_turn reading none =
     turn_of setting 0 reading (at journal) (at journal) (at journal) (at journal) (at journal) (at journal)
-    [] [] [] [] [] (Receive Nothing ∷ []) [] [] [] []
+    [] [] [] [] [] (Receive Nothing ∷ []) [] (Word 0 ∷ []) [] []
     (heard_nothing setting reading journal) (none_expired setting reading journal none) (none_started reading) (none_written setting reading journal) (none_closed setting reading journal)
 
 -- before it is due
@@ -83,7 +89,7 @@ abbrev later : ℕ → Option Waited → Round
 later reading outcome = record {
   reading = reading;
   entries = [];
-  calls = Now reading ∷ Receive Nothing ∷ [];
+  calls = Now reading ∷ Receive Nothing ∷ Word 0 ∷ [];
   new = at journal;
   between = [];
   asides = [];
@@ -96,7 +102,7 @@ rounds outcome =
     record {
       reading = 0;
       entries = starts 7 0 ∷ [];
-      calls = Now 0 ∷ Receive Nothing ∷ Word 7 ∷ Send 0 (query 7) WasSent ∷ [];
+      calls = Now 0 ∷ Receive Nothing ∷ Word 7 ∷ Send 0 (query 7) WasSent ∷ Word 0 ∷ [];
       new = at journal;
       between = [];
       asides = [];

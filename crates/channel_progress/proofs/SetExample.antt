@@ -50,12 +50,12 @@ up_to_third = accepts ∷ starts 0 ∷ sets 1 ∷ starts 1 ∷ sets 2 ∷ []
 abbrev journal : List Entry
 journal = accepts ∷ starts 0 ∷ sets 1 ∷ starts 1 ∷ sets 2 ∷ starts 2 ∷ []
 
--- the calls with which the query is begun: a server that is new is told first
+-- the calls with which the query is begun, and the word of the look that finds nothing else to start: a server that is new is told first
 abbrev opening_calls : List WorldCall
-opening_calls = Word 7 ∷ Send 0 (query 7) WasSent ∷ []
+opening_calls = Word 7 ∷ Send 0 (query 7) WasSent ∷ Word 0 ∷ []
 
 abbrev later_calls : ℕ → List WorldCall
-later_calls key = Word (7 + key) ∷ Serve key (address key) ∷ Send key (query (7 + key)) WasSent ∷ []
+later_calls key = Word (7 + key) ∷ Serve key (address key) ∷ Send key (query (7 + key)) WasSent ∷ Word 0 ∷ []
 
 -- the query is begun once in each turn
 first_start : HasStarted setting 0 0 (at up_to_first) (starts 0 ∷ []) opening_calls (at (up_to_first ++ starts 0 ∷ []))
@@ -63,9 +63,8 @@ unfolding NameText.units_of
 first_start = record {
   agrees = record { past_is = refl; held_are = refl; arrivals = refl; sends = refl; links = refl; writes = λ link. refl; faults_are = refl; in_order = refl };
   alone = refl;
-  all = inl (inl refl);
+  all = inl (inl refl, (record { steps = 0; few = omega arith; reached = refl; free = refl; passed = λ step before. absurd (omega (arith, before)) }, refl));
   few = omega arith;
-  drawn = (record { steps = 0; few = omega arith; reached = refl; free = refl; passed = λ step before. absurd (omega (arith, before)) }, tt);
   served = refl;
   served_first = refl;
 }
@@ -75,9 +74,8 @@ unfolding NameText.units_of
 second_start = record {
   agrees = record { past_is = refl; held_are = refl; arrivals = refl; sends = refl; links = refl; writes = λ link. refl; faults_are = refl; in_order = refl };
   alone = refl;
-  all = inl (inl refl);
+  all = inl (inl refl, (record { steps = 0; few = omega arith; reached = refl; free = refl; passed = λ step before. absurd (omega (arith, before)) }, refl));
   few = omega arith;
-  drawn = (record { steps = 0; few = omega arith; reached = refl; free = refl; passed = λ step before. absurd (omega (arith, before)) }, tt);
   served = refl;
   served_first = refl;
 }
@@ -87,9 +85,8 @@ unfolding NameText.units_of
 third_start = record {
   agrees = record { past_is = refl; held_are = refl; arrivals = refl; sends = refl; links = refl; writes = λ link. refl; faults_are = refl; in_order = refl };
   alone = refl;
-  all = inl (inl refl);
+  all = inl (inl refl, (record { steps = 0; few = omega arith; reached = refl; free = refl; passed = λ step before. absurd (omega (arith, before)) }, refl));
   few = omega arith;
-  drawn = (record { steps = 0; few = omega arith; reached = refl; free = refl; passed = λ step before. absurd (omega (arith, before)) }, tt);
   served = refl;
   served_first = refl;
 }
@@ -122,9 +119,9 @@ rounds = round 0 up_to_first opening_calls (sets 1 ∷ []) ∷ round 1 up_to_sec
 abbrev log : List WorldCall
 log =
     Serve 0 server
-    ∷ Now 0 ∷ Receive Nothing ∷ Word 7 ∷ Send 0 (query 7) WasSent
-    ∷ Now 1 ∷ Receive Nothing ∷ Word 8 ∷ Serve 1 (address 1) ∷ Send 1 (query 8) WasSent
-    ∷ Now 2 ∷ Receive Nothing ∷ Word 9 ∷ Serve 2 (address 2) ∷ Send 2 (query 9) WasSent ∷ []
+    ∷ Now 0 ∷ Receive Nothing ∷ Word 7 ∷ Send 0 (query 7) WasSent ∷ Word 0
+    ∷ Now 1 ∷ Receive Nothing ∷ Word 8 ∷ Serve 1 (address 1) ∷ Send 1 (query 8) WasSent ∷ Word 0
+    ∷ Now 2 ∷ Receive Nothing ∷ Word 9 ∷ Serve 2 (address 2) ∷ Send 2 (query 9) WasSent ∷ Word 0 ∷ []
 
 -- three turns were made, and the request is pending
 pub stalled : IsStalledBehind setting 0 (2 ^ 64 - 1) 3 journal log

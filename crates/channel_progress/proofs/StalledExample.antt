@@ -34,31 +34,29 @@ journal = accepts ∷ starts 7 0 ∷ expires ∷ starts 8 2000 ∷ []
 abbrev log : List WorldCall
 log =
     Serve 0 server
-    ∷ Now 0 ∷ Receive Nothing ∷ Word 7 ∷ Send 0 (query 7) WasSent ∷ Wait 2000 Woken
-    ∷ Now 2000 ∷ Receive Nothing ∷ Word 8 ∷ Send 0 (query 8) WasSent ∷ []
+    ∷ Now 0 ∷ Receive Nothing ∷ Word 7 ∷ Send 0 (query 7) WasSent ∷ Word 0 ∷ Wait 2000 Woken
+    ∷ Now 2000 ∷ Receive Nothing ∷ Word 8 ∷ Send 0 (query 8) WasSent ∷ Word 0 ∷ []
 
--- the query is begun
-first_start : HasStarted setting 0 0 (at (accepts ∷ [])) (starts 7 0 ∷ []) (Word 7 ∷ Send 0 (query 7) WasSent ∷ []) (at (accepts ∷ starts 7 0 ∷ []))
+-- the query is begun, and a look finds that nothing else can start
+first_start : HasStarted setting 0 0 (at (accepts ∷ [])) (starts 7 0 ∷ []) (Word 7 ∷ Send 0 (query 7) WasSent ∷ Word 0 ∷ []) (at (accepts ∷ starts 7 0 ∷ []))
 unfolding NameText.units_of
 first_start = record {
   agrees = record { past_is = refl; held_are = refl; arrivals = refl; sends = refl; links = refl; writes = λ link. refl; faults_are = refl; in_order = refl };
   alone = refl;
-  all = inl (inl refl);
+  all = inl (inl refl, (record { steps = 0; few = omega arith; reached = refl; free = refl; passed = λ step before. absurd (omega (arith, before)) }, refl));
   few = omega arith;
-  drawn = (record { steps = 0; few = omega arith; reached = refl; free = refl; passed = λ step before. absurd (omega (arith, before)) }, tt);
   served = refl;
   served_first = refl;
 }
 
 -- and begun again
-second_start : HasStarted setting 0 2000 (at (accepts ∷ starts 7 0 ∷ expires ∷ [])) (starts 8 2000 ∷ []) (Word 8 ∷ Send 0 (query 8) WasSent ∷ []) (at journal)
+second_start : HasStarted setting 0 2000 (at (accepts ∷ starts 7 0 ∷ expires ∷ [])) (starts 8 2000 ∷ []) (Word 8 ∷ Send 0 (query 8) WasSent ∷ Word 0 ∷ []) (at journal)
 unfolding NameText.units_of
 second_start = record {
   agrees = record { past_is = refl; held_are = refl; arrivals = refl; sends = refl; links = refl; writes = λ link. refl; faults_are = refl; in_order = refl };
   alone = refl;
-  all = inl (inl refl);
+  all = inl (inl refl, (record { steps = 0; few = omega arith; reached = refl; free = refl; passed = λ step before. absurd (omega (arith, before)) }, refl));
   few = omega arith;
-  drawn = (record { steps = 0; few = omega arith; reached = refl; free = refl; passed = λ step before. absurd (omega (arith, before)) }, tt);
   served = refl;
   served_first = refl;
 }
@@ -74,17 +72,17 @@ one_expired = record {
 }
 
 -- the first turn
-first_turn : IsTurn setting 0 0 (at (accepts ∷ [])) (starts 7 0 ∷ []) (Now 0 ∷ Receive Nothing ∷ Word 7 ∷ Send 0 (query 7) WasSent ∷ []) (at (accepts ∷ starts 7 0 ∷ []))
+first_turn : IsTurn setting 0 0 (at (accepts ∷ [])) (starts 7 0 ∷ []) (Now 0 ∷ Receive Nothing ∷ Word 7 ∷ Send 0 (query 7) WasSent ∷ Word 0 ∷ []) (at (accepts ∷ starts 7 0 ∷ []))
 first_turn =
     turn_of setting 0 0 (at (accepts ∷ [])) (at (accepts ∷ [])) (at (accepts ∷ [])) (at (accepts ∷ starts 7 0 ∷ [])) (at (accepts ∷ starts 7 0 ∷ [])) (at (accepts ∷ starts 7 0 ∷ []))
-    [] [] (starts 7 0 ∷ []) [] [] (Receive Nothing ∷ []) [] (Word 7 ∷ Send 0 (query 7) WasSent ∷ []) [] []
+    [] [] (starts 7 0 ∷ []) [] [] (Receive Nothing ∷ []) [] (Word 7 ∷ Send 0 (query 7) WasSent ∷ Word 0 ∷ []) [] []
     (heard_nothing setting 0 (accepts ∷ [])) (none_expired setting 0 (accepts ∷ []) tt) first_start (none_written setting 0 (accepts ∷ starts 7 0 ∷ [])) (none_closed setting 0 (accepts ∷ starts 7 0 ∷ []))
 
 -- the second turn
-second_turn : IsTurn setting 0 2000 (at (accepts ∷ starts 7 0 ∷ [])) (expires ∷ starts 8 2000 ∷ []) (Now 2000 ∷ Receive Nothing ∷ Word 8 ∷ Send 0 (query 8) WasSent ∷ []) (at journal)
+second_turn : IsTurn setting 0 2000 (at (accepts ∷ starts 7 0 ∷ [])) (expires ∷ starts 8 2000 ∷ []) (Now 2000 ∷ Receive Nothing ∷ Word 8 ∷ Send 0 (query 8) WasSent ∷ Word 0 ∷ []) (at journal)
 second_turn =
     turn_of setting 0 2000 (at (accepts ∷ starts 7 0 ∷ [])) (at (accepts ∷ starts 7 0 ∷ [])) (at (accepts ∷ starts 7 0 ∷ expires ∷ [])) (at journal) (at journal) (at journal)
-    [] (expires ∷ []) (starts 8 2000 ∷ []) [] [] (Receive Nothing ∷ []) [] (Word 8 ∷ Send 0 (query 8) WasSent ∷ []) [] []
+    [] (expires ∷ []) (starts 8 2000 ∷ []) [] [] (Receive Nothing ∷ []) [] (Word 8 ∷ Send 0 (query 8) WasSent ∷ Word 0 ∷ []) [] []
     (heard_nothing setting 2000 (accepts ∷ starts 7 0 ∷ [])) one_expired second_start (none_written setting 2000 journal) (none_closed setting 2000 journal)
 
 -- the two turns, and the wait between them
@@ -93,7 +91,7 @@ rounds =
     record {
       reading = 0;
       entries = starts 7 0 ∷ [];
-      calls = Now 0 ∷ Receive Nothing ∷ Word 7 ∷ Send 0 (query 7) WasSent ∷ [];
+      calls = Now 0 ∷ Receive Nothing ∷ Word 7 ∷ Send 0 (query 7) WasSent ∷ Word 0 ∷ [];
       new = at (accepts ∷ starts 7 0 ∷ []);
       between = [];
       asides = [];
@@ -102,7 +100,7 @@ rounds =
     ∷ record {
       reading = 2000;
       entries = expires ∷ starts 8 2000 ∷ [];
-      calls = Now 2000 ∷ Receive Nothing ∷ Word 8 ∷ Send 0 (query 8) WasSent ∷ [];
+      calls = Now 2000 ∷ Receive Nothing ∷ Word 8 ∷ Send 0 (query 8) WasSent ∷ Word 0 ∷ [];
       new = at journal;
       between = [];
       asides = [];

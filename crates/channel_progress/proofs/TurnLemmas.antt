@@ -85,10 +85,14 @@ module _ (setting : Setting) (end : Past) (seat reading : ℕ) where
       (subst (λ p. Falls setting end old.past p ⊎ BeginsAll setting old.past p) (sym first)
       (starts setting end old.past j.entries_first (are_of_part starting seat reading j.entries_first j.calls_first parts.0 j.one.alone) fit_first))
     where
-      calm : (middle : Standing) → BeginsAll setting old.past middle.past → {n : ℕ} → begun_in middle.past ≡ begun_in old.past + n → {m : ℕ} → m ≡ n → NoneStarts setting middle.past ⊎ (m ≡ most_entries) → IsCalm setting middle.past
-      calm middle begins begun all_own (inl (inl none)) = inl none
-      calm middle begins begun all_own (inl (inr used)) = inr (all_used_many setting middle.past used)
-      calm middle begins begun all_own (inr count) = inr (omega (arith, begins.flies, begun, all_own, count))
+      none_calm : (past : Past) → NoneStarts setting past → IsCalm setting past
+      none_calm past (inl none) = inl none
+      none_calm past (inr used) = inr (all_used_many setting past used)
+
+      calm : (middle : Standing) → BeginsAll setting old.past middle.past → {n : ℕ} → begun_in middle.past ≡ begun_in old.past + n → {m : ℕ} → m ≡ n → {Drawn DrawnAll : Type 0} →
+          (NoneStarts setting middle.past × Drawn) ⊎ ((m ≡ most_entries) × DrawnAll) → IsCalm setting middle.past
+      calm middle begins begun all_own (inl end) = none_calm middle.past end.0
+      calm middle begins begun all_own (inr end) = inr (omega (arith, begins.flies, begun, all_own, end.0))
 
   -- the last four: or nothing was due either
   expiring_says : (old new : Standing) (entries : List Entry) (calls : List WorldCall) → HaveMade setting seat reading (expiring ∷ starting ∷ writing ∷ closing ∷ []) old entries calls new → AreOfSeat seat entries → IsFit setting end new.past

@@ -62,13 +62,9 @@ is_closer dest s t =
 abbrev pub source_rules : Addr → List (Addr → Addr → Bool)
 source_rules dest = is_destination dest ∷ has_better_scope dest ∷ has_its_label dest ∷ is_closer dest ∷ []
 
--- for this destination the source s is before the source t, as a test
+-- for this destination the source s is before the source t
 abbrev pub source_before : Addr → Addr → Addr → Bool
 source_before dest s t = favoured (source_rules dest) s t
-
--- for this destination the source s is before the source t
-abbrev pub SourceBefore : (dest s t : Addr) → Type 0
-SourceBefore dest s t = IsTrue (source_before dest s t)
 
 -- the source is of the destination's family, and no other source of that family is before it
 abbrev pub is_chosen : Addr → List Addr → Addr → Bool

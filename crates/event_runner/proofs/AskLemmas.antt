@@ -1,8 +1,8 @@
 -- The query of an attempt that was begun: how it goes out, and how that is cut short.
-use Rattle.std.proofs.Common.{◌≡◌, ◌≢◌, ◌∙◌, ℕ, ◌+◌, ◌==◌, ◌&&◌, ◌||◌, Bool, true, false, List, [], ◌∷◌, ◌++◌, map, refl, ap, ap₂, sym, subst, arith, eq-eqb, eqb-true, ne_eqb, inl, inr, ⊎_elim, cond, true≢false}
-use Rattle.std.specs.Prelude.{IfSome, IsSomeAnd, None, Ok, Option, Some, find, not, option_map, option_to_list, ◌⊎◌}
+use Rattle.std.proofs.Common.{◌≡◌, ◌≢◌, ◌∙◌, ℕ, ◌+◌, ◌==◌, ◌||◌, Bool, true, false, List, [], ◌∷◌, ◌++◌, map, refl, ap, ap₂, sym, subst, arith, eq-eqb, eqb-true, ne_eqb, inl, inr, ⊎_elim, cond, nat_le, true≢false}
+use Rattle.std.specs.Prelude.{IsSomeAnd, None, Ok, Option, Some, find, not, option_map, option_to_list, ◌⊎◌}
 use Rattle.std.specs.Bool.{then_some}
-use Rattle.std.specs.List.{AllByRecursion, list_all, list_any}
+use Rattle.std.specs.List.{AllByRecursion, list_any}
 use Rattle.std.specs.Option.{option_map_or}
 use Rattle.std.proofs.lemmas.Bool.{and_from, and_parts, cases_Bool, or_parts}
 use Rattle.std.proofs.lemmas.List.{append-nil, map-append}
@@ -12,15 +12,14 @@ use Rattle.chan_types.specs.declared.journal.What.{What}
 use Rattle.chan_types.specs.declared.journal.What.TheVariants.{Fault, Start}
 use Rattle.chan_types.specs.declared.server_key.ServerKey.{ServerKey}
 use Rattle.net_addr.specs.declared.addr.ServerAddr.{ServerAddr}
-use Rattle.net_world.specs.declared.answers.Sent.{Sent}
 use Rattle.net_world.specs.declared.answers.Sent.TheVariants.{Sent as WasSent}
 use Rattle.net_world.specs.declared.log.WorldCall.{WorldCall}
-use Rattle.net_world.specs.declared.log.WorldCall.TheVariants.{Connect, Send, Serve}
+use Rattle.net_world.specs.declared.log.WorldCall.TheVariants.{Connect, Send}
 use Rattle.channel_model.specs.declared.answers.Begun.TheVariants.{Started}
-use Rattle.channel_model.proofs.Theorems.{agrees_nearly, each_flies, flight-cases, chosen_link-cases, new_link-fresh, AreOthers, agrees_serve, agrees_step, noted-others, noted-own, noted-append, told-quiet}
-use Rattle.channel_model.specs.Adding.{Row, link_of_row}
+use Rattle.channel_model.proofs.Theorems.{agrees_nearly, each_flies, flight-cases, chosen_link-cases, new_link-fresh, AreOthers, agrees_step, noted-others, noted-own, noted-append, told-quiet, own-append}
+use Rattle.channel_model.specs.KeptLinks.{Row, link_of_row}
 use Rattle.channel_model.specs.Choice.{chosen_link, greatest_link, is_on_tcp}
-use Rattle.channel_model.specs.CutShort.{IsNear, NearlyAgrees}
+use Rattle.channel_model.specs.CutShort.{MayLackOne, NearlyAgrees, NearlyInOrder}
 use Rattle.channel_model.specs.Flight.{Attempt, flight, in_flight}
 use Rattle.channel_model.specs.Frames.{framed}
 use Rattle.channel_model.specs.Journal.{Past, followed_by, own_entries}
@@ -31,143 +30,14 @@ use Rattle.channel_model.specs.Meanings.{Starts}
 use Rattle.channel_model.specs.Servers.{has_key, opening_servers, servers_at}
 use Rattle.channel_model.specs.Setting.{Setting}
 use Rattle.channel_model.specs.Stretch.{Agrees, Standing}
-use Rattle.channel_model.specs.Traffic.{Parcel, Route, arrived, asked, connects, datagrams, faulted, faults, is_start_on, messages, noted, noticed, notices, notices_of, of_datagram, of_link, opened, query_bytes, queued, written}
-use Rattle.channel_model.specs.Turn.{AreDrawn, HasBits, Numbered, are_served_first, draws, expired_in, is_among, is_at, is_sent_to, is_start_to, numbered, parts_of_call, parts_of_entry, received_in, served_by, serves, started_in, starting}
-use Rattle.event_runner.specs.Parts.{Asks, CutAsking, words_of}
+use Rattle.channel_model.specs.Traffic.{Parcel, Route, arrived, asked, connects, datagrams, faulted, faults, is_start_on, messages, noted, noticed, notices, notices_of, opened, query_bytes, queued, written}
+use Rattle.channel_model.specs.Turn.{AreDrawn, Numbered, draws, is_start_to, numbered, served_by, words_of_look}
+use Rattle.event_runner.specs.Parts.{Asks, CutAsking, NearlyServes, words_of}
 use Rattle.event_runner.specs.State.{serve_unless, told_with, was_told}
 use Rattle.event_runner.proofs.CallLemmas.{own, own_none, own_one}
 use Rattle.event_runner.proofs.RowLemmas.{apart_again, apart_split, each_both, each_join, each_split, each_then, lacks_none}
 use Rattle.event_runner.proofs.SoundLemmas.{AreIdle, HasLink, Lacks, RowsApart, Sound, sound_idle}
-use Rattle.event_runner.proofs.TrailLemmas.{own-append}
-
--- what is found passes the test, and is one of the list
-pub find_says : {X : Type 0} (P : X → Type 0) (test : X → Bool) (xs : List X) (c : X) → AllByRecursion P xs → find test xs ≡ Some c → (test c ≡ true) × P c
-find_says P test [] c each e = absurd (cc e)
-find_says {X} P test (x ∷ xs) c each e = by_test (test x) refl e (find_says P test xs c each.1)
-  where
-    by_test : (b : Bool) → test x ≡ b → cond b (Some x) (find test xs) ≡ Some c → (find test xs ≡ Some c → (test c ≡ true) × P c) → (test c ≡ true) × P c
-    by_test true is e rest = let same : x ≡ c = cc in subst (λ y. (test y ≡ true) × P y) same (is, each.0)
-    by_test false is e rest = rest e
-
-found_test : {X : Type 0} (test : X → Bool) (xs : List X) (c : X) → find test xs ≡ Some c → test c ≡ true
-found_test test [] c e = absurd (cc e)
-found_test {X} test (x ∷ xs) c e = by_test (test x) refl e (found_test test xs c)
-  where
-    by_test : (b : Bool) → test x ≡ b → cond b (Some x) (find test xs) ≡ Some c → (find test xs ≡ Some c → test c ≡ true) → test c ≡ true
-    by_test true is e rest = let same : x ≡ c = cc in subst (λ y. test y ≡ true) same is
-    by_test false is e rest = rest e
-
--- a list with at most one item is told, or is one more than what is told
-near_one : {A : Type 0} (tells : List Link → WorldCall → List A) (held : List Link) (cs : List WorldCall) (b : Bool) (x : A) → told tells held cs ≡ [] → IsNear tells held cs (cond b (x ∷ []) [])
-near_one tells held cs true x none = inr (inl (record { last = x; is_behind = rw none refl }))
-near_one tells held cs false x none = inl (sym none)
-
-near_none : {A : Type 0} (tells : List Link → WorldCall → List A) (held : List Link) (cs : List WorldCall) (b : Bool) (x : A) → told tells held cs ≡ [] → IsNear tells held cs (cond b [] (x ∷ []))
-near_none tells held cs true x none = inl (sym none)
-near_none tells held cs false x none = inr (inl (record { last = x; is_behind = rw none refl }))
-
--- a Start notes its datagram or its new link, or neither: at most one thing more than calls that tell nothing
-near_start : (held : List Link) (cs : List WorldCall) (b c : Bool) (x : Parcel) (y : Route) → told notices held cs ≡ [] → IsNear notices held cs (notices_of [] (cond b (x ∷ []) []) (cond (b || c) [] (y ∷ [])) [])
-near_start held cs true c x y none = inr (inl (record { last = of_datagram x; is_behind = rw none refl }))
-near_start held cs false true x y none = inl (sym none)
-near_start held cs false false x y none = inr (inl (record { last = of_link y; is_behind = rw none refl }))
-
--- what is queued over a link
-queued_not : (b c : Bool) (x : List ℕ) → c ≡ false → cond (not b && c) x [] ≡ []
-queued_not true c x e = refl
-queued_not false c x e = rw e refl
-
-queued_yes : (b c : Bool) (x : List ℕ) → b ≡ false → c ≡ true → cond (not b && c) x [] ≡ x
-queued_yes b c x e f = rw (e, f) refl
-
-or_later : (b c : Bool) → c ≡ true → (b || c) ≡ true
-or_later true c e = refl
-or_later false c e = e
-
--- the words behind the first
-abbrev more_words : Bool → ℕ → List ℕ
-more_words true bits = bits ∷ []
-more_words false bits = []
-
-words_split : (b : Bool) (word bits : ℕ) (words : List ℕ) → words_of b word bits ++ words ≡ word ∷ (more_words b bits ++ words)
-words_split true word bits words = refl
-words_split false word bits words = refl
-
-some_bits : (b : Bool) (bits : ℕ) → IfSome (then_some b bits) (λ drawn. drawn ≡ bits)
-some_bits true bits = refl
-some_bits false bits = tt
-
-has_bits : (b mixed : Bool) (bits : ℕ) (setting : Setting) (rest : List ℕ → Type 0) (words : List ℕ) → rest words → HasBits setting b (then_some mixed bits) rest (more_words b bits ++ words)
-has_bits true mixed bits setting rest words h = (some_bits mixed bits, h)
-has_bits false mixed bits setting rest words h = h
-
--- the calls by which a query goes out
-pub record IsCore (server : ℕ) (core : List WorldCall) : Type 0 where
-  pub serves_none : (held : List Link) → told serves held core ≡ []
-  pub draws_none : (held : List Link) → told draws held core ≡ []
-  pub of_part : list_all (λ call. is_among starting (parts_of_call call)) core ≡ true
-  pub first : are_served_first core ≡ true
-  pub sent_only : (other : ℕ) → (server == other) ≡ false → list_all (λ call. not (is_sent_to other call)) core ≡ true
-  pub receives_none : received_in core ≡ 0
-
-pub core_send : (server : ℕ) (message : List ℕ) (outcome : Sent) → IsCore server (Send server message outcome ∷ [])
-core_send server message outcome =
-    record { serves_none = λ held. refl; draws_none = λ held. refl; of_part = refl; first = refl; sent_only = λ other ne. rw ne refl; receives_none = refl }
-
-pub core_connect : (server link : ℕ) (outcome : Sent) → IsCore server (Connect server link outcome ∷ [])
-core_connect server link outcome =
-    record { serves_none = λ held. refl; draws_none = λ held. refl; of_part = refl; first = refl; sent_only = λ other ne. rw ne refl; receives_none = refl }
-
-pub core_none : (server : ℕ) → IsCore server []
-core_none server = record { serves_none = λ held. refl; draws_none = λ held. refl; of_part = refl; first = refl; sent_only = λ other ne. refl; receives_none = refl }
-
--- what tells nothing of a serve
-module _ (server : ℕ) (address : ServerAddr) where
-  pub serves_quiet : {A : Type 0} (tells : List Link → WorldCall → List A) → ((held : List Link) → tells held (Serve server address) ≡ []) → (already : Bool) (held : List Link) (core : List WorldCall) →
-      told tells held (serve_unless already server address ++ core) ≡ told tells held core
-  serves_quiet tells quiet true held core = refl
-  serves_quiet tells quiet false held core = ap (λ l. l ++ told tells held core) (quiet held)
-
-  pub agrees_serves : (setting : Setting) (seat : ℕ) (a b : Standing) (es : List Entry) (core : List WorldCall) (already : Bool) → Agrees setting seat a es core b → Agrees setting seat a es (serve_unless already server address ++ core) b
-  agrees_serves setting seat a b es core true x = x
-  agrees_serves setting seat a b es core false x = agrees_serve setting seat a b es core server address x
-
-  -- what is told of a server
-  abbrev served_list : Bool → List ServerKey
-  served_list true = []
-  served_list false = record { key = server; address = address } ∷ []
-
-  told_serves : (already : Bool) (held : List Link) (core : List WorldCall) → IsCore server core → told serves held (serve_unless already server address ++ core) ≡ served_list already
-  told_serves true held core is = is.serves_none held
-  told_serves false held core is = ap (λ l. record { key = server; address = address } ∷ l) (is.serves_none held)
-
-  serves_part : (already : Bool) (core : List WorldCall) → IsCore server core → list_all (λ call. is_among starting (parts_of_call call)) (serve_unless already server address ++ core) ≡ true
-  serves_part true core is = is.of_part
-  serves_part false core is = is.of_part
-
-  serves_first : (already : Bool) (core : List WorldCall) → IsCore server core → are_served_first (serve_unless already server address ++ core) ≡ true
-  serves_first true core is = is.first
-  serves_first false core is = rw (is.serves_none [], is.first) refl
-
-  serves_sent : (already : Bool) (core : List WorldCall) → IsCore server core → (other : ℕ) → (server == other) ≡ false → list_all (λ call. not (is_sent_to other call)) (serve_unless already server address ++ core) ≡ true
-  serves_sent true core is other ne = is.sent_only other ne
-  serves_sent false core is other ne = is.sent_only other ne
-
-  serves_received : (already : Bool) (core : List WorldCall) → IsCore server core → received_in (serve_unless already server address ++ core) ≡ 0
-  serves_received true core is = is.receives_none
-  serves_received false core is = is.receives_none
-
-  serves_new : (already : Bool) (other : ℕ) → ((server == other) ≡ true → already ≡ true) → list_all (λ key. not (key.key == other)) (served_list already) ≡ true
-  serves_new true other told_before = refl
-  serves_new false other told_before = ⊎_elim (λ h. absurd (true≢false (sym (told_before h)))) (λ h. rw h refl) (cases_Bool (server == other))
-
--- the entries are the Start of an attempt, and then perhaps its Fault
-pub record IsBegun (setting : Setting) (seat reading : ℕ) (past : Past) (here : Past) (what : What) (n : Numbered) (es : List Entry) : Type 0 where
-  pub alone : list_all (λ (e : Entry). is_among starting (parts_of_entry e.what) && is_at reading e.what) (own_entries seat es) ≡ true
-  pub expired : expired_in seat es ≡ 0
-  pub started : started_in seat es ≡ 1
-  pub numbered_is : noted seat numbered past es ≡ n ∷ []
-  pub served_is : noted seat (served_by setting) past es ≡ served_by setting here what
+use Rattle.event_runner.proofs.QueryLemmas.{IsBegun, IsCore, agrees_serves, core_connect, core_none, core_send, few_left, find_says, found_test, has_bits, near_none, near_one, near_start, or_later, queued_not, queued_yes, served_list, serves_first, serves_new, serves_part, serves_quiet, serves_received, serves_sent, told_serves, words_split}
 
 module _ (setting : Setting) (seat reading word bits number leg server : ℕ) (address : ServerAddr) (link id : ℕ) (message : List ℕ) (rows : List Row) (keys : List ℕ)
     (os : List Entry) (others : AreOthers seat os) (idle : AreIdle os) (from : Standing) (sound : Sound setting rows keys from) where
@@ -270,10 +140,16 @@ module _ (setting : Setting) (seat reading word bits number leg server : ℕ) (a
             rw (sym known ∙ is) (found (find (λ s. s.key == server) (servers_at setting here)) meant.3 (λ s e. found_test (λ (x : ServerKey). x.key == server) (servers_at setting here) s e))
 
     -- its words are its own
-    drawn_here : (starts : List Numbered) (words : List ℕ) → AreDrawn setting starts words → AreDrawn setting (numbered_here ∷ starts) (words_of setting.options.flags.mix word bits ++ words)
-    drawn_here starts words rest =
-        subst (λ l. AreDrawn setting (numbered_here ∷ starts) l) (sym (words_split setting.options.flags.mix word bits words))
-        (meant.2, has_bits setting.options.flags.mix (is_mixed setting link) bits setting (AreDrawn setting starts) words rest)
+    drawn_here : (left : ℕ → Bool) (starts : List Numbered) (words : List ℕ) → AreDrawn setting left starts words → AreDrawn setting left (numbered_here ∷ starts) (words_of setting.options.flags.mix word bits ++ words)
+    drawn_here left starts words rest =
+        subst (λ l. AreDrawn setting left (numbered_here ∷ starts) l) (sym (words_split setting.options.flags.mix word bits words))
+        (meant.2, has_bits setting.options.flags.mix (is_mixed setting link) bits setting (AreDrawn setting left starts) words rest)
+
+    -- no word is drawn behind them
+    drawn_alone : AreDrawn setting (λ left. nat_le left (words_of_look setting)) (numbered_here ∷ []) (words_of setting.options.flags.mix word bits)
+    drawn_alone =
+        subst (λ l. AreDrawn setting (λ left. nat_le left (words_of_look setting)) (numbered_here ∷ []) l) (append-nil (words_of setting.options.flags.mix word bits))
+        (drawn_here (λ left. nat_le left (words_of_look setting)) [] [] (few_left setting [] (omega arith)))
 
     -- a server that has a Start was told
     told_before : (other : ℕ) → list_any (is_start_to other) from.past ≡ true → (server == other) ≡ true → already ≡ true
@@ -294,7 +170,7 @@ module _ (setting : Setting) (seat reading word bits number leg server : ℕ) (a
         alone = and_from _ _ is_begun.alone (serves_part server address already core is_core);
         counts = record { received_are = serves_received server address already core is_core; expired_are = is_begun.expired; started_are = is_begun.started };
       };
-      drawn = λ starts words rest. rw is_begun.numbered_is (drawn_here starts words rest);
+      drawn = λ left starts words rest. rw is_begun.numbered_is (drawn_here left starts words rest);
       no_word = serves_quiet server address draws (λ held. refl) already from.held core ∙ is_core.draws_none from.held;
       served = is_begun.served_is ∙ served_here ∙ sym (told_serves server address already from.held core is_core);
       served_first = serves_first server address already core is_core;
@@ -308,7 +184,7 @@ module _ (setting : Setting) (seat reading word bits number leg server : ℕ) (a
     cut_of es core is_begun is_core nearly = record {
       within = record { nearly = nearly; alone = and_from _ _ is_begun.alone (serves_part server address already core is_core) };
       few = rw is_begun.started (omega arith);
-      drawn = rw is_begun.numbered_is (subst (λ l. AreDrawn setting (numbered_here ∷ []) l) (append-nil (words_of setting.options.flags.mix word bits)) (drawn_here [] [] tt));
+      drawn = rw is_begun.numbered_is drawn_alone;
       no_word = serves_quiet server address draws (λ held. refl) already from.held core ∙ is_core.draws_none from.held;
       served = inl (is_begun.served_is ∙ served_here ∙ sym (told_serves server address already from.held core is_core));
       served_first = serves_first server address already core is_core;
@@ -568,13 +444,13 @@ module _ (setting : Setting) (seat reading word bits number leg server : ℕ) (a
         NearlyAgrees setting seat from (os ++ start_entry ∷ []) cs
     nearly_unsent cs m d n w f = record {
       arrivals = inl (noted-own seat arrived from.past os start_entry others refl ∙ sym m);
-      sends = subst (λ l. IsNear datagrams from.held cs l) (sym (noted-own seat (asked setting) from.past os start_entry others refl))
+      sends = subst (λ l. MayLackOne datagrams from.held cs l) (sym (noted-own seat (asked setting) from.past os start_entry others refl))
           (near_one datagrams from.held cs (link == 0) (record { server = server; link = 0; bytes = query_bytes setting here attempt }) d);
-      links = subst (λ l. IsNear connects from.held cs l) (sym (noted-own seat opened from.past os start_entry others refl))
+      links = subst (λ l. MayLackOne connects from.held cs l) (sym (noted-own seat opened from.past os start_entry others refl))
           (near_none connects from.held cs ((link == 0) || list_any (is_start_on link) here) (record { server = server; link = link }) n);
       writes = λ k. (from.unwritten k ++ noted seat (queued setting k) from.past (os ++ start_entry ∷ []), rw (w k) refl);
       faults_are = inl (noted-own seat faulted from.past os start_entry others refl ∙ sym f);
-      in_order = subst (λ l. IsNear notices from.held cs l) (sym (noted-own seat (noticed setting) from.past os start_entry others refl))
+      in_order = subst (λ l. NearlyInOrder from.held cs l) (sym (noted-own seat (noticed setting) from.past os start_entry others refl))
           (near_start from.held cs (link == 0) (list_any (is_start_on link) here) (record { server = server; link = 0; bytes = query_bytes setting here attempt }) (record { server = server; link = link }) (told-quiet from.held cs m d n f));
     }
 
@@ -591,13 +467,17 @@ module _ (setting : Setting) (seat reading word bits number leg server : ℕ) (a
     cut_untold = record {
       within = record { nearly = nearly_unsent [] refl refl refl (λ k. refl) refl; alone = and_from _ _ begun_one.alone refl };
       few = rw begun_one.started (omega arith);
-      drawn = rw begun_one.numbered_is (subst (λ l. AreDrawn setting (numbered_here ∷ []) l) (append-nil (words_of setting.options.flags.mix word bits)) (drawn_here meant [] [] tt));
+      drawn = rw begun_one.numbered_is (drawn_alone meant);
       no_word = refl;
-      served = subst (λ l. IsNear serves from.held [] l) (sym (begun_one.served_is ∙ served_here meant)) (near_served already);
+      served = by_told already refl (sound.told_are server);
       served_first = refl;
       told_new = λ other before. refl;
     }
       where
-        near_served : (b : Bool) → IsNear serves from.held [] (served_list server address b)
-        near_served true = inl refl
-        near_served false = inr (inl (record { last = record { key = server; address = address }; is_behind = refl }))
+        by_told : (b : Bool) → already ≡ b → already ≡ (has_key server (opening_servers setting) || list_any (is_start_to server) from.past) → NearlyServes setting seat from (os ++ start_entry ∷ []) []
+        by_told true is known = inl (begun_one.served_is ∙ served_here meant ∙ ap (served_list server address) is)
+        by_told false is known = inr (
+          record { last = record { key = server; address = address }; is_behind = begun_one.served_is ∙ served_here meant ∙ ap (served_list server address) is },
+          refl,
+          (or_parts (has_key server (opening_servers setting)) (list_any (is_start_to server) from.past) (sym known ∙ is)).1,
+        )

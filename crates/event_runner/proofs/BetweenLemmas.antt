@@ -18,7 +18,8 @@ use Rattle.event_runner.specs.Goes.{Goes, Leads}
 use Rattle.event_runner.specs.Running.{HasWaited, PausesBy, Running, run_of, wakes_by}
 use Rattle.event_runner.specs.State.{IsTurnOwner}
 use Rattle.event_runner.specs.Turning.{MakesTurn}
-use Rattle.event_runner.specs.UnderWay.{IsUnderWay, LogGets, Reach, RunsSince, awaiting, delivered, following, rested, turned}
+use Rattle.event_runner.specs.UnderWay.{IsUnderWay, Reach, RunsSince, awaiting, delivered, following, rested, turned}
+use Rattle.net_world.specs.Logs.{LogGets}
 use Rattle.event_runner.proofs.GoesLemmas.{owner_before, told_as, told_by, told_trans}
 use Rattle.event_runner.proofs.RoundLemmas.{AreBetween}
 use Rattle.event_runner.proofs.RunLemmas.{WayWith, facts_of, waited_here, way_behind, way_broken, way_of, way_rested, way_turned}

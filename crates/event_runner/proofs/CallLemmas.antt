@@ -9,7 +9,7 @@ use Rattle.chan_types.specs.declared.journal.Entry.{Entry}
 use Rattle.chan_types.specs.declared.journal.What.{What}
 use Rattle.chan_types.specs.declared.journal.What.TheVariants.{Accept, Arrive, Cancel, Destroy, Expire, Fault, Servers, Start, Take}
 use Rattle.net_world.specs.declared.log.WorldCall.{WorldCall}
-use Rattle.channel_model.proofs.Theorems.{others_are, followed_by-append, AreOthers}
+use Rattle.channel_model.proofs.Theorems.{others_are, followed_by-append, AreOthers, own-append}
 use Rattle.channel_model.specs.Course.{is_of_turn}
 use Rattle.channel_model.specs.Flight.{begun_by}
 use Rattle.channel_model.specs.Journal.{Past, followed_by, own_entries, past_of}
@@ -23,7 +23,7 @@ use Rattle.event_runner.specs.Goes.{Break, Goes, Leads, Stops, Stretch}
 use Rattle.event_runner.specs.State.{IsTurnOwner, State}
 use Rattle.event_runner.proofs.GoesLemmas.{goes_by, stops_by}
 use Rattle.event_runner.proofs.SoundLemmas.{AreIdle, Sound, holds_of, sound_of}
-use Rattle.event_runner.proofs.TrailLemmas.{Trail, made_one, made_others, own-append, trail_call, trail_none}
+use Rattle.event_runner.proofs.TrailLemmas.{Trail, made_one, made_others, trail_call, trail_none}
 
 -- an entry of a seat, which no request's callback commanded
 abbrev pub own : ℕ → What → Entry

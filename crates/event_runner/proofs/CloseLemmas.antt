@@ -9,7 +9,7 @@ use Rattle.chan_types.specs.declared.journal.Entry.{Entry}
 use Rattle.net_world.specs.declared.log.WorldCall.{WorldCall}
 use Rattle.net_world.specs.declared.log.WorldCall.TheVariants.{Close}
 use Rattle.channel_model.proofs.Theorems.{agrees_nearly, in_flight-none, agrees_calls}
-use Rattle.channel_model.specs.Adding.{Row, link_of_row}
+use Rattle.channel_model.specs.KeptLinks.{Row, link_of_row}
 use Rattle.channel_model.specs.Flight.{went_over}
 use Rattle.channel_model.specs.Journal.{Past, followed_by}
 use Rattle.channel_model.specs.Known.{Calls}

@@ -8,7 +8,7 @@ use Rattle.chan_types.specs.declared.journal.What.TheVariants.{Arrive}
 use Rattle.item_list.specs.declared.no_memory.NoMemory.{NoMemory}
 use Rattle.channel_model.specs.declared.answers.Landed.{Landed}
 use Rattle.channel_model.specs.declared.answers.Landed.TheVariants.{Matched, Stray}
-use Rattle.channel_model.proofs.Theorems.{left_in-append, messages_in-append}
+use Rattle.channel_model.proofs.Theorems.{left_in-append, messages_in-append, own-append, own-others, own_added}
 use Rattle.channel_model.specs.Frames.{left_in, messages_in}
 use Rattle.channel_model.specs.Journal.{Past, own_entries}
 use Rattle.channel_model.specs.Known.{Calls, Known}
@@ -18,7 +18,7 @@ use Rattle.channel_model.specs.Setting.{Setting}
 use Rattle.event_runner.specs.Delivering.{Delivers, HasDelivered, HasDeliveredSome}
 use Rattle.event_runner.specs.Goes.{AreMadeInTurns}
 use Rattle.event_runner.specs.Frames.{EndsAt, IsUncut}
-use Rattle.event_runner.proofs.TrailLemmas.{goes_of, made_one, made_others, made_trans, own-append, own-others, own_added, trail_call, trail_none, trail_of, trail_trans}
+use Rattle.event_runner.proofs.TrailLemmas.{goes_of, made_one, made_others, made_trans, trail_call, trail_none, trail_of, trail_trans}
 
 -- what an arrive adds
 pub arrive_adds : (server link : ℕ) (bytes : List ℕ) (landed : Landed) (setting : Setting) (past : Past) (added : Option What) →
@@ -109,10 +109,6 @@ behind_uncut bytes piece uncut = messages_in-append [] bytes piece ∙ rw (uncut
 
 pub left_behind_uncut : (bytes piece : List ℕ) → IsUncut bytes → left_in [] (bytes ++ piece) ≡ left_in bytes piece
 left_behind_uncut bytes piece uncut = left_in-append [] bytes piece ∙ rw uncut.all_left refl
-
--- no byte is no frame
-pub empty_uncut : IsUncut []
-empty_uncut = record { none = refl; all_left = refl }
 
 -- what stands behind want of memory
 pub delivers_err : (server link : ℕ) (messages : List (List ℕ)) (result : Result Unit NoMemory) (a b : Known) → is_err result ≡ true →

@@ -12,7 +12,7 @@ use Rattle.channel_model.specs.Calls.{Writing}
 use Rattle.net_world.specs.declared.answers.Wrote.TheVariants.{Failed as NotWritten}
 use Rattle.net_world.specs.declared.log.WorldCall.{WorldCall}
 use Rattle.net_world.specs.declared.log.WorldCall.TheVariants.{Close, Write}
-use Rattle.channel_model.specs.Adding.{Row, link_of_row}
+use Rattle.channel_model.specs.KeptLinks.{Row, link_of_row}
 use Rattle.channel_model.specs.Known.{Calls, Known}
 use Rattle.channel_model.specs.Links.{Link, told, without_link}
 use Rattle.channel_model.specs.Meanings.{Fails}

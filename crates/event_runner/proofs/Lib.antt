@@ -1,6 +1,7 @@
 pub mod ClosedLemmas
 pub mod CloseLemmas
 pub mod DeliverLemmas
+pub mod QueryLemmas
 pub mod AskLemmas
 pub mod CallLemmas
 pub mod ExpireLemmas

@@ -1,6 +1,6 @@
 -- A query that goes out, as a desk and a network did it.
 use Rattle.std.proofs.Common.{◌≡◌, ◌≢◌, ◌∙◌, ℕ, ◌==◌, Bool, true, false, List, [], ◌∷◌, ◌++◌, map, refl, ap, ap₂, sym, subst, inl, inr, ⊎_elim}
-use Rattle.std.specs.Prelude.{Err, None, Ok, OnOk, Result, Some, is_err, option_map, ◌⊎◌}
+use Rattle.std.specs.Prelude.{Err, None, Ok, OnOk, Result, Some, option_map}
 use Rattle.std.specs.Bool.{then_some}
 use Rattle.std.specs.List.{list_any}
 use Rattle.std.proofs.lemmas.Bool.{or_parts}
@@ -15,7 +15,7 @@ use Rattle.net_world.specs.declared.log.WorldCall.{WorldCall}
 use Rattle.net_world.specs.declared.log.WorldCall.TheVariants.{Connect, Send, Serve}
 use Rattle.channel_model.specs.declared.answers.Begun.TheVariants.{Started}
 use Rattle.channel_model.proofs.Theorems.{fault-behind, flight-cases, followed_by-append, AreOthers, noted-others, noted-own, noted-append, same_notices, told-one}
-use Rattle.channel_model.specs.Adding.{Row, link_of_row}
+use Rattle.channel_model.specs.KeptLinks.{Row, link_of_row}
 use Rattle.channel_model.specs.Frames.{framed}
 use Rattle.channel_model.specs.Journal.{Past, followed_by}
 use Rattle.channel_model.specs.Known.{Calls, Known}
@@ -28,8 +28,9 @@ use Rattle.channel_model.specs.Traffic.{arrived, asked, connects, datagrams, fau
 use Rattle.channel_model.specs.Turn.{is_start_to}
 use Rattle.event_runner.specs.Goes.{AreMadeInTurns, Ends, Goes, Stops}
 use Rattle.event_runner.specs.Parts.{Asks, CutAsking}
-use Rattle.event_runner.specs.State.{Gets, HasTold, State, Tells, serve_unless, told_with, was_told}
-use Rattle.event_runner.proofs.AskLemmas.{asked_tcp, asked_udp, asks_connected, asks_datagram, asks_of, asks_queued, begun_then, begun_two, behind_start, connected_sound, IsCore, core_connect, core_send, cut_connected, cut_of, cut_told, cut_untold, opened_tcp, opened_udp, queued_sound, sent_sound, serves_quiet}
+use Rattle.event_runner.specs.State.{HasTold, State, serve_unless, told_with, was_told}
+use Rattle.event_runner.proofs.AskLemmas.{asked_tcp, asked_udp, asks_connected, asks_datagram, asks_of, asks_queued, begun_then, begun_two, behind_start, connected_sound, cut_connected, cut_of, cut_told, cut_untold, opened_tcp, opened_udp, queued_sound, sent_sound}
+use Rattle.event_runner.proofs.QueryLemmas.{IsCore, core_connect, core_send, serves_quiet}
 use Rattle.event_runner.proofs.CallLemmas.{call_idle, call_meant, call_others, goes_add, leads_by, log_stays, log_trans, own, past_behind, stops_add, trail_added, trail_none_added}
 use Rattle.event_runner.proofs.GoesLemmas.{goes_by, owner_before, stops_by}
 use Rattle.event_runner.proofs.RowLemmas.{row_started, sound_lost}
@@ -209,7 +210,7 @@ module _ (reading word bits number leg server : ℕ) (address : ServerAddr) (lin
               ap (λ l. l ++ (from.unwritten k ++ noted a.known.seat (queued a.known.setting k) from.past (first_entries ++ more)))
                   (serves_quiet server address (written k) (λ h. refl) (was_told server a.told) from.held core ∙ is_failure.no_bytes from.held k),
             );
-            faults_are = inr (inr (record {
+            faults_are = inr (record {
               earlier = serve_unless (was_told server a.told) server address;
               last = is_failure.last;
               later = [];
@@ -220,8 +221,8 @@ module _ (reading word bits number leg server : ℕ) (address : ServerAddr) (lin
                 ap (λ l. l ++ noted a.known.seat faulted from.past (first_entries ++ more)) (none_told faults (λ h. refl) (was_told server a.told) from.held),
               );
               not_passed = (told faults from.held (calls_are core), ap (λ l. l ++ told faults from.held (calls_are core)) (noted_then faulted));
-            }));
-            in_order = inr (inr (record {
+            });
+            in_order = inl (inr (record {
               earlier = serve_unless (was_told server a.told) server address;
               last = is_failure.last;
               later = [];
@@ -419,19 +420,6 @@ tells_already server address a b is same = subst (λ x. HasTold server address a
   told = ap (λ b. told_with b server a.told) (sym is);
   log = log_stays a.log ∙ ap (λ b. option_map (λ calls. calls ++ serve_unless b server address) a.log) (sym is);
 })
-
-pub tells_now : (server : ℕ) (address : ServerAddr) (a b : State) → was_told server a.told ≡ false → b.known ≡ a.known → b.rows ≡ a.rows → b.mix ≡ a.mix → b.told ≡ a.told ++ server ∷ [] → Gets (Serve server address) a.log b.log → HasTold server address a b
-tells_now server address a b is known rows mix keys log = record {
-  known = known;
-  rows = rows;
-  mix = mix;
-  told = keys ∙ ap (λ b. told_with b server a.told) (sym is);
-  log = log ∙ ap (λ b. option_map (λ calls. calls ++ serve_unless b server address) a.log) (sym is);
-}
-
-pub tells_err : (server : ℕ) (address : ServerAddr) (result : Result Unit NoMemory) (a b : State) → is_err result ≡ true → (b.log ≡ a.log) ⊎ (b.log ≡ option_map (λ calls. calls ++ serve_unless (was_told server a.told) server address) a.log) → Tells server address result a b
-tells_err server address (Ok done) a b err x = absurd (cc err)
-tells_err server address (Err fault) a b err x = x
 
 -- a query that is put behind a held link's bytes, to its end
 pub queued_ends : (reading word bits number leg server : ℕ) (address : ServerAddr) (link id : ℕ) (message : List ℕ) (a t b : State) (start : Start_is reading word bits number leg server address link id message a b a.known b.known)

@@ -17,7 +17,7 @@ use Rattle.channel_model.specs.Journal.{Past, followed_by, own_entries}
 use Rattle.channel_model.specs.Links.{held_link, told, with_bytes}
 use Rattle.channel_model.specs.Setting.{Setting}
 use Rattle.channel_model.specs.Stretch.{Standing}
-use Rattle.channel_model.specs.Adding.{Row}
+use Rattle.channel_model.specs.KeptLinks.{Row}
 use Rattle.channel_model.specs.Traffic.{Notice, Parcel, arrived, asked, brought, faulted, messages, noted, noticed, notices, of_message, opened, queued}
 use Rattle.channel_model.specs.Turn.{is_among, is_at, is_expire, losses, parts_of_entry, receiving}
 use Rattle.item_list.specs.declared.no_memory.NoMemory.{NoMemory}
@@ -152,7 +152,7 @@ module _ (reading : ℕ) (a b : State) (before : List Row) (row : Row) (after : 
       record {
         within = record {
           nearly = record {
-            arrivals = inr (inr (record {
+            arrivals = inr (record {
               earlier = [];
               last = Receive (Piece row.number bytes);
               later = [];
@@ -160,12 +160,12 @@ module _ (reading : ℕ) (a b : State) (before : List Row) (row : Row) (after : 
               quiet = refl;
               reached = (noted seat arrived from.past es, refl);
               not_passed = (map (parcel_of row.server row.number) rest, rw brings.arrivals split);
-            }));
+            });
             sends = inl brings.sends;
             links = inl brings.links;
             writes = λ k. (from.unwritten k ++ noted seat (queued setting k) from.past es, refl);
             faults_are = inl brings.faults_are;
-            in_order = inr (inr (record {
+            in_order = inl (inr (record {
               earlier = [];
               last = Receive (Piece row.number bytes);
               later = [];

@@ -11,7 +11,7 @@ use Rattle.net_world.specs.declared.log.WorldCall.{WorldCall}
 use Rattle.net_world.specs.declared.log.WorldCall.TheVariants.{Close, Receive}
 use Rattle.channel_model.specs.declared.answers.Landed.{Landed}
 use Rattle.channel_model.proofs.Theorems.{agrees_nearly, flight-cases, AreOthers, agrees_calls, agrees_datagram, agrees_nothing, agrees_step, noted-others, noted-own, agrees_none}
-use Rattle.channel_model.specs.CutShort.{IsNear, NearlyAgrees}
+use Rattle.channel_model.specs.CutShort.{FallsShort, NearlyAgrees}
 use Rattle.channel_model.specs.Flight.{went_over}
 use Rattle.channel_model.specs.Journal.{followed_by}
 use Rattle.channel_model.specs.Known.{Calls}
@@ -19,8 +19,8 @@ use Rattle.channel_model.specs.Links.{Link, held_after, held_by_receive, held_li
 use Rattle.channel_model.specs.Meanings.{Arrives, Fails, Meaning}
 use Rattle.channel_model.specs.Setting.{Setting}
 use Rattle.channel_model.specs.Stretch.{Standing}
-use Rattle.channel_model.specs.Adding.{Row, link_of_row}
-use Rattle.channel_model.specs.Traffic.{arrived, asked, connects, datagrams, fault_received, faulted, faults, messages, messages_of, noted, noticed, notices, opened, queued, written}
+use Rattle.channel_model.specs.KeptLinks.{Row, link_of_row}
+use Rattle.channel_model.specs.Traffic.{arrived, asked, fault_received, faulted, faults, messages, messages_of, noted, noticed, notices, opened, queued}
 use Rattle.channel_model.specs.Turn.{if_held, is_nothing, losses, lost_receiving}
 use Rattle.event_runner.specs.Goes.{Goes, Stops}
 use Rattle.event_runner.specs.Parts.{CutHearing, Hears, HearsNothing}
@@ -40,8 +40,8 @@ pub sound_kept : (setting : Setting) (a b : State) (s : Standing) → Keeps a b 
 sound_kept setting a b s keeps sound = subst (λ t. Sound setting b.rows t s) (sym keeps.told) (subst (λ r. Sound setting r a.told s) (sym keeps.rows) sound)
 
 -- the journal notes nothing of the one call
-pub stops_before : {A : Type 0} (tells : List Link → WorldCall → List A) (held : List Link) (call : WorldCall) (notes : List A) → notes ≡ [] → IsNear tells held (call ∷ []) notes
-stops_before tells held call notes none = inr (inr (record {
+pub stops_before : {A : Type 0} (tells : List Link → WorldCall → List A) (held : List Link) (call : WorldCall) (notes : List A) → notes ≡ [] → FallsShort tells held (call ∷ []) notes
+stops_before tells held call notes none = inr (record {
   earlier = [];
   last = call;
   later = [];
@@ -49,17 +49,17 @@ stops_before tells held call notes none = inr (inr (record {
   quiet = refl;
   reached = (notes, refl);
   not_passed = (told tells held (call ∷ []), rw none refl);
-}))
+})
 
--- nothing is noted of a call that writes nothing
-pub nearly_before : (setting : Setting) (seat : ℕ) (from : Standing) (os : List Entry) (call : WorldCall) → AreOthers seat os → ((link : ℕ) → told (written link) from.held (call ∷ []) ≡ []) → NearlyAgrees setting seat from os (call ∷ [])
-nearly_before setting seat from os call others none = record {
-  arrivals = stops_before messages from.held call (noted seat arrived from.past os) (noted-others seat arrived from.past os others);
-  sends = stops_before datagrams from.held call (noted seat (asked setting) from.past os) (noted-others seat (asked setting) from.past os others);
-  links = stops_before connects from.held call (noted seat opened from.past os) (noted-others seat opened from.past os others);
-  writes = λ link. (from.unwritten link ++ noted seat (queued setting link) from.past os, rw (none link) refl);
-  faults_are = stops_before faults from.held call (noted seat faulted from.past os) (noted-others seat faulted from.past os others);
-  in_order = stops_before notices from.held call (noted seat (noticed setting) from.past os) (noted-others seat (noticed setting) from.past os others);
+-- nothing is noted of what was received
+pub nearly_before : (setting : Setting) (seat : ℕ) (from : Standing) (os : List Entry) (got : Got) → AreOthers seat os → NearlyAgrees setting seat from os (Receive got ∷ [])
+nearly_before setting seat from os got others = record {
+  arrivals = stops_before messages from.held (Receive got) (noted seat arrived from.past os) (noted-others seat arrived from.past os others);
+  sends = inl (noted-others seat (asked setting) from.past os others);
+  links = inl (noted-others seat opened from.past os others);
+  writes = λ link. (from.unwritten link ++ noted seat (queued setting link) from.past os, refl);
+  faults_are = stops_before faults from.held (Receive got) (noted seat faulted from.past os) (noted-others seat faulted from.past os others);
+  in_order = inl (stops_before notices from.held (Receive got) (noted seat (noticed setting) from.past os) (noted-others seat (noticed setting) from.past os others));
 }
 
 -- what was received ends a link or tells its failure
@@ -105,7 +105,7 @@ module _ (reading : ℕ) where
   -- an item of which nothing is noted
   cut_before : (setting : Setting) (seat : ℕ) (from : Standing) (os : List Entry) (got : Got) → is_nothing got ≡ false → AreOthers seat os → CutHearing reading setting seat from os (Receive got ∷ [])
   cut_before setting seat from os got item others = record {
-    within = record { nearly = nearly_before setting seat from os (Receive got) others (λ link. refl); alone = rw (own_none seat os others) refl };
+    within = record { nearly = nearly_before setting seat from os got others; alone = rw (own_none seat os others) refl };
     items = rw item refl;
     few = omega arith;
     closed = (told losses from.held (Receive got ∷ []), refl);
@@ -162,7 +162,7 @@ module _ (reading : ℕ) where
               links = inl (noted-own seat opened from.past os entry others refl);
               writes = λ link. (from.unwritten link ++ noted seat (queued setting link) from.past (os ++ entry ∷ []), refl);
               faults_are = inl (noted-own seat faulted from.past os entry others refl ∙ rw (is_loss.fault from.held (link_of_row row) held, is) refl);
-              in_order = inl (noted-own seat (noticed setting) from.past os entry others refl ∙ rw (is_loss.no_message from.held, is_loss.fault from.held (link_of_row row) held, is) refl);
+              in_order = inl (inl (noted-own seat (noticed setting) from.past os entry others refl ∙ rw (is_loss.no_message from.held, is_loss.fault from.held (link_of_row row) held, is) refl));
             };
             alone = rw (mine, eq-eqb reading reading refl) refl;
           };

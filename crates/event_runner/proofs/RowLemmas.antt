@@ -5,7 +5,7 @@ use Rattle.std.specs.List.{AllByRecursion, list_any}
 use Rattle.std.proofs.lemmas.Bool.{and_from}
 use Rattle.std.proofs.lemmas.List.{map-append}
 use Rattle.std.proofs.lemmas.List.Elements.{filter-append}
-use Rattle.channel_model.specs.Adding.{Row, link_of_row}
+use Rattle.channel_model.specs.KeptLinks.{Row, link_of_row}
 use Rattle.channel_model.specs.Flight.{Attempt, flight, went_over}
 use Rattle.channel_model.specs.Frames.{left_in}
 use Rattle.channel_model.specs.Legs.{Leg}
@@ -74,10 +74,6 @@ module _ (number : ℕ) where
   pub with_bytes_lacks : (bytes : List ℕ) (rows : List Row) → Lacks number rows → map (with_bytes number bytes) (map link_of_row rows) ≡ map link_of_row rows
   with_bytes_lacks bytes [] lacks = refl
   with_bytes_lacks bytes (row ∷ rows) lacks = rw (ne_eqb row.number number lacks.0) (ap (λ l. link_of_row row ∷ l) (with_bytes_lacks bytes rows lacks.1))
-
-  pub held_lacks : (rows : List Row) → Lacks number rows → held_link number (map link_of_row rows) ≡ None
-  held_lacks [] lacks = refl
-  held_lacks (row ∷ rows) lacks = rw (ne_eqb row.number number lacks.0) (held_lacks rows lacks.1)
 
   pub lacks_none : (rows : List Row) → held_link number (map link_of_row rows) ≡ None → Lacks number rows
   lacks_none [] none = tt

@@ -27,7 +27,8 @@ use Rattle.event_runner.specs.Goes.{Goes, Leads, Leaves, Stops}
 use Rattle.event_runner.specs.Running.{HasLooked, HasWaited, PausesBy, Running, run_of, wakes_by}
 use Rattle.event_runner.specs.State.{Holds, IsTurnOwner}
 use Rattle.event_runner.specs.Turning.{IsCutShort, MakesTurn}
-use Rattle.event_runner.specs.UnderWay.{IsSoFar, IsUnderWay, LogGets, RanSince, Reach, RunsSince, awaiting, delivered, following, rested, turned}
+use Rattle.event_runner.specs.UnderWay.{IsSoFar, IsUnderWay, RanSince, Reach, RunsSince, awaiting, delivered, following, rested, turned}
+use Rattle.net_world.specs.Logs.{LogGets}
 use Rattle.event_runner.proofs.CallLemmas.{owner_of}
 use Rattle.event_runner.proofs.CourseLemmas.{course_of, is_seats}
 use Rattle.event_runner.proofs.GoesLemmas.{owner_before, told_as, told_by, told_trans}

@@ -6,7 +6,7 @@ use Rattle.std.proofs.lemmas.Bool.{and_parts, cases_Bool}
 use Rattle.chan_types.specs.declared.journal.Entry.{Entry}
 use Rattle.chan_types.specs.declared.journal.What.{What}
 use Rattle.channel_model.proofs.Theorems.{flight-cases, flight-started, is_leg-says}
-use Rattle.channel_model.specs.Adding.{AreApart, Row, link_of_row}
+use Rattle.channel_model.specs.KeptLinks.{AreApart, Row, link_of_row}
 use Rattle.channel_model.specs.Flight.{Attempt, begun_by, flight, has_leg, in_flight, started}
 use Rattle.channel_model.specs.Journal.{followed_by, past_of}
 use Rattle.channel_model.specs.Legs.{Leg, is_leg}

@@ -1,9 +1,8 @@
 -- Attempts that are started, one behind the other, up to the end of the starting.
-use Rattle.std.proofs.Common.{◌≡◌, ◌∙◌, ℕ, ◌+◌, ◌<◌, ◌≤◌, ◌==◌, ◌||◌, ◌^◌, Bool, true, false, List, [], ◌∷◌, ◌++◌, map, refl, ap, ap₂, sym, subst, arith, inl, inr, ⊎_elim, true≢false, eq-eqb, add-zero}
+use Rattle.std.proofs.Common.{◌≡◌, ◌∙◌, ℕ, ◌+◌, ◌<◌, ◌≤◌, ◌==◌, ◌||◌, ◌^◌, Bool, true, false, List, [], ◌∷◌, ◌++◌, cond, le-leb, length, map, nat_le, refl, ap, ap₂, sym, subst, arith, inl, inr, ⊎_elim, true≢false, eq-eqb, add-zero}
 use Rattle.std.specs.Prelude.{Err, Ok, Option, Result, not, option_map}
 use Rattle.std.specs.List.{list_all, list_any}
 use Rattle.std.proofs.lemmas.Bool.{and_from, and_parts, cases_Bool}
-use mathlib.Core.List.{IsPrefix}
 use Rattle.std.proofs.lemmas.List.{append-nil, append_assoc}
 use Rattle.std.proofs.lemmas.List.Folds.{list_all-append}
 use Rattle.chan_types.specs.declared.journal.Entry.{Entry}
@@ -13,8 +12,7 @@ use Rattle.item_list.specs.declared.no_memory.NoMemory.{NoMemory}
 use Rattle.net_world.specs.declared.log.WorldCall.{WorldCall}
 use Rattle.net_world.specs.declared.log.WorldCall.TheVariants.{Close, Connect, Now, Receive, Send, Serve, Wait, Word, Write}
 use Rattle.channel_model.specs.declared.answers.Begun.TheVariants.{Idle, NoId}
-use Rattle.channel_model.proofs.Theorems.{agrees_nearly, AreOthers, agrees_calls, noted-others, held_after-append, noted-append, told-append}
-use Rattle.channel_model.specs.CutShort.{IsNear}
+use Rattle.channel_model.proofs.Theorems.{agrees_nearly, AreOthers, agrees_calls, noted-others, noted-append, told-append}
 use Rattle.channel_model.specs.Journal.{Past, followed_by}
 use Rattle.channel_model.specs.Known.{Calls}
 use Rattle.channel_model.specs.Links.{Link, held_after, held_by, told}
@@ -22,14 +20,15 @@ use Rattle.channel_model.specs.Meanings.{Starts}
 use Rattle.channel_model.specs.Setting.{Setting}
 use Rattle.channel_model.specs.Stretch.{Agrees, Standing}
 use Rattle.channel_model.specs.Traffic.{connects, datagrams, faults, messages, noted, written}
-use Rattle.channel_model.specs.Turn.{AreDrawn, NoneStarts, Numbered, are_served_first, draws, is_among, is_sent_to, is_start_to, numbered, parts_of_call, received_in, served_by, serves, started_in, starting}
+use Rattle.channel_model.specs.Turn.{AreDrawn, MayLackServer, NoneStarts, Numbered, are_served_first, draws, is_among, is_sent_to, is_start_to, numbered, parts_of_call, received_in, served_by, serves, started_in, starting, words_of_look}
 use Rattle.event_runner.specs.Goes.{Goes, Stops}
-use Rattle.event_runner.specs.Parts.{Asks, Begins, BeginsNone, CutAsking, CutBeginning, CutPart, MakesPart, NearlyWithin, Within, words_of}
+use Rattle.event_runner.specs.Parts.{Asks, Begins, BeginsNone, CutAsking, CutBeginning, CutPart, MakesPart, NearlyServes, NearlyWithin, Within, words_of}
 use Rattle.event_runner.specs.State.{Draws, DrawsIf, Gets, State}
-use Rattle.net_world.specs.World.{Logs}
+use Rattle.net_world.specs.Logs.{Logs}
 use Rattle.event_runner.proofs.CallLemmas.{goes_look, log_stays, log_trans, own_none, stops_alone, stops_look}
 use Rattle.event_runner.proofs.GoesLemmas.{goes_as, goes_by, goes_joined, goes_none, stops_joined}
-use Rattle.event_runner.proofs.HearLemmas.{prefix_behind, told_both}
+use Rattle.event_runner.proofs.HearLemmas.{told_both}
+use Rattle.event_runner.proofs.QueryLemmas.{few_left}
 use Rattle.event_runner.proofs.ReceiveLemmas.{Keeps, sound_kept}
 use Rattle.event_runner.proofs.SoundLemmas.{AreIdle, Sound, sound_idle}
 use Rattle.event_runner.proofs.TrailLemmas.{trail_none}
@@ -172,16 +171,16 @@ module _ (reading : ℕ) where
         record { fits = holds.fits; mixes = holds.mixes; told = holds.told },
       ))
 
-  -- want of memory at the words
-  pub stops_words : (a b : State) (words : List ℕ) → b.known ≡ a.known → b.log ≡ option_map (λ calls. calls ++ word_calls words) a.log → Stops (CutBeginning reading) a b
-  stops_words a b words same log =
+  -- want of memory at the words, of which at most one was drawn
+  pub stops_words : (a b : State) (words : List ℕ) → length words ≤ 1 → b.known ≡ a.known → b.log ≡ option_map (λ calls. calls ++ word_calls words) a.log → Stops (CutBeginning reading) a b
+  stops_words a b words one same log =
       stops_alone a b same (word_calls words) log (CutBeginning reading)
       (λ from sound.
       let within = within_words a.known.setting a.known.seat from words in
       record {
         within = record { nearly = agrees_nearly a.known.setting a.known.seat from from [] (word_calls words) within.agrees; alone = within.alone };
         few = omega arith;
-        drawn = tt;
+        drawn = rw (words_drawn from.held words) (few_left a.known.setting words one);
         served = inl (sym (words_quiet from.held serves (λ w. refl) words));
         served_first = words_first words;
         told_new = λ server before. rw (words_quiet from.held serves (λ w. refl) words) refl;
@@ -264,35 +263,42 @@ unsent_any : (cs : List WorldCall) (keys : List ServerKey) → ((server : ℕ) �
 unsent_any cs [] unsent = refl
 unsent_any cs (key ∷ keys) unsent = and_from _ _ (unsent key.key) (unsent_any cs keys unsent)
 
--- one call apart behind what agrees
-module _ {A : Type 0} (tells : List Link → WorldCall → List A) (setting : Setting) (seat : ℕ) (x y : Standing) (es : List Entry) (cs ds : List WorldCall) (agrees : Agrees setting seat x es cs y) (first notes : List A) (same : first ≡ told tells x.held cs) where
-  near_joined : IsNear tells y.held ds notes → IsNear tells x.held (cs ++ ds) (first ++ notes)
-  near_joined (inl alike) = inl (ap₂ (λ l m. l ++ m) same alike ∙ sym (told_both tells setting seat x y es cs ds agrees))
-  near_joined (inr (inl more)) = inr (inl (record {
-    last = more.last;
-    is_behind =
-        ap₂ (λ l m. l ++ m) same more.is_behind
-        ∙ sym (append_assoc (told tells x.held cs) (told tells y.held ds) (more.last ∷ []))
-        ∙ ap (λ l. l ++ more.last ∷ []) (sym (told_both tells setting seat x y es cs ds agrees));
-  }))
-  near_joined (inr (inr stops)) = inr (inr (record {
-    earlier = cs ++ stops.earlier;
-    last = stops.last;
-    later = stops.later;
-    calls_are = ap (λ l. cs ++ l) stops.calls_are ∙ sym (append_assoc cs stops.earlier (stops.last ∷ stops.later));
-    quiet =
-        ap (λ h. told tells h stops.later)
-        (ap (held_after x.held) (append_assoc cs stops.earlier (stops.last ∷ [])) ∙ held_after-append x.held cs (stops.earlier ++ stops.last ∷ []) ∙ ap (λ h. held_after h (stops.earlier ++ stops.last ∷ [])) (sym agrees.held_are))
-        ∙ stops.quiet;
-    reached =
-        subst (λ l. IsPrefix l (first ++ notes)) (sym (told_both tells setting seat x y es cs stops.earlier agrees))
-        (subst (λ l. IsPrefix (told tells x.held cs ++ told tells y.held stops.earlier) (l ++ notes)) (sym same)
-        (prefix_behind (told tells x.held cs) (told tells y.held stops.earlier) notes stops.reached));
-    not_passed =
-        subst (λ l. IsPrefix (first ++ notes) l) (sym (told_both tells setting seat x y es cs ds agrees))
-        (subst (λ l. IsPrefix (l ++ notes) (told tells x.held cs ++ told tells y.held ds)) (sym same)
-        (prefix_behind (told tells x.held cs) notes (told tells y.held ds) stops.not_passed));
-  }))
+-- servers that may lack one, behind those that were told
+serves_behind : (setting : Setting) (seat : ℕ) (x y : Standing) (es fs : List Entry) (cs ds : List WorldCall) → Agrees setting seat x es cs y → noted seat (served_by setting) x.past es ≡ told serves x.held cs →
+    ((server : ℕ) → list_any (is_start_to server) y.past ≡ false → list_all (λ call. not (is_sent_to server call)) cs ≡ true) → NearlyServes setting seat y fs ds → NearlyServes setting seat x (es ++ fs) (cs ++ ds)
+serves_behind setting seat x y es fs cs ds agrees same sent = by_cases
+  where
+    noted_both : noted seat (served_by setting) x.past (es ++ fs) ≡ told serves x.held cs ++ noted seat (served_by setting) y.past fs
+    noted_both = noted-append seat (served_by setting) x.past es fs ∙ ap₂ (λ l q. l ++ noted seat (served_by setting) q fs) same (sym agrees.past_is)
+
+    both : told serves x.held cs ++ told serves y.held ds ≡ told serves x.held (cs ++ ds)
+    both = sym (told_both serves setting seat x y es cs ds agrees)
+
+    by_cases : NearlyServes setting seat y fs ds → NearlyServes setting seat x (es ++ fs) (cs ++ ds)
+    by_cases (inl alike) = inl (noted_both ∙ ap (λ l. told serves x.held cs ++ l) alike ∙ both)
+    by_cases (inr lacks) = inr (
+      record {
+        last = lacks.0.last;
+        is_behind =
+            noted_both ∙ ap (λ l. told serves x.held cs ++ l) lacks.0.is_behind
+            ∙ sym (append_assoc (told serves x.held cs) (told serves y.held ds) (lacks.0.last ∷ [])) ∙ ap (λ l. l ++ lacks.0.last ∷ []) both;
+      },
+      list_all-append (λ call. not (is_sent_to lacks.0.last.key call)) cs ds ∙ and_from _ _ (sent lacks.0.last.key lacks.2) lacks.1,
+      no_start_before lacks.0.last.key x.past es (subst (λ past. list_any (is_start_to lacks.0.last.key) past ≡ false) agrees.past_is lacks.2),
+    )
+
+-- so a cut part may lack one
+lacks_server : (reading : ℕ) (setting : Setting) (seat : ℕ) (x : Standing) (es : List Entry) (cs : List WorldCall) → NearlyServes setting seat x es cs → MayLackServer setting seat reading x es cs
+lacks_server reading setting seat x es cs (inl alike) = inl alike
+lacks_server reading setting seat x es cs (inr lacks) = inr (lacks.0, lacks.1)
+
+-- the words of one look
+look_words : (setting : Setting) (word bits : ℕ) → length (words_of setting.options.flags.mix word bits) ≡ words_of_look setting
+look_words setting word bits = by_mix setting.options.flags.mix
+  where
+    by_mix : (b : Bool) → length (words_of b word bits) ≡ cond b 2 1
+    by_mix true = refl
+    by_mix false = refl
 
 module _ (reading : ℕ) where
   module _ (word bits : ℕ) (setting : Setting) (seat : ℕ) (x y : Standing) (es fs : List Entry) (cs ds : List WorldCall) (p : DrawsWords reading word bits setting seat x es cs y) where
@@ -314,7 +320,7 @@ module _ (reading : ℕ) where
   asks_joined word bits a b c = goes_joined (DrawsWords reading word bits) (Asks reading word bits) (Begins reading 1)
       (λ setting seat x y z es fs cs ds p q. record {
         within = within_joined reading starting setting seat 0 0 0 0 0 1 x y z es fs cs ds p.within q.within;
-        drawn = λ starts words rest. rw (drawn_noted word bits setting seat x y es fs cs ds p numbered, drawn_draws word bits setting seat x y es fs cs ds p q.no_word) (q.drawn starts words rest);
+        drawn = λ left starts words rest. rw (drawn_noted word bits setting seat x y es fs cs ds p numbered, drawn_draws word bits setting seat x y es fs cs ds p q.no_word) (q.drawn left starts words rest);
         served = drawn_noted word bits setting seat x y es fs cs ds p (served_by setting) ∙ q.served ∙ sym (drawn_served word bits setting seat x y es fs cs ds p);
         served_first = first_joined cs ds p.first q.served_first (unsent_any cs (told serves [] ds) p.unsent);
         told_new = λ server before. rw (drawn_served word bits setting seat x y es fs cs ds p) (q.told_new server (later_start word bits setting seat x y es fs cs ds p server before));
@@ -327,8 +333,7 @@ module _ (reading : ℕ) where
         within = nearly_joined reading starting setting seat 0 0 0 x y es fs cs ds p.within q.within;
         few = rw (started-append seat es fs, p.within.counts.started_are) (omega (arith, q.few));
         drawn = rw (drawn_noted word bits setting seat x y es fs cs ds p numbered, drawn_draws word bits setting seat x y es fs cs ds p q.no_word) q.drawn;
-        served = subst (λ l. IsNear serves x.held (cs ++ ds) l) (sym (drawn_noted word bits setting seat x y es fs cs ds p (served_by setting)))
-            (near_joined serves setting seat x y es cs ds p.within.agrees [] (noted seat (served_by setting) y.past fs) (sym p.served_none) q.served);
+        served = serves_behind setting seat x y es fs cs ds p.within.agrees (ap (noted seat (served_by setting) x.past) p.no_entry ∙ sym p.served_none) (λ server none. p.unsent server) q.served;
         served_first = first_joined cs ds p.first q.served_first (unsent_any cs (told serves [] ds) p.unsent);
         told_new = λ server before. rw (drawn_served word bits setting seat x y es fs cs ds p) (q.told_new server (later_start word bits setting seat x y es fs cs ds p server before));
       }) a b c
@@ -340,7 +345,8 @@ module _ (reading : ℕ) where
       record {
         within = nearly_joined reading starting setting seat 0 0 0 x y es fs cs ds p.within q.within;
         few = rw (started-append seat es fs, p.within.counts.started_are, q.none) (omega arith);
-        drawn = rw (drawn_noted word bits setting seat x y es fs cs ds p numbered, q.no_start) tt;
+        drawn = rw (drawn_noted word bits setting seat x y es fs cs ds p numbered, q.no_start, drawn_draws word bits setting seat x y es fs cs ds p (ap (told draws y.held) q.no_call))
+            (le-leb (length (words_of setting.options.flags.mix word bits)) (words_of_look setting) (omega (arith, look_words setting word bits)));
         served = inl (drawn_noted word bits setting seat x y es fs cs ds p (served_by setting) ∙ q.unserved ∙ sym unserved);
         served_first = subst (λ l. are_served_first (cs ++ l) ≡ true) (sym q.no_call) (subst (λ l. are_served_first l ≡ true) (sym (append-nil cs)) p.first);
         told_new = λ server before. rw unserved refl;
@@ -354,6 +360,8 @@ module _ (reading : ℕ) where
         begins = within_joined reading starting setting seat 0 0 0 0 0 0 x y z es fs cs ds p.within q.within;
         none = q.none;
         no_start = drawn_noted word bits setting seat x y es fs cs ds p numbered ∙ q.no_start;
+        drawn = eq-eqb (length (told draws x.held (cs ++ ds))) (words_of_look setting)
+            (ap length (drawn_draws word bits setting seat x y es fs cs ds p (ap (told draws y.held) q.no_call)) ∙ look_words setting word bits);
         served = drawn_noted word bits setting seat x y es fs cs ds p (served_by setting) ∙ q.unserved ∙ sym unserved;
         served_none = unserved;
         served_first = subst (λ l. are_served_first (cs ++ l) ≡ true) (sym q.no_call) (subst (λ l. are_served_first l ≡ true) (sym (append-nil cs)) p.first);
@@ -365,12 +373,15 @@ module _ (reading : ℕ) where
   begins_so_far a = goes_none (Begins reading 0)
       (λ setting seat s. record {
         within = within_none reading starting setting seat s;
-        drawn = λ starts words rest. rest;
+        drawn = λ left starts words rest. rest;
         served = refl;
         served_first = refl;
         told_new = λ server before. refl;
         sent = λ server none. refl;
       }) a
+
+  without_nil : (left : ℕ → Bool) (setting : Setting) (starts : List Numbered) (words : List ℕ) → AreDrawn setting left (starts ++ []) (words ++ []) → AreDrawn setting left starts words
+  without_nil left setting starts words h = subst (λ l. AreDrawn setting left l words) (append-nil starts) (subst (λ l. AreDrawn setting left (starts ++ []) l) (append-nil words) h)
 
   module _ (count : ℕ) (setting : Setting) (seat : ℕ) (x y : Standing) (es fs : List Entry) (cs ds : List WorldCall) (p : Begins reading count setting seat x es cs y) where
     noted_both : {A : Type 0} (notes : Past → What → List A) → noted seat notes x.past (es ++ fs) ≡ noted seat notes x.past es ++ noted seat notes y.past fs
@@ -384,26 +395,31 @@ module _ (reading : ℕ) where
         first_joined cs ds p.served_first first
         (unsent_of y.past cs (told serves [] ds) p.sent (λ server h. subst (λ l. list_all (λ (key : ServerKey). not (key.key == server)) l ≡ true) (serves_held ds y.held []) (new server h)))
 
-    drawn_both : (starts : List Numbered) (words : List ℕ) → AreDrawn setting (noted seat numbered y.past fs ++ starts) (told draws y.held ds ++ words) → AreDrawn setting (noted seat numbered x.past (es ++ fs) ++ starts) (told draws x.held (cs ++ ds) ++ words)
-    drawn_both starts words rest =
+    drawn_both : (left : ℕ → Bool) (starts : List Numbered) (words : List ℕ) → AreDrawn setting left (noted seat numbered y.past fs ++ starts) (told draws y.held ds ++ words) →
+        AreDrawn setting left (noted seat numbered x.past (es ++ fs) ++ starts) (told draws x.held (cs ++ ds) ++ words)
+    drawn_both left starts words rest =
         let n : noted seat numbered x.past (es ++ fs) ++ starts ≡ noted seat numbered x.past es ++ (noted seat numbered y.past fs ++ starts) =
         ap (λ l. l ++ starts) (noted_both numbered) ∙ append_assoc (noted seat numbered x.past es) (noted seat numbered y.past fs) starts in
         let t : told draws x.held (cs ++ ds) ++ words ≡ told draws x.held cs ++ (told draws y.held ds ++ words) =
         ap (λ l. l ++ words) (told_both draws setting seat x y es cs ds p.within.agrees) ∙ append_assoc (told draws x.held cs) (told draws y.held ds) words in
-        subst (λ l. AreDrawn setting l (told draws x.held (cs ++ ds) ++ words)) (sym n)
-        (subst (λ l. AreDrawn setting (noted seat numbered x.past es ++ (noted seat numbered y.past fs ++ starts)) l) (sym t) (p.drawn (noted seat numbered y.past fs ++ starts) (told draws y.held ds ++ words) rest))
+        subst (λ l. AreDrawn setting left l (told draws x.held (cs ++ ds) ++ words)) (sym n)
+        (subst (λ l. AreDrawn setting left (noted seat numbered x.past es ++ (noted seat numbered y.past fs ++ starts)) l) (sym t)
+        (p.drawn left (noted seat numbered y.past fs ++ starts) (told draws y.held ds ++ words) rest))
+
+    -- the same of the whole
+    drawn_whole : (left : ℕ → Bool) → AreDrawn setting left (noted seat numbered y.past fs) (told draws y.held ds) → AreDrawn setting left (noted seat numbered x.past (es ++ fs)) (told draws x.held (cs ++ ds))
+    drawn_whole left rest =
+        without_nil left setting (noted seat numbered x.past (es ++ fs)) (told draws x.held (cs ++ ds))
+        (drawn_both left [] [] (rw (append-nil (noted seat numbered y.past fs), append-nil (told draws y.held ds)) rest))
 
     start_later : (server : ℕ) → list_any (is_start_to server) x.past ≡ true → list_any (is_start_to server) y.past ≡ true
     start_later server h = subst (λ q. list_any (is_start_to server) q ≡ true) (sym p.within.agrees.past_is) (start_stays server x.past es h)
-
-  without_nil : (setting : Setting) (starts : List Numbered) (words : List ℕ) → AreDrawn setting (starts ++ []) (words ++ []) → AreDrawn setting starts words
-  without_nil setting starts words h = subst (λ l. AreDrawn setting l words) (append-nil starts) (subst (λ l. AreDrawn setting (starts ++ []) l) (append-nil words) h)
 
   pub begins_more : (count : ℕ) (a b c : State) → Goes (Begins reading count) a b → Goes (Begins reading 1) b c → Goes (Begins reading (count + 1)) a c
   begins_more count a b c = goes_joined (Begins reading count) (Begins reading 1) (Begins reading (count + 1))
       (λ setting seat x y z es fs cs ds p q. record {
         within = within_joined reading starting setting seat 0 0 count 0 0 1 x y z es fs cs ds p.within q.within;
-        drawn = λ starts words rest. drawn_both count setting seat x y es fs cs ds p starts words (q.drawn starts words rest);
+        drawn = λ left starts words rest. drawn_both count setting seat x y es fs cs ds p left starts words (q.drawn left starts words rest);
         served = served_both count setting seat x y es fs cs ds p q.served;
         served_first = first_both count setting seat x y es fs cs ds p q.served_first q.told_new;
         told_new = λ server before.
@@ -420,14 +436,13 @@ module _ (reading : ℕ) where
       (λ setting seat x y z es fs cs ds p q.
       let both = within_joined reading starting setting seat 0 0 count 0 0 0 x y z es fs cs ds p.within q.begins in
       let counts = counts_as seat (es ++ fs) (cs ++ ds) 0 0 (count + 0) 0 0 count refl refl (add-zero count) both.counts in
-      let none_here : AreDrawn setting (noted seat numbered y.past fs ++ []) (told draws y.held ds ++ []) = rw q.no_start tt in
+      let looked : AreDrawn setting (λ left. left == words_of_look setting) (noted seat numbered y.past fs) (told draws y.held ds) = rw q.no_start q.drawn in
       record {
         made = record {
           agrees = both.agrees;
           alone = both.alone;
-          all = inl q.none;
+          all = inl (q.none, drawn_whole count setting seat x y es fs cs ds p (λ left. left == words_of_look setting) looked);
           few = rw counts.started_are few;
-          drawn = without_nil setting (noted seat numbered x.past (es ++ fs)) (told draws x.held (cs ++ ds)) (drawn_both count setting seat x y es fs cs ds p [] [] none_here);
           served = served_both count setting seat x y es fs cs ds p q.served;
           served_first = first_both count setting seat x y es fs cs ds p q.served_first (λ server h. rw q.served_none refl);
         };
@@ -442,9 +457,8 @@ module _ (reading : ℕ) where
         made = record {
           agrees = p.within.agrees;
           alone = p.within.alone;
-          all = inr counts.started_are;
+          all = inr (counts.started_are, without_nil (λ left. left == 0) setting (noted seat numbered x.past es) (told draws x.held cs) (p.drawn (λ left. left == 0) [] [] refl));
           few = rw counts.started_are (omega arith);
-          drawn = without_nil setting (noted seat numbered x.past es) (told draws x.held cs) (p.drawn [] [] tt);
           served = p.served;
           served_first = p.served_first;
         };
@@ -455,15 +469,13 @@ module _ (reading : ℕ) where
   begins_stop count few a b c = stops_joined (Begins reading count) (CutBeginning reading) (CutPart reading starting)
       (λ setting seat x y es fs cs ds p q.
       let both = nearly_joined reading starting setting seat 0 0 count x y es fs cs ds p.within q.within in
-      let drawn_here : AreDrawn setting (noted seat numbered y.past fs ++ []) (told draws y.held ds ++ []) = rw (append-nil (noted seat numbered y.past fs), append-nil (told draws y.held ds)) q.drawn in
       record {
         nearly = both.nearly;
         alone = both.alone;
         by_rule = (
           rw (started-append seat es fs, p.within.counts.started_are) (omega (arith, few, q.few)),
-          without_nil setting (noted seat numbered x.past (es ++ fs)) (told draws x.held (cs ++ ds)) (drawn_both count setting seat x y es fs cs ds p [] [] drawn_here),
-          subst (λ l. IsNear serves x.held (cs ++ ds) l) (sym (noted_both count setting seat x y es fs cs ds p (served_by setting)))
-              (near_joined serves setting seat x y es cs ds p.within.agrees (noted seat (served_by setting) x.past es) (noted seat (served_by setting) y.past fs) p.served q.served),
+          drawn_whole count setting seat x y es fs cs ds p (λ left. nat_le left (words_of_look setting)) q.drawn,
+          lacks_server reading setting seat x (es ++ fs) (cs ++ ds) (serves_behind setting seat x y es fs cs ds p.within.agrees p.served p.sent q.served),
           first_both count setting seat x y es fs cs ds p q.served_first q.told_new,
         );
       }) a b c

@@ -1,13 +1,12 @@
 -- Calls of a desk, one behind the other, with the entries that came between.
-use Rattle.std.proofs.Common.{◌≡◌, ◌≢◌, ◌∙◌, ℕ, ◌==◌, true, List, [], ◌∷◌, ◌++◌, Option, None, Some, refl, ap, ap₂, sym, subst, ne_eqb, eq-eqb}
+use Rattle.std.proofs.Common.{◌≡◌, ◌≢◌, ◌∙◌, ℕ, ◌==◌, true, List, [], ◌∷◌, ◌++◌, Some, refl, ap, ap₂, sym, subst}
 use Rattle.std.proofs.lemmas.List.{append-nil, append_assoc}
 use Rattle.std.proofs.lemmas.Bool.{and_from}
-use Rattle.std.proofs.lemmas.List.Elements.{filter-append}
 use Rattle.std.proofs.lemmas.List.Folds.{list_all-append}
 use Rattle.std.specs.List.{AllByRecursion, list_all}
 use Rattle.chan_types.specs.declared.journal.Entry.{Entry}
 use Rattle.chan_types.specs.declared.journal.What.{What}
-use Rattle.channel_model.proofs.Theorems.{calls_stretch}
+use Rattle.channel_model.proofs.Theorems.{calls_stretch, own-append, own-others, own_added}
 use Rattle.channel_model.specs.Journal.{own_entries}
 use Rattle.channel_model.specs.Known.{Calls, GoesOn, IsSameDesk, Known}
 use Rattle.channel_model.specs.Lawful.{IsLawful}
@@ -30,9 +29,6 @@ goes_of old new entries t = record { desk = t.desk; since = entries; seen = t.se
 -- and what goes on went on by some entries
 pub trail_of : (old new : Known) (goes : GoesOn old new) → Trail old new goes.since
 trail_of old new goes = record { desk = goes.desk; seen = goes.seen; lawful = goes.lawful; own = goes.own }
-
-pub own-append : (seat : ℕ) (es fs : List Entry) → own_entries seat (es ++ fs) ≡ own_entries seat es ++ own_entries seat fs
-own-append seat es fs = filter-append (λ (entry : Entry). entry.seat == seat) es fs
 
 -- nothing was done
 pub trail_none : (known : Known) → Trail known known []
@@ -67,16 +63,6 @@ trail_trans a b c es fs x y = record {
       ∙ append_assoc a.own (own_entries a.seat es) (own_entries a.seat fs)
       ∙ ap (λ l. a.own ++ l) (sym (own-append a.seat es fs));
 }
-
--- entries of other seats are none of the seat's own
-pub own-others : (seat : ℕ) (os : List Entry) → AllByRecursion (λ entry. entry.seat ≢ seat) os → own_entries seat os ≡ []
-own-others seat [] others = refl
-own-others seat (o ∷ os) others = rw (ne_eqb o.seat seat others.0) (own-others seat os others.1)
-
--- what a call of a desk adds is its own
-pub own_added : (seat by : ℕ) (added : Option What) → own_entries seat (entries_of seat by added) ≡ entries_of seat by added
-own_added seat by None = refl
-own_added seat by (Some what) = rw (eq-eqb seat seat refl) refl
 
 -- entries that were made in turns, and others
 pub made_trans : (a b : Known) (es fs : List Entry) → b.seat ≡ a.seat → AreMadeInTurns a.seat es → AreMadeInTurns b.seat fs → AreMadeInTurns a.seat (es ++ fs)

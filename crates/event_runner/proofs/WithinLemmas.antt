@@ -9,7 +9,7 @@ use Rattle.std.proofs.lemmas.List.Sums.{sum_by-append}
 use Rattle.chan_types.specs.declared.journal.Entry.{Entry}
 use Rattle.net_world.specs.declared.answers.Got.{Got}
 use Rattle.net_world.specs.declared.log.WorldCall.{WorldCall}
-use Rattle.channel_model.proofs.Theorems.{nearly_behind, agrees_none, agrees_trans}
+use Rattle.channel_model.proofs.Theorems.{nearly_behind, agrees_none, agrees_trans, own-append}
 use Rattle.channel_model.specs.Calls.{received_by}
 use Rattle.channel_model.specs.Flight.{begun_by}
 use Rattle.channel_model.specs.Journal.{own_entries}
@@ -17,7 +17,6 @@ use Rattle.channel_model.specs.Setting.{Setting}
 use Rattle.channel_model.specs.Stretch.{Standing}
 use Rattle.channel_model.specs.Turn.{Part, are_of, expired_in, is_among, is_at, is_expire, is_nothing, parts_of_call, parts_of_entry, received_in, started_in}
 use Rattle.event_runner.specs.Parts.{Counts, NearlyWithin, Within}
-use Rattle.event_runner.proofs.TrailLemmas.{own-append}
 
 -- all is of the part in both
 pub alone_joined : (part : Part) (seat reading : ℕ) (es fs : List Entry) (cs ds : List WorldCall) →

@@ -13,7 +13,7 @@ use Rattle.net_world.specs.declared.log.WorldCall.{WorldCall}
 use Rattle.net_world.specs.declared.log.WorldCall.TheVariants.{Close, Write}
 use Rattle.channel_model.proofs.Theorems.{agrees_nearly, flight-cases, agrees_written, AreOthers, agrees_step, noted-others, noted-own}
 use Rattle.channel_model.proofs.Theorems.{without_taken}
-use Rattle.channel_model.specs.Adding.{Row, link_of_row}
+use Rattle.channel_model.specs.KeptLinks.{Row, link_of_row}
 use Rattle.channel_model.specs.Calls.{Writing}
 use Rattle.channel_model.specs.Journal.{followed_by}
 use Rattle.channel_model.specs.Known.{Calls, Known}
@@ -21,7 +21,7 @@ use Rattle.channel_model.specs.Links.{held_after, held_link, told, without_link}
 use Rattle.channel_model.specs.Meanings.{Fails, Meaning}
 use Rattle.channel_model.specs.Setting.{Setting}
 use Rattle.channel_model.specs.Stretch.{Agrees, Standing}
-use Rattle.channel_model.specs.Traffic.{arrived, asked, connects, datagrams, faulted, faults, is_start_on, messages, noted, noticed, notices, opened, queued}
+use Rattle.channel_model.specs.Traffic.{arrived, asked, faulted, faults, is_start_on, noted, noticed, notices, opened, queued}
 use Rattle.channel_model.specs.Turn.{closes_made, last_took_nothing, losses, writes_astray, writing, wrotes}
 use Rattle.event_runner.specs.Goes.{Break, Goes, Leads, Leaves, Stops, Stretch}
 use Rattle.event_runner.specs.Parts.{CutWriting, FlushEnds, Flushes, Writes, WritesTo, is_done}
@@ -262,15 +262,15 @@ module _ (reading : ℕ) where
         (λ os others idle from sound. record {
           within = record {
             nearly = record {
-              arrivals = stops_before messages from.held failing (noted a.known.seat arrived from.past os) (noted-others a.known.seat arrived from.past os others);
-              sends = stops_before datagrams from.held failing (noted a.known.seat (asked a.known.setting) from.past os) (noted-others a.known.seat (asked a.known.setting) from.past os others);
-              links = stops_before connects from.held failing (noted a.known.seat opened from.past os) (noted-others a.known.seat opened from.past os others);
+              arrivals = inl (noted-others a.known.seat arrived from.past os others);
+              sends = inl (noted-others a.known.seat (asked a.known.setting) from.past os others);
+              links = inl (noted-others a.known.seat opened from.past os others);
               writes = λ k. (
                 from.unwritten k ++ noted a.known.seat (queued a.known.setting k) from.past os,
                 ap (λ l. l ++ (from.unwritten k ++ noted a.known.seat (queued a.known.setting k) from.past os)) (none_written k row.unwritten [] refl),
               );
               faults_are = stops_before faults from.held failing (noted a.known.seat faulted from.past os) (noted-others a.known.seat faulted from.past os others);
-              in_order = stops_before notices from.held failing (noted a.known.seat (noticed a.known.setting) from.past os) (noted-others a.known.seat (noticed a.known.setting) from.past os others);
+              in_order = inl (stops_before notices from.held failing (noted a.known.seat (noticed a.known.setting) from.past os) (noted-others a.known.seat (noticed a.known.setting) from.past os others));
             };
             alone = rw (own_none a.known.seat os others) refl;
           };
@@ -296,7 +296,7 @@ module _ (reading : ℕ) where
                 ap (λ l. l ++ (from.unwritten k ++ noted a.known.seat (queued a.known.setting k) from.past (os ++ entry ∷ []))) (none_written k row.unwritten [] refl),
               );
               faults_are = inl (noted-own a.known.seat faulted from.past os entry others refl ∙ rw (held_here from sound) refl);
-              in_order = inl (noted-own a.known.seat (noticed a.known.setting) from.past os entry others refl ∙ rw (held_here from sound) refl);
+              in_order = inl (inl (noted-own a.known.seat (noticed a.known.setting) from.past os entry others refl ∙ rw (held_here from sound) refl));
             };
             alone = rw (mine, eq-eqb reading reading refl) refl;
           };

@@ -1,12 +1,12 @@
 -- What the parts of a turn do, call by call, and what they have done as a whole.
 use Rattle.std.specs.List.{list_all, list_any}
-use Rattle.std.specs.Prelude.{Bool, Err, IsFalse, IsTrue, List, Ok, Option, Result, [], false, length, not, take, true, ℕ, ◌++◌, ◌+◌, ◌==◌, ◌||◌, ◌∷◌, ◌≡◌, ◌≤◌, ⊤}
+use Rattle.std.specs.Prelude.{Bool, Err, IsFalse, IsTrue, List, Ok, Option, Result, [], false, length, nat_le, not, take, true, ℕ, ◌++◌, ◌+◌, ◌==◌, ◌||◌, ◌∷◌, ◌≡◌, ◌≤◌, ◌⊎◌, ⊤}
 use mathlib.Core.List.{IsPrefix}
 use Rattle.chan_types.specs.declared.journal.Entry.{Entry}
 use Rattle.net_world.specs.declared.answers.Got.TheVariants.{Nothing}
 use Rattle.net_world.specs.declared.log.WorldCall.{WorldCall}
-use Rattle.channel_model.specs.CutShort.{IsNear, NearlyAgrees}
-use Rattle.channel_model.specs.Adding.{Row}
+use Rattle.channel_model.specs.CutShort.{HasOneMore, NearlyAgrees}
+use Rattle.channel_model.specs.KeptLinks.{Row}
 use Rattle.channel_model.specs.Known.{Known}
 use Rattle.channel_model.specs.Links.{Link, told}
 use Rattle.item_list.specs.declared.no_memory.NoMemory.{NoMemory}
@@ -18,7 +18,7 @@ use Rattle.event_runner.specs.State.{Gets, State}
 use Rattle.channel_model.specs.Setting.{Setting}
 use Rattle.channel_model.specs.Stretch.{Agrees, Standing}
 use Rattle.channel_model.specs.Traffic.{noted}
-use Rattle.channel_model.specs.Turn.{AreDrawn, HasMade, NoneStarts, Numbered, Part, WasCut, are_of, are_served_first, closes_held, closes_made, closing, draws, expired_in, is_busy, is_flushed, is_looked_at, is_nothing, is_sent_to, is_start_to, last_took_nothing, losses, numbered, receiving, received_in, receives, served_by, serves, started_in, starting, writes_astray, writing, wrotes}
+use Rattle.channel_model.specs.Turn.{AreDrawn, DrawsForStarts, HasMade, NoneStarts, Numbered, Part, WasCut, are_of, are_served_first, closes_held, closes_made, closing, draws, expired_in, is_busy, is_flushed, is_looked_at, is_nothing, is_sent_to, is_start_to, last_took_nothing, losses, numbered, receiving, received_in, receives, served_by, serves, started_in, starting, words_of_look, writes_astray, writing, wrotes}
 
 -- how much these entries and calls received, let expire and started
 pub record Counts (seat : ℕ) (entries : List Entry) (calls : List WorldCall) (received expired started : ℕ) : Type 0 where
@@ -30,6 +30,14 @@ pub record Counts (seat : ℕ) (entries : List Entry) (calls : List WorldCall) (
 abbrev pub words_of : Bool → ℕ → ℕ → List ℕ
 words_of true word bits = word ∷ bits ∷ []
 words_of false word bits = word ∷ []
+
+-- the later servers are told; or the last of them isn't, and then it had no Start before, and nothing was sent to it
+abbrev pub NearlyServes : Setting → ℕ → Standing → List Entry → List WorldCall → Type 0
+NearlyServes setting seat old entries calls =
+    (noted seat (served_by setting) old.past entries ≡ told serves old.held calls)
+    ⊎ ((more : HasOneMore (noted seat (served_by setting) old.past entries) (told serves old.held calls))
+    × IsTrue (list_all (λ call. not (is_sent_to more.last.key call)) calls)
+    × IsFalse (list_any (is_start_to more.last.key) old.past))
 
 module _ (reading : ℕ) where
   -- a part was made whole, and did so much
@@ -47,7 +55,7 @@ module _ (reading : ℕ) where
     pub alone : IsTrue (are_of part seat reading entries calls)
     pub counts : Counts seat entries calls received expired started
 
-  -- within a part, journal and log are one call apart at most, and all is of the part
+  -- within a part, journal and log agree but for what want of memory cut off at its end, and all is of the part
   pub record NearlyWithin (part : Part) (setting : Setting) (seat : ℕ) (old : Standing) (entries : List Entry) (calls : List WorldCall) : Type 0 where
     pub nearly : NearlyAgrees setting seat old entries calls
     pub alone : IsTrue (are_of part seat reading entries calls)
@@ -80,7 +88,8 @@ module _ (reading : ℕ) where
   -- so many attempts are begun: each has its identifier and its bits by its own words, and the later servers are told before the first attempt on them
   pub record Begins (count : ℕ) (setting : Setting) (seat : ℕ) (old : Standing) (entries : List Entry) (calls : List WorldCall) (new : Standing) : Type 0 where
     pub within : Within starting 0 0 count setting seat old entries calls new
-    pub drawn : (starts : List Numbered) (words : List ℕ) → AreDrawn setting starts words → AreDrawn setting (noted seat numbered old.past entries ++ starts) (told draws old.held calls ++ words)
+    pub drawn : (left : ℕ → Bool) (starts : List Numbered) (words : List ℕ) → AreDrawn setting left starts words →
+        AreDrawn setting left (noted seat numbered old.past entries ++ starts) (told draws old.held calls ++ words)
     pub served : noted seat (served_by setting) old.past entries ≡ told serves old.held calls
     pub served_first : IsTrue (are_served_first calls)
     -- the servers that are told had no Start before, and what is sent goes to servers that have one by then
@@ -90,7 +99,8 @@ module _ (reading : ℕ) where
   -- the query of one attempt is asked, which was begun with these words: its server is told first, where it has to be
   pub record Asks (word bits : ℕ) (setting : Setting) (seat : ℕ) (old : Standing) (entries : List Entry) (calls : List WorldCall) (new : Standing) : Type 0 where
     pub within : Within starting 0 0 1 setting seat old entries calls new
-    pub drawn : (starts : List Numbered) (words : List ℕ) → AreDrawn setting starts words → AreDrawn setting (noted seat numbered old.past entries ++ starts) (words_of setting.options.flags.mix word bits ++ words)
+    pub drawn : (left : ℕ → Bool) (starts : List Numbered) (words : List ℕ) → AreDrawn setting left starts words →
+        AreDrawn setting left (noted seat numbered old.past entries ++ starts) (words_of setting.options.flags.mix word bits ++ words)
     pub no_word : told draws old.held calls ≡ []
     pub served : noted seat (served_by setting) old.past entries ≡ told serves old.held calls
     pub served_first : IsTrue (are_served_first calls)
@@ -101,17 +111,19 @@ module _ (reading : ℕ) where
   pub record CutAsking (word bits : ℕ) (setting : Setting) (seat : ℕ) (old : Standing) (entries : List Entry) (calls : List WorldCall) : Type 0 where
     pub within : NearlyWithin starting setting seat old entries calls
     pub few : started_in seat entries ≤ 1
-    pub drawn : AreDrawn setting (noted seat numbered old.past entries) (words_of setting.options.flags.mix word bits)
+    pub drawn : AreDrawn setting (λ left. nat_le left (words_of_look setting)) (noted seat numbered old.past entries)
+        (words_of setting.options.flags.mix word bits)
     pub no_word : told draws old.held calls ≡ []
-    pub served : IsNear serves old.held calls (noted seat (served_by setting) old.past entries)
+    pub served : NearlyServes setting seat old entries calls
     pub served_first : IsTrue (are_served_first calls)
     pub told_new : (server : ℕ) → IsTrue (list_any (is_start_to server) old.past) → IsTrue (list_all (λ key. not (key.key == server)) (told serves old.held calls))
 
-  -- no attempt is begun, since none can start; words are drawn
+  -- no attempt is begun, since none can start: the words are drawn of the look that finds this
   pub record BeginsNone (setting : Setting) (seat : ℕ) (old : Standing) (entries : List Entry) (calls : List WorldCall) (new : Standing) : Type 0 where
     pub begins : Within starting 0 0 0 setting seat old entries calls new
     pub none : NoneStarts setting new.past
     pub no_start : noted seat numbered old.past entries ≡ []
+    pub drawn : IsTrue (length (told draws old.held calls) == words_of_look setting)
     pub served : noted seat (served_by setting) old.past entries ≡ told serves old.held calls
     pub served_none : told serves old.held calls ≡ []
     pub served_first : IsTrue (are_served_first calls)
@@ -125,8 +137,8 @@ module _ (reading : ℕ) where
   pub record CutBeginning (setting : Setting) (seat : ℕ) (old : Standing) (entries : List Entry) (calls : List WorldCall) : Type 0 where
     pub within : NearlyWithin starting setting seat old entries calls
     pub few : started_in seat entries ≤ 1
-    pub drawn : AreDrawn setting (noted seat numbered old.past entries) (told draws old.held calls)
-    pub served : IsNear serves old.held calls (noted seat (served_by setting) old.past entries)
+    pub drawn : DrawsForStarts setting seat reading (λ left. nat_le left (words_of_look setting)) old entries calls
+    pub served : NearlyServes setting seat old entries calls
     pub served_first : IsTrue (are_served_first calls)
     -- the servers that are told had no Start before
     pub told_new : (server : ℕ) → IsTrue (list_any (is_start_to server) old.past) → IsTrue (list_all (λ key. not (key.key == server)) (told serves old.held calls))

@@ -8,7 +8,7 @@ use Rattle.net_world.specs.declared.answers.Waited.{Waited}
 use Rattle.net_world.specs.declared.answers.Waited.TheVariants.{Failed as NotWaited, Woken as WasWoken}
 use Rattle.net_world.specs.declared.log.WorldCall.{WorldCall}
 use Rattle.net_world.specs.declared.log.WorldCall.TheVariants.{Wait}
-use Rattle.channel_model.specs.Adding.{Row}
+use Rattle.channel_model.specs.KeptLinks.{Row}
 use Rattle.channel_model.specs.Course.{serves_from, skips}
 use Rattle.channel_model.specs.Journal.{Past, past_of}
 use Rattle.channel_model.specs.Known.{GoesOn, Known}

@@ -5,7 +5,7 @@ use Rattle.item_list.specs.declared.no_memory.NoMemory.{NoMemory}
 use Rattle.net_world.specs.declared.log.WorldCall.{WorldCall}
 use Rattle.net_world.specs.declared.log.WorldCall.TheVariants.{Serve, Word}
 use Rattle.net_addr.specs.declared.addr.ServerAddr.{ServerAddr}
-use Rattle.channel_model.specs.Adding.{Fits, Row}
+use Rattle.channel_model.specs.KeptLinks.{Fits, Row}
 use Rattle.channel_model.specs.Course.{is_of_turn}
 use Rattle.channel_model.specs.Known.{Known}
 use Rattle.channel_model.specs.Servers.{has_key, opening_servers}

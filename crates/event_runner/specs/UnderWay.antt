@@ -1,5 +1,6 @@
 -- A run under way: where it stands between two calls of its runner, and how far it has come behind its last turn.
-use Rattle.std.specs.Prelude.{Bool, IsTrue, List, MatchOption, None, Option, Some, is_none, is_some, length, map, not, true, ℕ, ◌&&◌, ◌++◌, ◌==◌, ◌||◌, ◌≡◌, ◌≤◌}
+use Rattle.std.specs.Prelude.{Bool, IsTrue, List, None, Option, is_none, is_some, length, map, not, true, ℕ, ◌&&◌, ◌==◌, ◌||◌, ◌≡◌, ◌≤◌}
+use Rattle.net_world.specs.Logs.{LogGets}
 use Rattle.net_world.specs.declared.log.WorldCall.{WorldCall}
 use Rattle.channel_model.specs.Completion.{ready}
 use Rattle.channel_model.specs.Course.{IsCourse, IsCourseSoFar, Round, goes_on, skips, standing_after}
@@ -55,11 +56,7 @@ pub record IsUnderWay (slice turns asides : ℕ) (reach : Reach) (known : Known)
   -- what the runner keeps is as the course's end has it
   pub holds : Holds (run_of known running None) (standing_after (behind beginning course.first) course.rounds)
 
--- a log that is told goes on with calls of this kind
-abbrev pub LogGets : (List WorldCall → Type 0) → Option (List WorldCall) → Option (List WorldCall) → Type 0
-LogGets kind old new = MatchOption old (new ≡ None) (λ earlier. (calls : List WorldCall) × (new ≡ Some (earlier ++ calls)) × kind calls)
-
--- the same of a log that is told since the run began, where no other seat makes entries of turns
+-- the same of a log that is told, with the calls that it got since the run began, where no other seat makes entries of turns
 abbrev pub RunsSince : ℕ → ℕ → ℕ → Reach → Known → Running → Option (List WorldCall) → Option (List WorldCall) → Type 0
 RunsSince slice turns asides reach known running log_old log_new =
     LogGets (λ calls. IsTurnOwner known → IsUnderWay slice turns asides reach known running calls) log_old log_new

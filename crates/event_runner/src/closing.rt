@@ -22,6 +22,7 @@ pub fn close_idle<D: Desk, W: World>(
         (state_of (D.known desk.old) kept.old (W.log world.old))
         (state_of (D.known desk.new) kept.new (W.log world.new)) }
     ensures waits { W.wait_faults world.new ≡ W.wait_faults world.old }
+    ensures origin { W.origin world.new ≡ W.origin world.old }
 {
     let mut index = 0;
     while index < kept.links.len() {
@@ -47,6 +48,7 @@ fn look_at<D: Desk, W: World>(
     ensures left { IfOk result (λ stays. MatchBool stays (vec_len kept.new.links
         ≡ vec_len kept.old.links) (vec_len kept.new.links + 1 ≡ vec_len kept.old.links)) }
     ensures waits { W.wait_faults world.new ≡ W.wait_faults world.old }
+    ensures origin { W.origin world.new ≡ W.origin world.old }
 {
     let link = &kept.links[index];
     let number = link.number();

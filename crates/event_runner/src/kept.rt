@@ -1,7 +1,7 @@
 //! What a runner keeps of the network from turn to turn.
 
 ghost use Rattle.std.specs.Prelude.{◌≡◌, MatchOption, map};
-ghost use Rattle.channel_model.specs.Adding.{link_of_row};
+ghost use Rattle.channel_model.specs.KeptLinks.{link_of_row};
 ghost use Rattle.channel_model.specs.Links.{held_link};
 ghost use Rattle.event_runner.specs.Rows.{IsAt};
 

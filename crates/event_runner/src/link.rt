@@ -22,7 +22,7 @@ pub struct HeldLink {
 }
 
 impl Model for HeldLink {
-    ghost use Rattle.channel_model.specs.Adding.{Row};
+    ghost use Rattle.channel_model.specs.KeptLinks.{Row};
 
     ghost Value = { Row };
 

@@ -25,6 +25,7 @@ pub fn pause_once<D: Desk, W: World>(
     ensures wait_fault { result ≡ Ok Paused.WaitFault
         → Rose (W.wait_faults world.old) (W.wait_faults world.new) }
     ensures waits { W.wait_faults world.old ≤ W.wait_faults world.new }
+    ensures origin { W.origin world.new ≡ W.origin world.old }
 {
     if skips(&desk.counts()) {
         return Ok(Paused::Skipped);

@@ -31,6 +31,7 @@ pub fn receive_all<D: Desk, W: World>(
         (CutPart reading receiving) result (state_of (D.known desk.old) kept.old (W.log world.old))
         (state_of (D.known desk.new) kept.new (W.log world.new)) }
     ensures waits { W.wait_faults world.new ≡ W.wait_faults world.old }
+    ensures origin { W.origin world.new ≡ W.origin world.old }
 {
     for received in 0..MOST {
         if !receive_one(desk, world, kept, reading)? {
@@ -51,6 +52,7 @@ fn receive_one<D: Desk, W: World>(
         (state_of (D.known desk.old) kept.old (W.log world.old))
         (state_of (D.known desk.new) kept.new (W.log world.new)) }
     ensures waits { W.wait_faults world.new ≡ W.wait_faults world.old }
+    ensures origin { W.origin world.new ≡ W.origin world.old }
 {
     match world.receive()? {
         Got::Datagram(server, bytes) => {
@@ -101,6 +103,7 @@ fn take_end<D: Desk, W: World>(
         (state_of (D.known desk.old) kept.old before)
         (state_of (D.known desk.new) kept.new (W.log world.new)) }
     ensures waits { W.wait_faults world.new ≡ W.wait_faults world.old }
+    ensures origin { W.origin world.new ≡ W.origin world.old }
 {
     match find_link(&kept.links, number) {
         Some(index) => {
@@ -129,6 +132,7 @@ fn take_failure<D: Desk, W: World>(
         (state_of (D.known desk.old) kept.old before)
         (state_of (D.known desk.new) kept.new (W.log world.new)) }
     ensures waits { W.wait_faults world.new ≡ W.wait_faults world.old }
+    ensures origin { W.origin world.new ≡ W.origin world.old }
 {
     match find_link(&kept.links, number) {
         Some(index) => {

@@ -49,6 +49,7 @@ impl Runner {
         ensures fresh { IfOk result (λ runner. runner
             ≡ record runner { reading = 0; broken = false; rows = []; mix = options.now.flags.mix }) }
         ensures waits { W.wait_faults world.new ≡ W.wait_faults world.old }
+        ensures origin { W.origin world.new ≡ W.origin world.old }
     {
         let told = tell_all(alloc, world, options.servers().as_slice())?;
         Ok(Runner {
@@ -81,6 +82,7 @@ impl Runner {
             → IsTrue (is_err result) × (D.known desk.new ≡ D.known desk.old)
             × (W.log world.new ≡ W.log world.old) }
         ensures waits { W.wait_faults world.new ≡ W.wait_faults world.old }
+        ensures origin { W.origin world.new ≡ W.origin world.old }
     {
         if self.broken {
             return Err(NoMemory);
@@ -109,6 +111,7 @@ impl Runner {
             → IsTrue (is_err result) × (D.known desk.new ≡ D.known desk.old)
             × (W.log world.new ≡ W.log world.old) }
         ensures waits { W.wait_faults world.old ≤ W.wait_faults world.new }
+        ensures origin { W.origin world.new ≡ W.origin world.old }
     {
         if self.broken {
             return Err(NoMemory);

@@ -26,6 +26,7 @@ pub fn start_all<D: Desk, W: World>(
         (CutPart reading starting) result (state_of (D.known desk.old) kept.old (W.log world.old))
         (state_of (D.known desk.new) kept.new (W.log world.new)) }
     ensures waits { W.wait_faults world.new ≡ W.wait_faults world.old }
+    ensures origin { W.origin world.new ≡ W.origin world.old }
 {
     for started in 0..MOST {
         if !start_one(desk, world, kept, reading)? {
@@ -46,6 +47,7 @@ fn start_one<D: Desk, W: World>(
         (state_of (D.known desk.old) kept.old (W.log world.old))
         (state_of (D.known desk.new) kept.new (W.log world.new)) }
     ensures waits { W.wait_faults world.new ≡ W.wait_faults world.old }
+    ensures origin { W.origin world.new ≡ W.origin world.old }
 {
     let word = world.word()?;
     let bits = draw_bits(world, kept.mix)?;
@@ -78,6 +80,7 @@ fn start_one<D: Desk, W: World>(
 fn draw_bits<W: World>(world: &mut W, mix: bool) -> Result<u16, NoMemory>
     ensures draws { Draws mix result (W.log world.old) (W.log world.new) }
     ensures waits { W.wait_faults world.new ≡ W.wait_faults world.old }
+    ensures origin { W.origin world.new ≡ W.origin world.old }
 {
     if mix { world.word() } else { Ok(0) }
 }

@@ -5,6 +5,7 @@ use Rattle.std.specs.List.{list_all}
 use Rattle.std.proofs.lemmas.Bool.{and_parts}
 use Rattle.std.proofs.lemmas.List.Folds.{list_all-append}
 use Rattle.chan_types.specs.declared.journal.Entry.{Entry}
+use Rattle.net_world.specs.Logs.{LogGets}
 use Rattle.net_world.specs.declared.answers.Waited.TheVariants.{Failed as NotWaited, Woken as WasWoken}
 use Rattle.net_world.specs.declared.log.WorldCall.{WorldCall}
 use Rattle.net_world.specs.declared.log.WorldCall.TheVariants.{Wait}
@@ -22,7 +23,7 @@ use Rattle.event_runner.specs.Goes.{Goes, Leads, Leaves, Stops}
 use Rattle.event_runner.specs.Running.{HasWaited, PausesBy, Running, run_of, wakes_by}
 use Rattle.event_runner.specs.State.{Holds, IsTurnOwner}
 use Rattle.event_runner.specs.Turning.{IsCutShort, MakesTurn}
-use Rattle.event_runner.specs.UnderWay.{IsUnderWay, LogGets, RanSince, RunsSince, IsSoFar, following, rested}
+use Rattle.event_runner.specs.UnderWay.{IsUnderWay, RanSince, RunsSince, IsSoFar, following, rested}
 use Rattle.owner_laws.proofs.Owner.{paused_same, waited_same}
 use Rattle.owner_laws.specs.Sessions.{BeginsPending, EndsWithFailedWait, longest_slice}
 use Rattle.owner_laws.proofs.Begun.{IsAsked, begins_behind, begins_here, begins_on}

@@ -1,7 +1,7 @@
 use Rattle.std.proofs.Common.{refl, ◌∙◌, [], ◌∷◌, ap, sym, map}
 use Rattle.net_world.specs.declared.answers.Sent.TheVariants.{Failed as NotSent, Sent as WasSent}
 use Rattle.net_world.specs.declared.log.WorldCall.TheVariants.{Connect}
-use Rattle.channel_model.specs.Adding.{link_of_row}
+use Rattle.channel_model.specs.KeptLinks.{link_of_row}
 use Rattle.channel_model.specs.Links.{held_link}
 use Rattle.event_runner.proofs.CallLemmas.{log_stays, log_trans}
 use Rattle.event_runner.proofs.GoesLemmas.{ends_err}

@@ -7,4 +7,5 @@ pub returns-then-contains : goal.returns-then-contains
 returns-then-contains g c = record {
   tells = λ known. tells_already _ _ _ _ (ap (was_told c.args.server) (sym c.deref.ensures.value) ∙ sym c.contains.ensures.value ∙ c.if-contains.true) refl;
   waits = refl;
+  origin = refl;
 }

@@ -1,5 +1,5 @@
 use Rattle.std.proofs.Common.{◌≡◌, drop, map}
-use Rattle.channel_model.specs.Adding.{link_of_row}
+use Rattle.channel_model.specs.KeptLinks.{link_of_row}
 use Rattle.channel_model.specs.Links.{held_link}
 use Rattle.event_runner.proofs.kept.find_link.Given as goal
 

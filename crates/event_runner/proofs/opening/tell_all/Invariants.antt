@@ -9,4 +9,5 @@ invariant-loop-key g l = record {
   told : l.told.items ≡ map (λ s. s.key) (keyed_from 0 (take l.key l.servers));
   log : g.W.World.log l.world ≡ option_map (λ calls. calls ++ serves_from 0 (take l.key l.servers)) (g.W.World.log l.initial.world);
   waits : g.W.World.wait_faults l.world ≡ g.W.World.wait_faults l.initial.world;
+  origin : g.W.World.origin l.world ≡ g.W.World.origin l.initial.world;
 }

@@ -1,4 +1,4 @@
-use Rattle.std.proofs.Common.{refl, ◌∙◌, [], ◌∷◌}
+use Rattle.std.proofs.Common.{arith, refl, ◌∙◌, [], ◌∷◌}
 use Rattle.event_runner.specs.State.{state_of}
 use Rattle.event_runner.proofs.CallLemmas.{log_stays}
 use Rattle.event_runner.proofs.GoesLemmas.{ends_err}
@@ -6,11 +6,11 @@ use Rattle.event_runner.proofs.StartLemmas.{asks_joined, asks_stop, goes_drawn, 
 use Rattle.event_runner.proofs.starting.start_one.Goals as goal
 
 pub returns-in_err-word-clause-goes : goal.returns-in_err-word-clause-goes
-returns-in_err-word-clause-goes g c = ends_err _ _ _ c.from_residual.ensures.0 _ _ (stops_words c.args.reading _ _ [] refl (c.in_err-word.ensures.log ∙ log_stays _))
+returns-in_err-word-clause-goes g c = ends_err _ _ _ c.from_residual.ensures.0 _ _ (stops_words c.args.reading _ _ [] (omega arith) refl (c.in_err-word.ensures.log ∙ log_stays _))
 
 pub returns-in_err-bits-clause-goes : goal.returns-in_err-bits-clause-goes
 returns-in_err-bits-clause-goes g c =
-    ends_err _ _ _ c.from_residual-in_err-bits.ensures.0 _ _ (stops_words c.args.reading _ _ (c.in_ok-word.word ∷ []) refl (c.in_err-bits.ensures.draws ∙ c.in_ok-word.ensures.log))
+    ends_err _ _ _ c.from_residual-in_err-bits.ensures.0 _ _ (stops_words c.args.reading _ _ (c.in_ok-word.word ∷ []) (omega arith) refl (c.in_err-bits.ensures.draws ∙ c.in_ok-word.ensures.log))
 
 pub returns-in_err-server-clause-goes : goal.returns-in_err-server-clause-goes
 returns-in_err-server-clause-goes g c =

@@ -4,7 +4,7 @@ use Rattle.event_runner.proofs.WriteLemmas.{flush_err, flushed_as, goes_empty, g
 use Rattle.event_runner.proofs.writing.flush.Goals as goal
 
 pub loop-world-init : goal.loop-world-init
-loop-world-init g c = record { goes = λ reading known before after keys mix. to_none reading _ _; number = refl; server = refl; waits = refl }
+loop-world-init g c = record { goes = λ reading known before after keys mix. to_none reading _ _; number = refl; server = refl; waits = refl; origin = refl }
 
 pub returns-in_err-write-clause-goes : goal.returns-in_err-write-clause-goes
 returns-in_err-write-clause-goes g c = λ reading known before after keys mix.
@@ -29,6 +29,7 @@ loop-world-preserved g c = record {
   number = rw c.wrote.ensures c.loop-world.invariant.number;
   server = rw c.wrote.ensures c.loop-world.invariant.server;
   waits = c.in_ok-write.ensures.wait_cause ∙ c.loop-world.invariant.waits;
+  origin = c.in_ok-write.ensures.origin ∙ c.loop-world.invariant.origin;
 }
 
 pub returns-in-Failed-clause-goes : goal.returns-in-Failed-clause-goes

@@ -1,5 +1,5 @@
 use Rattle.std.proofs.Common.{◌≡◌, length, ℕ, Bool, List}
-use Rattle.channel_model.specs.Adding.{Row}
+use Rattle.channel_model.specs.KeptLinks.{Row}
 use Rattle.channel_model.specs.Known.{Known}
 use Rattle.event_runner.specs.Goes.{Goes}
 use Rattle.event_runner.specs.Parts.{WritesTo, with_row}
@@ -12,6 +12,7 @@ invariant-loop-world g l = record {
   number : l.link.number ≡ l.initial.link.number;
   server : l.link.server ≡ l.initial.link.server;
   waits : g.W.World.wait_faults l.world ≡ g.W.World.wait_faults l.initial.world;
+  origin : g.W.World.origin l.world ≡ g.W.World.origin l.initial.world;
 }
 
 abbrev pub decreases-loop-world : goal.decreases-loop-world
