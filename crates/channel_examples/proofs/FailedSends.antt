@@ -35,13 +35,15 @@ turn =
     (record {
       agrees = record { past_is = refl; held_are = refl; arrivals = refl; sends = refl; links = refl; writes = λ link. refl; faults_are = refl; in_order = refl };
       alone = refl;
-      all = inl (inl refl);
+      all = inl (
+        inl refl,
+        (
+          word_itself setting 7 (past_of (take 1 journal)) refl refl,
+          (word_itself setting 8 (past_of (take 3 journal)) refl refl, (word_itself setting 9 (past_of (take 5 journal)) refl refl, refl)),
+        ),
+      );
       few = omega arith;
       served = refl;
       served_first = refl;
-      drawn = (
-        word_itself setting 7 (past_of (take 1 journal)) refl refl,
-        (word_itself setting 8 (past_of (take 3 journal)) refl refl, (word_itself setting 9 (past_of (take 5 journal)) refl refl, tt)),
-      );
     })
     (nothing_written setting 0 0 (stands 7) refl) (nothing_closed setting 0 0 (stands 7) refl)

@@ -8,13 +8,13 @@ use Rattle.net_world.specs.declared.answers.Sent.TheVariants.{Failed as NotSent}
 use Rattle.net_world.specs.declared.log.WorldCall.{WorldCall}
 use Rattle.net_world.specs.declared.log.WorldCall.TheVariants.{Receive, Send, Word}
 use Rattle.resolv_options.specs.Defaults.{plain_values}
-use Rattle.channel_model.specs.CutShort.{IsNear, NearlyAgrees}
+use Rattle.channel_model.specs.CutShort.{FallsShort, NearlyAgrees, NearlyInOrder}
 use Rattle.channel_model.specs.Journal.{past_of}
 use Rattle.channel_model.specs.Links.{told}
 use Rattle.channel_model.specs.Merge.{bare}
 use Rattle.channel_model.specs.Setting.{Setting}
 use Rattle.channel_model.specs.Stretch.{Standing, behind}
-use Rattle.channel_model.specs.Traffic.{Notice, arrived, asked, datagrams, faulted, faults, messages, noted, notices, of_fault, of_message}
+use Rattle.channel_model.specs.Traffic.{Notice, arrived, asked, datagrams, faulted, faults, messages, noted, of_fault, of_message}
 use Rattle.channel_model.specs.Turn.{receiving, HasReceived, HasStarted, WasCut}
 use Rattle.channel_examples.specs.SecondReply.{journal, setting}
 use Rattle.channel_examples.specs.Words.{accepts, ask_x, channel_with, fate_in, good_reply, journal_of, one_server}
@@ -85,7 +85,7 @@ fault_left_out = record {
   sends = inl refl;
   links = inl refl;
   writes = λ link. ([], refl);
-  faults_are = inr (inr (record {
+  faults_are = inr (record {
     earlier = Receive (Datagram 0 (good_reply 7)) ∷ [];
     last = Receive (LinkFailed 0 0);
     later = [];
@@ -93,8 +93,8 @@ fault_left_out = record {
     quiet = refl;
     reached = ([], refl);
     not_passed = (record { server = 0; link = 0 } ∷ [], refl);
-  }));
-  in_order = inr (inr (record {
+  });
+  in_order = inl (inr (record {
     earlier = Receive (Datagram 0 (good_reply 7)) ∷ [];
     last = Receive (LinkFailed 0 0);
     later = [];
@@ -106,8 +106,8 @@ fault_left_out = record {
 }
 
 -- the messages by themselves may stop before the reply, since no later call brings one
-pub messages_stop : IsNear messages waiting_for_it.held cut_calls (noted 0 arrived waiting_for_it.past (own (Fault 0 0 1) ∷ []))
-messages_stop = inr (inr (record {
+pub messages_stop : FallsShort messages waiting_for_it.held cut_calls (noted 0 arrived waiting_for_it.past (own (Fault 0 0 1) ∷ []))
+messages_stop = inr (record {
   earlier = [];
   last = Receive (Datagram 0 (good_reply 7));
   later = Receive (LinkFailed 0 0) ∷ [];
@@ -115,16 +115,16 @@ messages_stop = inr (inr (record {
   quiet = refl;
   reached = ([], refl);
   not_passed = (record { server = 0; link = 0; bytes = good_reply 7 } ∷ [], refl);
-}))
+})
 
 -- but the fault isn't noted without the message before it
 pub reply_left_out : WasCut setting 0 1 receiving waiting_for_it (own (Fault 0 0 1) ∷ []) cut_calls → ⊥
 reply_left_out cut = by_cases cut.nearly.in_order
   where
-    by_cases : IsNear notices [] cut_calls (fault_notice ∷ []) → ⊥
-    by_cases (inl same) = cc same
-    by_cases (inr (inl more)) = cc more.is_behind
-    by_cases (inr (inr stops)) = cc stops.not_passed.1
+    by_cases : NearlyInOrder [] cut_calls (fault_notice ∷ []) → ⊥
+    by_cases (inl (inl same)) = cc same
+    by_cases (inl (inr stops)) = cc stops.not_passed.1
+    by_cases (inr more) = cc more.0.is_behind
 
 -- ---- sends that fail
 

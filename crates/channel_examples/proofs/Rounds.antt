@@ -208,7 +208,7 @@ cut = inr (inl (record {
       calls_are = refl;
       one = record { no_entry = refl; no_call = refl; same = refl };
       two = record {
-        nearly = record { arrivals = inl refl; sends = inl refl; links = inl refl; writes = λ link. ([], refl); faults_are = inl refl; in_order = inl refl };
+        nearly = record { arrivals = inl refl; sends = inl refl; links = inl refl; writes = λ link. ([], refl); faults_are = inl refl; in_order = inl (inl refl) };
         alone = refl;
         by_rule = (record { ends = inl (record { items = []; gots_are = refl; no_earlier = refl }); few = omega arith }, ([], refl));
       };

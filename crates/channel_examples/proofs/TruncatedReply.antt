@@ -79,9 +79,8 @@ unfolding NameText.units_of Reading.message_read Reading.question_of Reading.rec
 first_start = record {
   agrees = record { past_is = refl; held_are = refl; arrivals = refl; sends = refl; links = refl; writes = λ link. refl; faults_are = refl; in_order = refl };
   alone = refl;
-  all = inl (inl refl);
+  all = inl (inl refl, (word_itself setting 7 (past_of (take 1 journal)) refl refl, refl));
   few = omega arith;
-  drawn = (word_itself setting 7 (past_of (take 1 journal)) refl refl, tt);
   served = refl;
   served_first = refl;
 }
@@ -104,9 +103,8 @@ unfolding NameText.units_of Reading.message_read Reading.question_of Reading.rec
 second_start = record {
   agrees = record { past_is = refl; held_are = refl; arrivals = refl; sends = refl; links = refl; writes = λ link. refl; faults_are = refl; in_order = refl };
   alone = refl;
-  all = inl (inl refl);
+  all = inl (inl refl, (word_itself setting 8 (past_of (take 3 journal)) refl refl, refl));
   few = omega arith;
-  drawn = (word_itself setting 8 (past_of (take 3 journal)) refl refl, tt);
   served = refl;
   served_first = refl;
 }
@@ -146,7 +144,7 @@ third_turn =
       all = inl (record { items = Piece 1 early ∷ []; gots_are = refl; no_earlier = refl }, omega arith);
       closed = refl;
     })
-    (nothing_expires setting 0 2 (stands 4 (link_with early)) (let later : 2 < 2001 = omega arith in later)) (nothing_starts setting 0 2 (stands 4 (link_with early)) 99 refl)
+    (nothing_expires setting 0 2 (stands 4 (link_with early)) (let later : 2 < 2001 = omega arith in later)) (nothing_starts setting 0 2 (stands 4 (link_with early)) 99 refl refl)
     (nothing_written setting 0 2 (stands 4 (link_with early)) refl) (nothing_closed setting 0 2 (stands 4 (link_with early)) refl)
 
 -- the rest of the frame comes, and the link is closed in the same turn
@@ -162,7 +160,7 @@ fourth_turn =
       all = inl (record { items = Piece 1 late ∷ []; gots_are = refl; no_earlier = refl }, omega arith);
       closed = refl;
     })
-    (nothing_expires setting 0 3 (stands 5 (link_with [])) tt) (nothing_starts setting 0 3 (stands 5 (link_with [])) 99 refl)
+    (nothing_expires setting 0 3 (stands 5 (link_with [])) tt) (nothing_starts setting 0 3 (stands 5 (link_with [])) 99 refl refl)
     (nothing_written setting 0 3 (stands 5 (link_with [])) refl)
     (record {
       agrees = record { past_is = refl; held_are = refl; arrivals = refl; sends = refl; links = refl; writes = λ link. refl; faults_are = refl; in_order = refl };

@@ -1,5 +1,5 @@
 -- Words for worked runs: entries, scripts and orders.
-use Rattle.std.proofs.Common.{◌≡◌, ℕ, ◌/◌, ◌%◌, ◌^◌, List, [], ◌∷◌, false, refl, sym, ap, ◌∙◌, arith, inl}
+use Rattle.std.proofs.Common.{◌≡◌, ℕ, ◌==◌, ◌/◌, ◌%◌, ◌^◌, List, [], ◌∷◌, false, refl, sym, ap, ◌∙◌, arith, inl}
 use Rattle.std.specs.Prelude.{IsTrue, IsFalse}
 use Rattle.std.specs.List.{list_all}
 use Rattle.std.proofs.lemmas.List.{append-nil}
@@ -9,7 +9,7 @@ use Rattle.channel_model.specs.Journal.{Past}
 use Rattle.channel_model.specs.Lawful.{is_used}
 use Rattle.channel_model.specs.Setting.{Setting}
 use Rattle.channel_model.specs.Stretch.{Standing}
-use Rattle.channel_model.specs.Turn.{IsWholeReceive, most_receives, NoneDue, is_flushed, is_looked_at, HasExpired, HasStarted, HasWritten, HasClosed}
+use Rattle.channel_model.specs.Turn.{IsWholeReceive, most_receives, NoneDue, is_flushed, is_looked_at, HasExpired, HasStarted, HasWritten, HasClosed, words_of_look}
 use Rattle.channel_model.specs.Identifiers.{IsFirstFree}
 use Rattle.channel_model.specs.Completion.{waiting}
 use Rattle.channel_model.proofs.Theorems.{agrees_none}
@@ -84,14 +84,13 @@ module _ (setting : Setting) (seat reading : ℕ) where
   pub nothing_closed : (a : Standing) → IsTrue (list_all (is_looked_at setting a.past [] []) a.held) → HasClosed setting seat reading a [] [] a
   nothing_closed a busy = record { agrees = agrees_none setting seat a; alone = refl; all = busy; closed = refl }
 
-  -- nothing starts, though a word is drawn, where no leg waits
-  pub nothing_starts : (a : Standing) (word : ℕ) → waiting setting a.past ≡ [] → HasStarted setting seat reading a [] (Word word ∷ []) a
-  nothing_starts a word none = record {
+  -- nothing starts, where no leg waits: a word is drawn for the look that finds this, where it draws one
+  pub nothing_starts : (a : Standing) (word : ℕ) → waiting setting a.past ≡ [] → IsTrue (1 == words_of_look setting) → HasStarted setting seat reading a [] (Word word ∷ []) a
+  nothing_starts a word none one = record {
     agrees = record { past_is = refl; held_are = refl; arrivals = refl; sends = refl; links = refl; writes = λ link. append-nil (a.unwritten link); faults_are = refl; in_order = refl };
     alone = refl;
-    all = inl (inl none);
+    all = inl (inl none, one);
     few = omega arith;
-    drawn = tt;
     served = refl;
     served_first = refl;
   }

@@ -21,3 +21,6 @@ pub mod SetServers
 pub mod MixedCase
 pub mod LegRules
 pub mod AddressRules
+pub mod ReplyRules
+pub mod StartRules
+pub mod AnswerRules
