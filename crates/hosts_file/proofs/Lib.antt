@@ -1,1 +1,5 @@
+pub mod FilterLemmas
+pub mod HashLemmas
+pub mod IndexLemmas
+pub mod ReadingLemmas
 pub mod SearchLemmas

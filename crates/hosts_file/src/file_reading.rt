@@ -1,10 +1,11 @@
 //! A hosts file, line by line.
 
-ghost use Rattle.std.specs.Prelude.{◌≡◌, ◌++◌, ◌<◌, ◌↔◌, ◌∷◌, [], Err, length, map, option_to_list, IfOk, OnOk, MatchOption};
+ghost use Rattle.std.specs.Prelude.{◌≡◌, ◌++◌, ◌<◌, ◌≤◌, ◌↔◌, ◌∷◌, [], Err, length, map, option_to_list, IfOk, OnOk, MatchOption};
 ghost use Rattle.hosts_file.specs.File.{line_of, host_of_line, host_of_words, hosts_of};
 
 use crate::fault::HostsFault;
 use crate::hosts::{HostLine, Hosts};
+use crate::index::index_of;
 use dns_message::{Name, NameList};
 use item_list::NoMemory;
 use net_addr::Addr;
@@ -69,13 +70,18 @@ fn add_line(alloc: Global, hosts: &mut Vec<HostLine>, line: &[u8]) -> Result<(),
 
 /// What the lines of a text say.
 fn read_lines(alloc: Global, text: &[u8]) -> Result<Hosts, NoMemory>
+    requires { length text.now ≤ 4194304 }
     ensures { IfOk result (λ hosts. hosts ≡ hosts_of text.now) }
 {
     let mut hosts = Vec::new(alloc);
     for line in lines_in(text) {
         add_line(alloc, &mut hosts, line)?;
     }
-    Ok(Hosts { lines: hosts })
+    let names = index_of(alloc, hosts.as_slice())?;
+    Ok(Hosts {
+        lines: hosts,
+        names,
+    })
 }
 
 impl Hosts {

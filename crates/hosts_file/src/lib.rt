@@ -4,6 +4,7 @@
 mod fault;
 mod file_reading;
 mod hosts;
+mod index;
 mod searching;
 
 pub use dns_message::{Name, NameList};

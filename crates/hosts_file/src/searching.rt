@@ -1,11 +1,13 @@
 //! Which lines of a hosts file have a name.
 
-ghost use Rattle.std.specs.Prelude.{◌≡◌, ◌↔◌, [], None, IfOk};
+ghost use Rattle.std.specs.Prelude.{◌≡◌, ◌↔◌, ◌<◌, ◌++◌, [], ◌∷◌, length, slice_index_or, None, IfOk, OnOk};
 ghost use Rattle.std.specs.List.{list_any};
 ghost use Rattle.dns_message.specs.Name.{same_name};
 ghost use Rattle.hosts_file.specs.Hosts.{serves, addresses_of, canonical_of};
+ghost use Rattle.hosts_file.specs.Index.{LeadToLines};
 
 use crate::hosts::{HostLine, Hosts};
+use crate::index::{HashedName, hash_of, names_at};
 use dns_message::Name;
 use item_list::NoMemory;
 use net_addr::{AddrList, Family, allows};
@@ -33,7 +35,37 @@ fn line_serves(line: &HostLine, name: &Name, family: Family) -> bool
         && (is_same(name, &line.canonical) || is_one_of(name, line.aliases.as_slice()))
 }
 
+/// Adds the line's address, if it gives the name one of the family.
+fn add_address(
+    addresses: &mut AddrList,
+    line: &HostLine,
+    name: &Name,
+    family: Family,
+) -> Result<(), NoMemory>
+    ensures { OnOk result (addresses.new ≡ addresses.old ++ addresses_of name.now family (line.now ∷ [])) }
+{
+    if line_serves(line, name, family) {
+        addresses.push(line.address)?;
+    }
+    Ok(())
+}
+
 impl Hosts {
+    /// The line of a number.
+    fn line(&self, number: usize) -> &HostLine
+        requires { number < length self.now }
+        ensures { result.now ≡ slice_index_or self.now number result.now }
+    {
+        &self.lines[number]
+    }
+
+    /// The names with this name's hash, which lead to all lines that have the name.
+    fn names_like(&self, name: &Name) -> &[HashedName]
+        ensures { LeadToLines name.now self.now result.now }
+    {
+        names_at(self.names.as_slice(), hash_of(name))
+    }
+
     /// The addresses of all lines that have the name, in file order, as the family allows.
     pub fn addresses(
         &self,
@@ -44,9 +76,14 @@ impl Hosts {
         ensures { IfOk result (λ addresses. addresses ≡ addresses_of name.now family self.now) }
     {
         let mut addresses = AddrList::new(alloc);
-        for line in &self.lines {
-            if line_serves(line, name, family) {
-                addresses.push(line.address)?;
+        let mut next = 0;
+        let found = self.names_like(name);
+        for like in found {
+            let number = like.line as usize;
+            // Two names of a line may have one hash.
+            if number >= next {
+                add_address(&mut addresses, self.line(number), name, family)?;
+                next = number + 1;
             }
         }
         Ok(addresses)
@@ -63,7 +100,9 @@ impl Hosts {
         // There is none exactly where the name has no address.
         ensures none { IfOk result (λ found. (found ≡ None) ↔ (addresses_of name.now family self.now ≡ [])) }
     {
-        for line in &self.lines {
+        let found = self.names_like(name);
+        for like in found {
+            let line = self.line(like.line as usize);
             if line_serves(line, name, family) {
                 return Ok(Some(line.canonical.copy(alloc)?));
             }

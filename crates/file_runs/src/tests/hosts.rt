@@ -21,9 +21,8 @@ fn texts_of(alloc: Global, addresses: &AddrList) -> Result<Vec<u8>, Fail> {
     Ok(texts)
 }
 
-/// What the file says of a name: its addresses and its canonical name.
-fn found(alloc: Global, name: &str, family: Family) -> Result<Vec<u8>, Fail> {
-    let hosts = Hosts::read(alloc, FILE)?;
+/// What a file says of a name: its addresses and its canonical name.
+fn found(alloc: Global, hosts: &Hosts, name: &str, family: Family) -> Result<Vec<u8>, Fail> {
     let name = Name::from_text(alloc, name.as_bytes())?.name;
     let mut texts = texts_of(alloc, &hosts.addresses(alloc, &name, family)?)?;
     if let Some(canonical) = hosts.canonical(alloc, &name, family)? {
@@ -36,6 +35,7 @@ fn found(alloc: Global, name: &str, family: Family) -> Result<Vec<u8>, Fail> {
 #[test]
 fn names_have_addresses(rt: HostRuntime) -> Result<(), Fail> {
     let alloc = rt.alloc();
+    let hosts = Hosts::read(alloc, FILE)?;
     for (name, family, texts) in [
         ("localhost", Family::Any, "127.0.0.1 ::1 localhost."),
         ("LocalHost.", Family::V6, "::1 ip6-localhost."),
@@ -47,7 +47,49 @@ fn names_have_addresses(rt: HostRuntime) -> Result<(), Fail> {
         ("old", Family::Any, ""),
     ] {
         assert_eq!(rt;
-            found(alloc, name, family)?.as_slice(),
+            found(alloc, &hosts, name, family)?.as_slice(),
+            texts.as_bytes(),
+            "at {name}"
+        );
+    }
+    Ok(())
+}
+
+/// 20,000 lines with the numbers from 0 on, as `2001:db8:1::9990 host19990 Also19990` for 19,990. The lines 7 and 19,990 have
+/// the alias `pair` besides, and line 9,999 has it twice, in two cases.
+fn large_file(alloc: Global) -> Result<Vec<u8>, Fail> {
+    let mut text = Vec::new(alloc);
+    for number in 0..20_000u32 {
+        let (high, low) = (number / 10_000, number % 10_000);
+        let line = format!(in alloc; "2001:db8:{high}::{low} host{number} Also{number}")?;
+        text.extend_from_slice(line.as_bytes())?;
+        text.extend_from_slice(match number {
+            7 | 19_990 => b" pair\n".as_slice(),
+            9_999 => b" pair PAIR\n".as_slice(),
+            _ => b"\n".as_slice(),
+        })?;
+    }
+    Ok(text)
+}
+
+/// By hand after hosts(5): names of the first line, of one in the middle and of the last, in other cases too, a name of three
+/// lines, and one of none.
+#[test]
+fn names_of_a_large_file_have_addresses(rt: HostRuntime) -> Result<(), Fail> {
+    let alloc = rt.alloc();
+    let hosts = Hosts::read(alloc, large_file(alloc)?.as_slice())?;
+    for (name, texts) in [
+        ("host0", "2001:db8:: host0."),
+        ("ALSO0", "2001:db8:: host0."),
+        ("Host9999", "2001:db8::9999 host9999."),
+        ("also10000", "2001:db8:1:: host10000."),
+        ("host19999", "2001:db8:1::9999 host19999."),
+        ("Also19999", "2001:db8:1::9999 host19999."),
+        ("Pair", "2001:db8::7 2001:db8::9999 2001:db8:1::9990 host7."),
+        ("host20000", ""),
+    ] {
+        assert_eq!(rt;
+            found(alloc, &hosts, name, Family::Any)?.as_slice(),
             texts.as_bytes(),
             "at {name}"
         );

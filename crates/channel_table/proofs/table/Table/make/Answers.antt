@@ -4,8 +4,8 @@ use Rattle.resolv_options.specs.Values.{OptionValues}
 use Rattle.channel_table.proofs.Counting.{counted_first}
 use Rattle.channel_table.proofs.table.Table.make.Goals as goal
 
-pub invariant_of-result-2 : goal.invariant_of-result-2
-invariant_of-result-2 g c =
+pub invariant_of-result-3 : goal.invariant_of-result-3
+invariant_of-result-3 g c =
     let none : c.in_ok-with_capacity.field-0.items ≡ [] = c.in_ok-with_capacity.ensures.items in
     let same = ap (λ (o : OptionValues). o.servers) (sym c.options.view_is) in
     let count = c.len-count.ensures ∙ ap length (c.servers.ensures.value ∙ same) in

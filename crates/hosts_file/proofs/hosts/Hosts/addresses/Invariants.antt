@@ -1,6 +1,5 @@
-use Rattle.std.proofs.Common.{◌≡◌, take}
-use Rattle.hosts_file.specs.Hosts.{addresses_of}
+use Rattle.hosts_file.proofs.SearchLemmas.{HavePassed}
 use Rattle.hosts_file.proofs.hosts.Hosts.addresses.Given as goal
 
-abbrev pub invariant-loop-line : goal.invariant-loop-line
-invariant-loop-line l = l.addresses ≡ addresses_of l.name l.family (take l.line-index l.self)
+abbrev pub invariant-loop-like : goal.invariant-loop-like
+invariant-loop-like l = HavePassed l.name l.family l.self l.found l.like-index l.next l.addresses

@@ -1,7 +1,5 @@
-use Rattle.std.proofs.Common.{◌≡◌, [], take}
-use Rattle.hosts_file.specs.Hosts.{lines_for}
+use Rattle.hosts_file.proofs.SearchLemmas.{NoneServes}
 use Rattle.hosts_file.proofs.hosts.Hosts.canonical.Given as goal
 
--- no line so far serves the name
-abbrev pub invariant-loop-line : goal.invariant-loop-line
-invariant-loop-line l = lines_for l.name l.family (take l.line-index l.self) ≡ []
+abbrev pub invariant-loop-like : goal.invariant-loop-like
+invariant-loop-like l = NoneServes l.name l.family l.self l.found l.like-index
