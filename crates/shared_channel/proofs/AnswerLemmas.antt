@@ -1,7 +1,10 @@
 -- A destroyed channel from which all is taken has told each request's fate once.
-use Rattle.std.proofs.Common.{◌≡◌, ◌∙◌, ◌≢◌, ◌≤◌, ◌<◌, ⊎_elim, ℕ, zero, suc, ◌+◌, ◌==◌, Bool, true, false, List, [], ◌∷◌, Option, Some, None, cond, length, map, refl, ap, sym, subst, arith, eq-eqb, eqb-true, ne_eqb}
-use Rattle.std.proofs.lemmas.Bool.{cases_Bool}
+use Rattle.std.proofs.Common.{◌≡◌, ◌∙◌, ◌≤◌, ◌<◌, ℕ, zero, suc, ◌+◌, ◌==◌, Bool, true, false, List, [], ◌∷◌, Option, Some, None, cond, length, map, refl, ap, sym, subst, arith, eqb-true}
+use Rattle.std.proofs.lemmas.List.{length-map}
+use Rattle.std.proofs.lemmas.List.FromFn.{length-range_with_len}
+use Rattle.std.proofs.lemmas.List.Sorted.{length_permutation}
 use Rattle.std.specs.List.{AllByRecursion, range_with_len}
+use Rattle.std.specs.List.Sorted.{IsPermutation}
 use Rattle.std.specs.Prelude.{filter, is_none, is_some}
 use Rattle.chan_types.specs.declared.answer.Answer.{Answer}
 use Rattle.chan_types.specs.declared.journal.Entry.{Entry}
@@ -13,6 +16,8 @@ use Rattle.channel_model.specs.Lawful.{IsLawful, IsLawfulPast}
 use Rattle.channel_model.specs.Setting.{Setting}
 use Rattle.channel_model.proofs.Theorems.{completed-behind, completes_once, destroy_completes, occurrences-append, pending-behind, requests_numbered, taken_then_ready, unasked_fate}
 use Rattle.shared_channel.specs.Finishing.{AnswersAll}
+use Rattle.shared_channel.proofs.CountingLemmas.{occurrences-permutation}
+use Rattle.shared_channel.proofs.OrderLemmas.{counted_permutation, in_run, once_at_most}
 
 -- what a test passes everywhere, its opposite passes nowhere
 filter-few : {A : Type 0} (test : A → Bool) (xs : List A) → length (filter test xs) ≤ length xs
@@ -98,26 +103,6 @@ one_of P request (a ∷ bs) one each = by_test (a.number == request) refl (λ h.
     by_test true is rest h = (a, each.0, eqb-true a.number request is, ap (λ l. a ∷ l) (none_of request bs (omega (arith, h))))
     by_test false is rest h = rest h
 
--- how often a number stands in a run
-pub in_run : (number from len : ℕ) → from ≤ number → number < from + len → occurrences number (range_with_len from len) ≡ 1
-in_run number from zero le lt = absurd (omega (arith, le, lt))
-in_run number from (suc len) le lt = ⊎_elim (λ (is : (from == number) ≡ true). here (eqb-true from number is) is)
-    (λ (is : (from == number) ≡ false). rw is (in_run number (from + 1) len (omega (arith, le, apart is)) (omega (arith, lt)))) (cases_Bool (from == number))
-  where
-    before : (n from len : ℕ) → n < from → occurrences n (range_with_len from len) ≡ 0
-    before n from zero below = refl
-    before n from (suc len) below = rw (ne_eqb from n (λ e. omega (arith, below, e))) (before n (from + 1) len (omega (arith, below)))
-
-    apart : (from == number) ≡ false → from ≢ number
-    apart is e = let clash : true ≡ false = sym (eq-eqb from number e) ∙ is in absurd (cc clash)
-
-    here : from ≡ number → (from == number) ≡ true → cond (from == number) (occurrences number (range_with_len (from + 1) len) + 1) (occurrences number (range_with_len (from + 1) len)) ≡ 1
-    here same is = rw is (omega (arith, before number (from + 1) len (omega (arith, same))))
-
-behind_run : (number from len : ℕ) → from + len ≤ number → occurrences number (range_with_len from len) ≡ 0
-behind_run number from zero le = refl
-behind_run number from (suc len) le = rw (ne_eqb from number (λ e. omega (arith, le, e))) (behind_run number (from + 1) len (omega (arith, le)))
-
 -- a number that stands among those that a test passes passes it
 in_filter : (test : ℕ → Bool) (number : ℕ) (ns : List ℕ) → filter test ns ≡ [] → 1 ≤ occurrences number ns → test number ≡ false
 in_filter test number [] none some = absurd (omega (arith, some))
@@ -133,16 +118,16 @@ not_open : {A : Type 0} (o : Option A) → is_none o ≡ false → is_some o ≡
 not_open None e = absurd (cc e)
 not_open (Some x) e = refl
 
-the_one : {A : Type 0} (o : Option A) (b : Bool) → is_some o ≡ true → ◌≡◌ {A = ℕ} (cond (is_some o) 1 0) 1
-the_one None b e = absurd (cc e)
-the_one (Some x) b e = refl
+the_one : {A : Type 0} (o : Option A) → is_some o ≡ true → ◌≡◌ {A = ℕ} (cond (is_some o) 1 0) 1
+the_one None e = absurd (cc e)
+the_one (Some x) e = refl
 
 none_counts : {A : Type 0} (o : Option A) → o ≡ None → ◌≡◌ {A = ℕ} (cond (is_some o) 1 0) 0
 none_counts None e = refl
 none_counts (Some x) e = absurd (cc e)
 
 module _ (setting : Setting) (journal : List Entry) (answers : List Answer) (lawful : IsLawful setting journal)
-    (nothing_pending : pending setting (past_of journal) ≡ []) (nothing_ready : ready setting (past_of journal) ≡ [])
+    (none_pending : pending setting (past_of journal) ≡ []) (none_ready : ready setting (past_of journal) ≡ [])
     (numbers : (request : ℕ) → occurrences request (map (λ (a : Answer). a.number) answers) ≡ occurrences request (taken (past_of journal)))
     (fates : AllByRecursion (λ (a : Answer). fate setting a.number (past_of journal) ≡ Some a) answers) where
   abbrev past : Past
@@ -153,24 +138,39 @@ module _ (setting : Setting) (journal : List Entry) (answers : List Answer) (law
   told_once request =
       let split : occurrences request (completions setting past) ≡ occurrences request (taken past) + occurrences request (ready setting past) =
       ap (occurrences request) (taken_then_ready setting past lawful.allowed) ∙ occurrences-append request (taken past) (ready setting past) in
-      let none : occurrences request (ready setting past) ≡ 0 = ap (occurrences request) nothing_ready in
+      let none : occurrences request (ready setting past) ≡ 0 = ap (occurrences request) none_ready in
       omega (arith, numbers request, split, none, completes_once setting request past lawful.allowed)
 
   asked : requests past ≡ range_with_len 1 (length (accepted past))
   asked = requests_numbered setting past lawful.allowed
 
-  pub answers_all : AnswersAll setting journal answers
-  answers_all =
-      record {
-        each = λ request above most. each request above most;
-        none = λ request behind. none_of request answers (told_once request ∙ none_counts (fate setting request past)
-            (unasked_fate setting request past (ap (occurrences request) asked ∙ behind_run request 1 (length (accepted past)) (omega (arith, behind)))));
-      }
+  -- so it was told as often as it was accepted
+  told_if_asked : (request : ℕ) → occurrences request (map (λ (a : Answer). a.number) answers) ≡ occurrences request (requests past)
+  told_if_asked request =
+      told_once request ∙ by_count (occurrences request (requests past)) refl (subst (λ ns. occurrences request ns ≤ 1) (sym asked) (once_at_most request 1 (length (accepted past))))
     where
-      each : (request : ℕ) → 0 < request → request ≤ length (accepted past) →
-          (answer : Answer) × (fate setting request past ≡ Some answer) × (filter (λ (told : Answer). told.number == request) answers ≡ answer ∷ [])
-      each request above most =
-          let is_asked : 1 ≤ occurrences request (requests past) = omega (arith, ap (occurrences request) asked, in_run request 1 (length (accepted past)) (omega (arith, above)) (omega (arith, most))) in
-          let ended : is_some (fate setting request past) ≡ true = not_open (fate setting request past) (in_filter (is_open setting past) request (requests past) nothing_pending is_asked) in
-          let found = one_of (λ (a : Answer). fate setting a.number past ≡ Some a) request answers (told_once request ∙ the_one (fate setting request past) true ended) fates in
-          (found.0, subst (λ n. fate setting n past ≡ Some found.0) found.2 found.1, found.3)
+      ended : 1 ≤ occurrences request (requests past) → is_some (fate setting request past) ≡ true
+      ended some = not_open (fate setting request past) (in_filter (is_open setting past) request (requests past) none_pending some)
+
+      by_count : (n : ℕ) → occurrences request (requests past) ≡ n → occurrences request (requests past) ≤ 1 → ◌≡◌ {A = ℕ} (cond (is_some (fate setting request past)) 1 0) (occurrences request (requests past))
+      by_count zero is most = none_counts (fate setting request past) (unasked_fate setting request past is) ∙ sym is
+      by_count (suc n) is most = the_one (fate setting request past) (ended (omega (arith, is))) ∙ omega (arith, is, most)
+
+  pub answers_all : (count : ℕ) → count ≡ length (accepted past) → AnswersAll setting journal count answers
+  answers_all count is =
+      let same : IsPermutation (range_with_len 1 count) (map (λ (a : Answer). a.number) answers) =
+      counted_permutation (range_with_len 1 count) (map (λ (a : Answer). a.number) answers) (λ request. told_if_asked request ∙ ap (occurrences request) (asked ∙ ap (range_with_len 1) (sym is))) in
+      record {
+        numbers = same;
+        as_many = sym (length-map answers (λ (a : Answer). a.number)) ∙ length_permutation (range_with_len 1 count) (map (λ (a : Answer). a.number) answers) same ∙ length-range_with_len 1 count;
+        fates = fates;
+      }
+
+-- among all answers, those with a request's number are one, its fate
+pub answer_of : (setting : Setting) (journal : List Entry) (count : ℕ) (answers : List Answer) → AnswersAll setting journal count answers → (request : ℕ) → 0 < request → request ≤ count
+    → (answer : Answer) × (fate setting request (past_of journal) ≡ Some answer) × (filter (λ (told : Answer). told.number == request) answers ≡ answer ∷ [])
+answer_of setting journal count answers all request above most =
+    let once : occurrences request (map (λ (a : Answer). a.number) answers) ≡ 1 =
+    occurrences-permutation request (range_with_len 1 count) (map (λ (a : Answer). a.number) answers) all.numbers ∙ in_run request 1 count (omega (arith, above)) (omega (arith, most)) in
+    let found = one_of (λ (a : Answer). fate setting a.number (past_of journal) ≡ Some a) request answers once all.fates in
+    (found.0, subst (λ n. fate setting n (past_of journal) ≡ Some found.0) found.2 found.1, found.3)

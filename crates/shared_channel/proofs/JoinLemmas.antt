@@ -12,7 +12,7 @@ use Rattle.chan_types.specs.declared.journal.Entry.{Entry}
 use Rattle.hosts_file.specs.declared.hosts.Hosts.{Hosts}
 use Rattle.resolv_options.specs.declared.options.Options.{Options}
 use Rattle.seat_lock.specs.History.{IsJoin, SeatView}
-use Rattle.shared_channel.specs.Finishing.{IsAlone, IsJoined, JoinsPass, left_by_pass, share_left, share_of}
+use Rattle.shared_channel.specs.Finishing.{HasSeenOwn, IsAlone, IsJoined, JoinsPass, left_by_pass, share_left, share_of}
 use Rattle.shared_channel.specs.Passes.{PassView, pass_of, the}
 use Rattle.shared_channel.specs.Under.{setting_by}
 use Rattle.shared_channel.proofs.Telling.{the_same}
@@ -56,21 +56,23 @@ joined_accounts left right now p q r calls more calls_now lost further lost_now 
     (subst (λ (n : ℕ). JoinsPass (pass_of left p calls lost) (pass_of right q more further) (pass_of now r (calls ++ more) n)) (sym lost_is) (joins_pass left right now p q r calls more lost further join))))
 
 -- one pass alone
-pub joined_one : (lock : TableId) (pass : PassView) → pass.lost < 2 ^ 64 → IsAlone lock pass → IsJoined (pass ∷ []) pass
-joined_one lock pass few alone = record {
+pub joined_one : (lock : TableId) (pass : PassView) → pass.lost < 2 ^ 64 → HasSeenOwn pass → IsAlone lock pass → IsJoined (pass ∷ []) pass
+joined_one lock pass few own alone = record {
   first = refl;
   shares = ap (λ js. share_of pass ∷ map share_left js) alone.1;
   seen = (([], append-nil pass.seen), tt);
+  own = (own, tt);
   calls = sym (flat_map-cons (λ (p : PassView). p.calls) pass [] ∙ append-nil pass.calls);
   lost = omega (arith, few, sum_by-cons (λ (p : PassView). p.lost) pass []);
 }
 
 -- and one more before those that are joined
-pub joined_more : (lock : TableId) (next : PassView) (rest : List PassView) (all now : PassView) → IsAlone lock next → IsJoined rest all → JoinsPass next all now → IsJoined (next ∷ rest) now
-joined_more lock next rest all now alone joined joins = record {
+pub joined_more : (lock : TableId) (next : PassView) (rest : List PassView) (all now : PassView) → IsAlone lock next → HasSeenOwn next → IsJoined rest all → JoinsPass next all now → IsJoined (next ∷ rest) now
+joined_more lock next rest all now alone own joined joins = record {
   first = joins.rest;
   shares = ap₂ (λ s js. s ∷ map share_left js) (ap share_of joins.rest) (joins.joined ∙ ap (λ js. js ++ left_by_pass all ∷ all.joined) alone.1) ∙ ap (λ ss. share_of next ∷ ss) joined.shares;
   seen = (joins.seen_left, each_prefix rest joined.seen);
+  own = (own, joined.own);
   calls = joins.calls ∙ ap (λ cs. next.calls ++ cs) joined.calls ∙ sym (flat_map-cons (λ (p : PassView). p.calls) next rest);
   lost = joins.lost ∙ ap (λ n. min (next.lost + n) (2 ^ 64 - 1)) joined.lost ∙ capped next.lost (sum_by (λ (p : PassView). p.lost) rest)
       ∙ ap (λ n. min n (2 ^ 64 - 1)) (sym (sum_by-cons (λ (p : PassView). p.lost) next rest));
@@ -96,18 +98,18 @@ first_of : {A : Type 0} (P : A → Type 0) (xs : List A) (x : A) → AllByRecurs
 first_of P [] x each = (tt, each.0)
 first_of P (y ∷ ys) x each = let more = first_of P ys x each.1 in ((each.0, more.0), more.1)
 
-pub joins_begin : (lock : TableId) (passes front : List PassView) (last : PassView) → passes ≡ front ++ last ∷ [] → last.lost < 2 ^ 64 → AllByRecursion (IsAlone lock) passes → HasJoined lock passes front last
-joins_begin lock passes front last is few each =
+pub joins_begin : (lock : TableId) (passes front : List PassView) (last : PassView) → passes ≡ front ++ last ∷ [] → last.lost < 2 ^ 64 → HasSeenOwn last → AllByRecursion (IsAlone lock) passes → HasJoined lock passes front last
+joins_begin lock passes front last is few own each =
     let parts = first_of (IsAlone lock) front last (subst (AllByRecursion (IsAlone lock)) is each) in
-    record { rest = last ∷ []; parts = is; joined = joined_one lock last few parts.1; lock_is = parts.1.0; alone = parts.0 }
+    record { rest = last ∷ []; parts = is; joined = joined_one lock last few own parts.1; lock_is = parts.1.0; alone = parts.0 }
 
-pub joins_go_on : (lock : TableId) (passes left front : List PassView) (next all now : PassView) → left ≡ front ++ next ∷ [] → HasJoined lock passes left all → JoinsPass next all now → HasJoined lock passes front now
-joins_go_on lock passes left front next all now is has joins =
+pub joins_go_on : (lock : TableId) (passes left front : List PassView) (next all now : PassView) → left ≡ front ++ next ∷ [] → HasJoined lock passes left all → HasSeenOwn next → JoinsPass next all now → HasJoined lock passes front now
+joins_go_on lock passes left front next all now is has own joins =
     let parts = first_of (IsAlone lock) front next (subst (AllByRecursion (IsAlone lock)) is has.alone) in
     record {
       rest = next ∷ has.rest;
       parts = has.parts ∙ ap (λ l. l ++ has.rest) is ∙ append_assoc front (next ∷ []) has.rest;
-      joined = joined_more lock next has.rest all now parts.1 has.joined joins;
+      joined = joined_more lock next has.rest all now parts.1 own has.joined joins;
       lock_is = ap (λ p. p.lock) joins.rest ∙ parts.1.0;
       alone = parts.0;
     }

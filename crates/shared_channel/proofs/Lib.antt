@@ -2,9 +2,12 @@ mod Adding
 mod Telling
 mod PerformLemmas
 mod CountingLemmas
+mod OrderLemmas
 mod JoinLemmas
 mod GoingLemmas
 mod AnswerLemmas
+mod EmptyingLemmas
+mod WholeLemmas
 mod EndLemmas
 mod StayLemmas
 mod DeliverLemmas

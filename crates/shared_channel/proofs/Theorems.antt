@@ -13,3 +13,5 @@ pub use Rattle.shared_channel.proofs.BackLemmas.{may_finish, one_back}
 -- A pass may go to another thread, a channel may be lent to several, and a closure may go where what it holds may.
 pub use Rattle.shared_channel.proofs.SendLemmas.{callback_send, channel_sync, pass_send}
 pub use Rattle.shared_channel.proofs.ClosureLemmas.{Own, lent, lent_send, tuple_send}
+-- Of all answers in the end, those with a request's number are one, its fate.
+pub use Rattle.shared_channel.proofs.AnswerLemmas.{answer_of}

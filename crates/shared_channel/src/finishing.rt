@@ -1,9 +1,10 @@
 //! The end of a shared channel.
 
 ghost use Rattle.std.specs.List.{AllByRecursion};
-ghost use Rattle.std.specs.Prelude.{◌≡◌, ◌<◌, ◌≤◌, length, option_to_list};
+ghost use Rattle.std.specs.Prelude.{◌≡◌, ◌<◌, ◌^◌, ◌≤◌, length, option_to_list};
 ghost use Rattle.channel_model.specs.Journal.{accepted, accepted_by, past_of};
-ghost use Rattle.shared_channel.specs.Finishing.{AreAllPasses, DeliversAll, Finishes, IsAlone, IsJoined, JoinsPass};
+ghost use Rattle.shared_channel.specs.Finishing.{AreAllPasses, DeliversAll, Finishes, HasSeenOwn};
+ghost use Rattle.shared_channel.specs.Finishing.{IsAlone, IsJoined, JoinsPass};
 ghost use Rattle.shared_channel.specs.Settling.{AreSettled};
 
 use crate::account::Account;
@@ -65,18 +66,28 @@ fn join_all<B: Done + Drop>(lock: &ChannelLock<B>, mut passes: Vec<Pass<B>>) -> 
     ensures joined { IsJoined passes.items result }
 {
     let mut all = passes.pop().unwrap();
-    let _count = all.lost();
+    look_at(&all);
     while let Some(next) = passes.pop() {
         all = join(lock, next, all);
     }
     all
 }
 
+/// Looks at a pass, so that what its type keeps is known: it has seen all that it made, and its count fits 64 bits.
+fn look_at<B: Done + Drop>(pass: &Pass<B>)
+    ensures own { HasSeenOwn pass.now }
+    ensures few { pass.now.lost < 2 ^ 64 }
+{
+    let account = &pass.account;
+    let _count = account.lost;
+}
+
 /// Joins the right pass into the left one.
 fn join<B: Done + Drop>(lock: &ChannelLock<B>, left: Pass<B>, right: Pass<B>) -> Pass<B>
     requires left { left.lock ≡ lock.now }
     requires right { right.lock ≡ lock.now }
-    ensures { JoinsPass left right result }
+    ensures joins { JoinsPass left right result }
+    ensures own { HasSeenOwn left }
 {
     let Pass { account, hand } = left;
     let Pass { account: other, .. } = right;
@@ -92,7 +103,8 @@ fn join_accounts<B: Done + Drop>(
 ) -> Account<B>
     requires left { left.lock ≡ lock.now }
     requires right { right.lock ≡ lock.now }
-    ensures { JoinsPass left right result }
+    ensures joins { JoinsPass left right result }
+    ensures own { HasSeenOwn left }
 {
     let Account {
         seat,
