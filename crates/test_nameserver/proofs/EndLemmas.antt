@@ -1,6 +1,6 @@
 -- How a run of the server's program ends, and why.
-use Rattle.std.proofs.Common.{◌≡◌, ℕ, ◌<◌, ◌≤◌, List, [], length, refl, sym, subst, ◌∙◌, ap, arith, inl, inr, ◌⊎◌, ◌≢◌}
-use Rattle.std.specs.Prelude.{Option, Some, None, option_map, Result, Ok, Err, nat_lt, true}
+use Rattle.std.proofs.Common.{◌≡◌, ℕ, List, [], refl, sym, subst, ◌∙◌, ap, arith, inl, inr, ◌⊎◌, ◌≢◌}
+use Rattle.std.specs.Prelude.{Option, Some, None, option_map, Err}
 use Rattle.dns_message.specs.declared.message.Record.{Record}
 use Rattle.net_world.specs.Cause.{Rose}
 use Rattle.net_world.specs.Files.{WhereTold}
@@ -8,11 +8,9 @@ use Rattle.net_world.specs.declared.answers.Sent.TheVariants.{Sent as WasSent}
 use Rattle.test_nameserver.specs.declared.ending.End.{End}
 use Rattle.test_nameserver.specs.declared.ending.End.TheVariants.{Served, Refused, FileFault, NoMemory, SocketFault, BadZone}
 use Rattle.test_nameserver.specs.Statuses.{status_success, status_usage, status_file_fault, status_sink_fault, status_out_of_memory, status_socket_fault, status_bad_zone}
-use Rattle.test_nameserver.specs.declared.fault.ZoneFault.TheVariants.{TooLarge, BadLine}
 use Rattle.test_nameserver.specs.declared.listener.ListenerCall.{ListenerCall}
 use Rattle.test_nameserver.specs.Ending.{number_of}
 use Rattle.test_nameserver.specs.Headline.{GoesBefore, HasBadLine, HasExitCause, IsUnfit, Told}
-use Rattle.test_nameserver.specs.Lines.{zone_of}
 use Rattle.test_nameserver.specs.Order.{AreRefused, ForWords, Order, Orders, order_seen}
 use Rattle.test_nameserver.specs.declared.order.Ordered.{Ordered}
 use Rattle.test_nameserver.specs.Service.{GoesOnWith, IsServiceOf, ReadsZone}

@@ -7,6 +7,9 @@ mod ReplyLemmas
 mod HearingLemmas
 mod QuestionLemmas
 mod PeerLemmas
+pub mod LogLemmas
+pub mod WakingLemmas
+pub mod Theorems
 mod LinkLemmas
 mod WordLemmas
 mod TurnLemmas

@@ -1,5 +1,5 @@
 -- A link that keeps what it has unread.
-use Rattle.std.proofs.Common.{◌≡◌, ℕ, suc, ◌+◌, Bool, true, false, List, [], ◌∷◌, set, get_or, Option, Some, None, refl, ap, sym, ◌∙◌, arith, add-one}
+use Rattle.std.proofs.Common.{◌≡◌, ℕ, suc, ◌+◌, Bool, true, false, List, [], ◌∷◌, set, get_or, Option, Some, None, refl, ap, sym, ◌∙◌, add-one}
 use Rattle.std.specs.Prelude.{position, option_map}
 use Rattle.test_nameserver.specs.PeerCalls.{has_number, with_unread}
 use Rattle.test_nameserver.specs.declared.links.OpenLink.{OpenLink}

@@ -1,19 +1,21 @@
 -- Replies that can be received, and what is heard of a datagram.
-use Rattle.std.proofs.Common.{◌≡◌, ◌≢◌, ℕ, suc, ◌+◌, ◌<◌, ◌≤◌, ◌==◌, ◌⊎◌, inl, inr, nat_lt, Bool, true, false, cond, if◌then◌else◌, not, List, [], ◌∷◌, ◌++◌, length, map, filter, drop, take, set, get_or, Option, Some, None, Result, Ok, Err, IfOk, OnErr, IsTrue, refl, ap, sym, subst, ◌∙◌, arith}
-use Rattle.std.specs.Prelude.{find, position}
-use Rattle.std.specs.List.{AllByRecursion, position_or_len}
-use Rattle.item_list.specs.declared.no_memory.NoMemory.{NoMemory}
+use Rattle.std.proofs.Common.{◌≡◌, ℕ, Bool, true, false, cond, if◌then◌else◌, List, [], ◌∷◌, ◌++◌, length, map, filter, Option, Some, None, refl, ap, sym, subst, ◌∙◌, arith}
+use Rattle.std.specs.Prelude.{find, option_map}
+use Rattle.std.specs.List.{AllByRecursion}
 use Rattle.net_world.specs.declared.answers.Got.{Got}
-use Rattle.net_world.specs.declared.answers.Got.TheVariants.{Datagram, Piece, Ended, Nothing, Failed as LinkFailed}
+use Rattle.net_world.specs.declared.answers.Got.TheVariants.{Datagram}
 use Rattle.net_world.specs.Script.{MayCome}
-use Rattle.net_world.specs.Cause.{HasCause, is_link_failed}
-use Rattle.net_world.specs.World.{Takes, Receives, IsWhole, is_of_link}
 use Rattle.dns_message.specs.declared.message.Record.{Record}
 use Rattle.test_nameserver.specs.declared.query.Query.{Query}
 use Rattle.net_world.specs.declared.log.WorldCall.{WorldCall}
 use Rattle.test_nameserver.specs.Reply.{reply_bytes}
-use Rattle.test_nameserver.specs.Peer.{PeerState, link_reply, question_key, noted, is_lost, heard_datagram}
-use Rattle.test_nameserver.specs.PeerCalls.{first_item, ReceivesFirst, logged}
+use Rattle.test_nameserver.specs.Peer.{PeerState, link_reply, messages_in, question_key, noted, is_lost, heard_datagram}
+use Rattle.test_nameserver.specs.Query.{asked_by}
+use Rattle.test_nameserver.specs.PeerCalls.{Sends, WritesAll, carried, has_number, logged, written}
+use Rattle.test_nameserver.specs.declared.links.OpenLink.{OpenLink}
+use Rattle.net_world.specs.declared.answers.Sent.TheVariants.{Sent as WasSent}
+use Rattle.net_world.specs.declared.log.WorldCall.TheVariants.{Send, Write}
+use Rattle.net_world.specs.declared.answers.Wrote.TheVariants.{Count}
 
 module _ {X : Type 0} (P : X → Type 0) where
   -- what holds of each of two lists holds of each of both together
@@ -52,3 +54,51 @@ datagram_heard old server query call keys key before reply asked items log same_
     ∙ ap (λ (l : List Got). if is_lost old.seed old.asked (question_key query.question) then l else l ++ Datagram server reply ∷ []) same_items
     ∙ ap (λ (l : List ℕ). if is_lost old.seed old.asked (question_key query.question) then old.items else old.items ++ Datagram server l ∷ []) same_reply in
     λ i. record old { asked = all_asked i; items = all_items i; log = is_log i }
+
+-- a datagram that was sent, whose query was noted and answered by its parts
+pub datagram_sent : (old : PeerState) (server : ℕ) (bytes : List ℕ) (query : Query) (call : WorldCall) (keys : List (List ℕ)) (key : List ℕ) (before : List Got) (reply : List ℕ) (asked : List (List ℕ)) (items : List Got) (log : List WorldCall)
+    → asked_by bytes ≡ Some query → call ≡ Send server bytes WasSent
+    → keys ≡ old.asked → key ≡ question_key query.question → before ≡ old.items → reply ≡ reply_bytes old.zone query false
+    → asked ≡ noted keys key → items ≡ (if is_lost old.seed keys key then before else before ++ Datagram server reply ∷ []) → log ≡ old.log ++ call ∷ []
+    → let new : PeerState = record old { asked = asked; items = items; log = log } in Sends server bytes old new WasSent
+datagram_sent old server bytes query call keys key before reply asked items log is_query is_call same_keys same_key same_items same_reply is_asked are_items is_log = record {
+  answer = refl;
+  state =
+      datagram_heard old server query call keys key before reply asked items log same_keys same_key same_items same_reply is_asked are_items is_log
+      ∙ ap (λ (found : Option Query). logged call (heard_datagram server found old)) (sym is_query)
+      ∙ ap (λ (made : WorldCall). logged made (heard_datagram server (asked_by bytes) old)) is_call;
+}
+
+-- one that is no query is heard by nobody
+pub sent_aside : (old : PeerState) (server : ℕ) (bytes : List ℕ) (call : WorldCall) (log : List WorldCall) → asked_by bytes ≡ None → call ≡ Send server bytes WasSent → log ≡ old.log ++ call ∷ []
+    → Sends server bytes old (record old { log = log }) WasSent
+sent_aside old server bytes call log none is_call is_log = record {
+  answer = refl;
+  state =
+      ap (λ (l : List WorldCall). record old { log = l }) (is_log ∙ ap (λ (made : WorldCall). old.log ++ made ∷ []) is_call)
+      ∙ ap (λ (found : Option Query). logged (Send server bytes WasSent) (heard_datagram server found old)) (sym none);
+}
+
+-- what was received may come, and so may it with a reply, unless that is to a query that is lost
+pub reply_may_come : (lost : Bool) (old before items : List Got) (got : Got) → before ≡ old → items ≡ (if lost then before else before ++ got ∷ []) → MayCome got → AllByRecursion MayCome old → AllByRecursion MayCome items
+reply_may_come true old before items got same are may each = subst (AllByRecursion MayCome) (sym (are ∙ same)) each
+reply_may_come false old before items got same are may each =
+    subst (AllByRecursion MayCome) (sym (are ∙ ap (λ (gots : List Got). gots ++ got ∷ []) same)) (each_both MayCome old (got ∷ []) each (may, tt))
+
+-- bytes that are written to a link that isn't open are heard by nobody
+pub written_aside : (link : ℕ) (bytes : List ℕ) (found : Option OpenLink) (old : PeerState) (call : WorldCall) (log : List WorldCall) → found ≡ find (has_number link) old.links
+    → option_map (λ open_link. open_link.unread ++ bytes) found ≡ None → call ≡ Write link bytes (Count (length bytes)) → log ≡ old.log ++ call ∷ []
+    → WritesAll link bytes old (record old { log = log }) (Count (length bytes))
+written_aside link bytes None old call log is none is_call is_log = record {
+  answer = refl;
+  state =
+      ap (λ (l : List WorldCall). record old { log = l }) (is_log ∙ ap (λ (made : WorldCall). old.log ++ made ∷ []) is_call)
+      ∙ ap (λ (found : Option OpenLink). logged (Write link bytes (Count (length bytes))) (written link bytes found old)) is;
+}
+written_aside link bytes (Some found) old call log is none is_call is_log = absurd (cc none)
+
+-- bytes that are written to a link that is open are carried with those that were unread
+pub carried_so : (link : ℕ) (bytes unread : List ℕ) (found : Option OpenLink) (old : PeerState) → option_map (λ open_link. open_link.unread ++ bytes) found ≡ Some unread
+    → written link bytes found old ≡ carried link old (messages_in unread)
+carried_so link bytes unread None old is = absurd (cc is)
+carried_so link bytes unread (Some open_link) old is = let same : open_link.unread ++ bytes ≡ unread = cc in ap (λ (all : List ℕ). carried link old (messages_in all)) same

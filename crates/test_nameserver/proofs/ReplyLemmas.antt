@@ -1,12 +1,10 @@
 -- A reply without answers is short.
-use Rattle.std.proofs.Common.{◌≡◌, ℕ, ◌+◌, ◌≤◌, List, [], ◌∷◌, ◌++◌, length, Option, Some, None, refl, ap, ◌∙◌, arith, append-nil}
+use Rattle.std.proofs.Common.{◌≡◌, ℕ, ◌+◌, ◌≤◌, [], ◌∷◌, ◌++◌, length, Option, Some, None, ap, ◌∙◌, arith, append-nil}
 use Rattle.std.specs.List.{flat_map}
 use Rattle.std.proofs.lemmas.List.{length-append}
 use Rattle.std.proofs.lemmas.List.Concat.{flat_map-cons}
 use Rattle.dns_message.specs.Name.{wire_length}
 use Rattle.dns_message.specs.Spelling.{question_bytes, record_bytes, header_bytes, sections_bytes, message_bytes}
-use Rattle.dns_message.specs.declared.message.Question.{Question}
-use Rattle.dns_message.specs.declared.message.Record.{Record}
 use Rattle.dns_message.proofs.Theorems.{question_length}
 use Rattle.edns_opt.specs.Opt.{opt_record}
 use Rattle.test_nameserver.specs.Reply.{reply_with, opt_records_for, own_opt}

@@ -1,6 +1,6 @@
 -- The calls of a run of the server's program, part by part.
-use Rattle.std.proofs.Common.{◌≡◌, ℕ, ◌+◌, ◌<◌, ◌≤◌, List, [], ◌∷◌, ◌++◌, length, map, refl, sym, ap, subst, ◌∙◌, arith, Bool, true, false, inl, inr}
-use Rattle.std.specs.Prelude.{flat_map, Option, Some, None, option_to_list, Result, Ok, Err}
+use Rattle.std.proofs.Common.{◌≡◌, ℕ, ◌+◌, ◌<◌, List, [], ◌∷◌, ◌++◌, refl, sym, ap, subst, ◌∙◌, arith, Bool, true, false, inl, inr}
+use Rattle.std.specs.Prelude.{flat_map, Option, Some, None, Result, Ok, Err}
 use Rattle.std.proofs.lemmas.List.{append-nil, append_assoc, length-append}
 use Rattle.std.proofs.lemmas.Grind.{flat_map-append}
 use mathlib.Core.List.{IsPrefix}
@@ -16,7 +16,7 @@ use Rattle.test_nameserver.specs.declared.listener.ListenerCall.{ListenerCall}
 use Rattle.test_nameserver.specs.declared.listener.ListenerCall.TheVariants.{Listen, Next, Reply}
 use Rattle.test_nameserver.specs.Listening.{Logs, has_failed}
 use Rattle.test_nameserver.specs.Reply.{reply_to}
-use Rattle.test_nameserver.specs.Service.{Exchange, GoesOnWith, LastFailed, NoneFailed, run_calls, turn_calls, reply_for}
+use Rattle.test_nameserver.specs.Service.{GoesOnWith, LastFailed, NoneFailed, run_calls, turn_calls}
 use Rattle.test_nameserver.specs.Turns.{AreReplies, AreTurn, AreTurns, EndsAs, FailInTurns, Serves, StopInTurns, TurnTo}
 
 -- ---- logs

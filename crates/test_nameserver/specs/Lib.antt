@@ -9,6 +9,8 @@ pub mod Reply
 pub mod Target
 pub mod Peer
 pub mod PeerCalls
+pub mod PeerLog
+pub mod PeerFields
 pub mod Heard
 pub mod Seen
 pub mod Listening

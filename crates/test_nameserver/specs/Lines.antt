@@ -1,5 +1,5 @@
 -- What the lines of a zone's text say (the form `NAME TTL TYPE VALUE`, after RFC 1035, section 5.1).
-use Rattle.std.specs.Prelude.{◌≡◌, ℕ, Bool, true, false, ◌+◌, ◌&&◌, nat_lt, nat_le, ◌==◌, not, is_some, if◌then◌else◌, List, [], ◌∷◌, ◌++◌, length, position, filter_map, codes, bytes_eq, Option, Some, None, option_map, Result, Ok, Err, ⊤}
+use Rattle.std.specs.Prelude.{◌≡◌, ℕ, Bool, true, ◌+◌, ◌&&◌, nat_lt, nat_le, ◌==◌, not, is_some, if◌then◌else◌, List, [], ◌∷◌, ◌++◌, length, position, filter_map, codes, bytes_eq, Option, Some, None, option_map, Result, Ok, Err, ⊤}
 use Rattle.std.specs.Option.{option_and_then}
 use Rattle.byteorder.specs.Endian.{big_bytes}
 use Rattle.dns_message.specs.Numbers.{class_in, kind_a, kind_aaaa, kind_cname, kind_mx, kind_ns, kind_ptr, kind_txt}

@@ -1,5 +1,5 @@
 -- What the calls of a server's side of the network do to its log, and which answers tell a failure.
-use Rattle.std.specs.Prelude.{◌≡◌, ℕ, List, [], ◌∷◌, ◌++◌, Bool, true, false, Option, option_map, Result, Ok, Err}
+use Rattle.std.specs.Prelude.{◌≡◌, List, [], ◌∷◌, ◌++◌, Bool, true, false, Option, option_map, Result, Ok, Err}
 use Rattle.item_list.specs.declared.no_memory.NoMemory.{NoMemory}
 use Rattle.net_world.specs.Cause.{is_not_sent}
 use Rattle.test_nameserver.specs.declared.listener.Heard.{Heard}

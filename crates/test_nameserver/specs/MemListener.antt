@@ -1,13 +1,13 @@
 -- A server's side of the network in memory: where it stands, and what its calls answer and leave.
 use Rattle.std.specs.Prelude.{◌≡◌, ℕ, List, [], ◌∷◌, ◌++◌, length, drop, Bool, if◌then◌else◌, ⊤}
-use Rattle.net_world.specs.Cause.{raised, fails_at, is_not_sent}
+use Rattle.net_world.specs.Cause.{raised, fails_at}
 use Rattle.net_world.specs.declared.answers.Sent.{Sent}
 use Rattle.net_world.specs.declared.answers.Sent.TheVariants.{Sent as WasSent, Failed as NotSent}
 use Rattle.test_nameserver.specs.declared.listener.Heard.{Heard}
 use Rattle.test_nameserver.specs.declared.listener.Heard.TheVariants.{Message, Failed as NotHeard}
 use Rattle.test_nameserver.specs.declared.listener.ListenerCall.{ListenerCall}
 use Rattle.test_nameserver.specs.declared.listener.ListenerCall.TheVariants.{Listen, Next, Reply}
-use Rattle.test_nameserver.specs.Listening.{is_not_heard, has_failed}
+use Rattle.test_nameserver.specs.Listening.{has_failed}
 
 -- where it stands
 pub record ListenerState : Type 0 where

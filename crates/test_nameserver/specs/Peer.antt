@@ -1,14 +1,13 @@
 -- A network in memory whose servers all answer from one zone, and lose queries by a plan: where it stands, and what it hears.
-use Rattle.std.specs.Prelude.{ℕ, zero, suc, fold, true, false, ◌+◌, ◌*◌, ◌/◌, ◌%◌, ◌==◌, nat_lt, not, Bool, ◌&&◌, if◌then◌else◌, List, [], ◌∷◌, ◌++◌, length, take, drop, map, filter, bytes_eq, Option, Some, None}
+use Rattle.std.specs.Prelude.{ℕ, zero, suc, fold, true, false, ◌+◌, ◌*◌, ◌%◌, ◌==◌, nat_lt, not, Bool, ◌&&◌, if◌then◌else◌, List, [], ◌∷◌, ◌++◌, length, take, drop, map, bytes_eq, Option, Some, None}
 use Rattle.std.specs.List.{list_any}
-use Rattle.byteorder.specs.Endian.{big_from, big_bytes}
+use Rattle.byteorder.specs.Endian.{big_bytes}
 use Rattle.dns_message.specs.declared.message.Record.{Record}
 use Rattle.dns_message.specs.declared.message.Question.{Question}
 use Rattle.net_world.specs.declared.answers.Got.{Got}
 use Rattle.net_world.specs.declared.answers.Got.TheVariants.{Datagram, Piece}
 use Rattle.net_world.specs.declared.log.WorldCall.{WorldCall}
 use Rattle.test_nameserver.specs.Index.{key_of}
-use Rattle.test_nameserver.specs.Query.{asked_by}
 use Rattle.test_nameserver.specs.Reply.{reply_bytes}
 use Rattle.test_nameserver.specs.declared.query.Query.{Query}
 use Rattle.test_nameserver.specs.declared.links.OpenLink.{OpenLink}

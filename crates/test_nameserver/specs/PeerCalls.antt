@@ -1,6 +1,5 @@
 -- What each call of such a network answers, and how it leaves it. No call fails.
-use Rattle.std.specs.Prelude.{◌≡◌, ◌≢◌, ◌⊎◌, ℕ, ◌+◌, ◌*◌, ◌%◌, ◌^◌, ◌≤◌, ◌==◌, max, not, Bool, if◌then◌else◌, List, [], ◌∷◌, ◌++◌, length, drop, filter, find, filter_map, Option, Some, None, option_map, ⊤}
-use Rattle.net_addr.specs.declared.addr.ServerAddr.{ServerAddr}
+use Rattle.std.specs.Prelude.{◌≡◌, ℕ, ◌+◌, ◌*◌, ◌%◌, ◌^◌, ◌==◌, max, not, Bool, if◌then◌else◌, List, [], ◌∷◌, ◌++◌, length, drop, filter, find, filter_map, Option, Some, None}
 use Rattle.net_world.specs.declared.answers.Sent.{Sent}
 use Rattle.net_world.specs.declared.answers.Sent.TheVariants.{Sent as WasSent}
 use Rattle.net_world.specs.declared.answers.Wrote.{Wrote}
@@ -10,7 +9,7 @@ use Rattle.net_world.specs.declared.answers.Got.TheVariants.{Nothing}
 use Rattle.net_world.specs.declared.answers.Waited.{Waited}
 use Rattle.net_world.specs.declared.answers.Waited.TheVariants.{Woken}
 use Rattle.net_world.specs.declared.log.WorldCall.{WorldCall}
-use Rattle.net_world.specs.declared.log.WorldCall.TheVariants.{Serve, Now, Word, Send, Connect, Write, Receive, Close, Wait}
+use Rattle.net_world.specs.declared.log.WorldCall.TheVariants.{Now, Word, Send, Connect, Write, Receive, Close, Wait}
 use Rattle.net_world.specs.World.{is_of_link}
 use Rattle.test_nameserver.specs.Query.{asked_by}
 use Rattle.test_nameserver.specs.Peer.{PeerState, heard_datagram, heard_messages, messages_in}

@@ -1,5 +1,5 @@
 -- What a run of the server's program calls: it listens, and then hears and answers one message after another.
-use Rattle.std.specs.Prelude.{◌≡◌, ◌≢◌, ◌⊎◌, ℕ, ◌≤◌, List, [], ◌∷◌, ◌++◌, length, map, flat_map, Bool, true, false, Option, Some, None, option_to_list, MatchOption, Ok}
+use Rattle.std.specs.Prelude.{◌≡◌, ◌≢◌, ◌⊎◌, ℕ, ◌≤◌, List, [], ◌∷◌, ◌++◌, length, map, flat_map, true, false, Option, Some, None, option_to_list, MatchOption, Ok}
 use Rattle.std.specs.List.{AllByRecursion}
 use mathlib.Core.List.{IsPrefix}
 use Rattle.dns_message.specs.declared.message.Record.{Record}

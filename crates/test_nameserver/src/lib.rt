@@ -28,7 +28,7 @@ mod zone_reading;
 pub use ending::{BAD_ZONE, FILE_FAULT, OUT_OF_MEMORY, SINK_FAULT, SOCKET_FAULT, SUCCESS, USAGE};
 pub use fault::ZoneFault;
 pub use item_list::{Bytes, NoMemory};
-pub use laws::keys_tell_questions_apart;
+pub use laws::{a_wait_is_woken_well, an_origin_tells_zone_and_seed, keys_tell_questions_apart};
 pub use listener::{Heard, Listener, ListenerCall};
 pub use mem_listener::MemListener;
 pub use messages::first_message;

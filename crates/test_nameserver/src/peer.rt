@@ -1,4 +1,4 @@
-//! A network in memory over one zone is a World that tells its log and its items.
+//! A network in memory over one zone is a World that tells its log and its items, and by its origin its zone and its seed.
 
 use crate::peer_world::PeerWorld;
 use item_list::NoMemory;
@@ -7,6 +7,7 @@ use net_world::{Got, Sent, Waited, World, Wrote};
 
 impl World for PeerWorld {
     ghost use Rattle.std.specs.Prelude.{Some};
+    ghost use Rattle.test_nameserver.specs.PeerLog.{origin_of};
 
     ghost log = { λ w. Some w.log };
 
@@ -17,6 +18,8 @@ impl World for PeerWorld {
     ghost wait_faults = { λ w. 0 };
 
     ghost reading = { λ w. w.reading };
+
+    ghost origin = { origin_of };
 
     fn serve(&mut self, server: u32, address: &ServerAddr) -> Result<(), NoMemory> {
         PeerWorld::serve(self, server, address)

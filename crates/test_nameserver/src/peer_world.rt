@@ -4,10 +4,14 @@ ghost use Rattle.std.specs.Prelude.{◌≡◌, ◌≢◌, ◌≤◌, ◌++◌, �
 ghost use Rattle.std.specs.List.{AllByRecursion};
 ghost use Rattle.net_world.specs.World.{is_of_link};
 ghost use Rattle.net_world.specs.Script.{MayCome};
-ghost use Rattle.test_nameserver.specs.Peer.{at_start, heard_datagram, messages_in};
+ghost use Rattle.net_world.specs.declared.answers.Sent.TheVariants.{Sent as WasSent};
+ghost use Rattle.net_world.specs.declared.answers.Wrote.TheVariants.{Count};
+ghost use Rattle.net_world.specs.declared.log.WorldCall.TheVariants.{Serve, Send, Write};
+ghost use Rattle.test_nameserver.specs.Peer.{at_start};
 ghost use Rattle.test_nameserver.specs.PeerCalls as meaning;
 ghost use Rattle.test_nameserver.specs.PeerCalls.{logged};
-ghost use Rattle.net_world.specs.declared.log.WorldCall.TheVariants.{Serve};
+ghost use Rattle.test_nameserver.specs.PeerLog.{IsLogOf};
+ghost use Rattle.test_nameserver.specs.Query.{asked_by};
 
 use crate::hearing::{hear_all, note_all, note_datagram, question_key};
 use crate::links::{OpenLink, drop_open, keep_unread, unread_with};
@@ -40,27 +44,15 @@ pub struct PeerWorld {
 }
 
 impl Model for PeerWorld {
-    ghost use Rattle.std.specs.Prelude.{◌≤◌};
-    ghost use Rattle.std.specs.List.{AllByRecursion};
-    ghost use Rattle.net_world.specs.Script.{MayCome};
     ghost use Rattle.test_nameserver.specs.Peer.{PeerState};
-    ghost use Rattle.test_nameserver.specs.Heard.{keys_of};
 
     ghost Value = { PeerState };
 
-    ghost view = { λ w. record {
-      zone = w.zone;
-      seed = w.seed;
-      asked = keys_of w.asked;
-      items = w.items.items;
-      links = w.links.items;
-      drawn = w.drawn;
-      clock = w.clock;
-      reading = w.reading;
-      log = w.log.items;
-    } };
+    ghost use Rattle.test_nameserver.specs.PeerFields.{IsSound, state_of};
 
-    ghost invariant = { λ w. (w.reading ≤ w.clock) × AllByRecursion MayCome w.items.items };
+    ghost view = { state_of };
+
+    ghost invariant = { IsSound };
 }
 
 impl PeerWorld {
@@ -82,9 +74,10 @@ impl PeerWorld {
         })
     }
 
-    /// The calls so far, with their answers.
+    /// The calls so far, with their answers: those of a network of its zone and its seed.
     pub fn log(&self) -> &[WorldCall]
-        ensures { result.now ≡ self.now.log }
+        ensures told { result.now ≡ self.now.log }
+        ensures made { IsLogOf self.now.zone self.now.seed result.now }
     {
         self.log.as_slice()
     }
@@ -129,26 +122,23 @@ impl PeerWorld {
         ensures ok { IfOk result (meaning.Sends server bytes.now self.old self.new) }
         ensures err { OnErr result (self.new ≡ self.old) }
     {
-        let query = query_in(self.alloc, bytes)?;
-        let call = WorldCall::Send {
-            server,
-            bytes: Bytes::of(self.alloc, bytes)?,
-            sent: Sent::Sent,
-        };
-        match query {
-            Some(query) => self.send_query(server, &query, call)?,
-            None => self.log.push(call)?,
+        match query_in(self.alloc, bytes)? {
+            Some(query) => self.send_query(server, bytes, &query)?,
+            None => self.log.push(sent_call(self.alloc, server, bytes)?)?,
         }
         Ok(Sent::Sent)
     }
 
-    fn send_query(&mut self, server: u32, query: &Query, call: WorldCall) -> Result<(), NoMemory>
-        ensures ok { OnOk result (self.new ≡ logged call (heard_datagram server (Some query.now) self.old)) }
+    /// Hears the query that is sent.
+    fn send_query(&mut self, server: u32, bytes: &[u8], query: &Query) -> Result<(), NoMemory>
+        requires { asked_by bytes.now ≡ Some query.now }
+        ensures ok { OnOk result (meaning.Sends server bytes.now self.old self.new WasSent) }
         ensures err { OnErr result (self.new ≡ self.old) }
     {
         let key = question_key(self.alloc, &query.question)?;
         let reply = reply_bytes(self.alloc, &self.zone, query, false)?;
         let got = Got::Datagram(server, reply);
+        let call = sent_call(self.alloc, server, bytes)?;
         self.items.reserve(1)?;
         self.asked.reserve(1)?;
         self.log.push(call)?;
@@ -179,28 +169,24 @@ impl PeerWorld {
         ensures ok { IfOk result (meaning.WritesAll link bytes.now self.old self.new) }
         ensures err { OnErr result (self.new ≡ self.old) }
     {
-        let wrote = Wrote::Count(bytes.len());
-        let call = WorldCall::Write {
-            link,
-            bytes: Bytes::of(self.alloc, bytes)?,
-            wrote,
-        };
         match unread_with(self.alloc, &self.links, link, bytes)? {
-            Some(unread) => self.carry(link, unread.as_slice(), call)?,
-            None => self.log.push(call)?,
+            Some(unread) => self.carry(link, bytes, unread.as_slice())?,
+            None => self.log.push(written_call(self.alloc, link, bytes)?)?,
         }
-        Ok(wrote)
+        Ok(Wrote::Count(bytes.len()))
     }
 
-    /// Hears what an open link carries.
-    fn carry(&mut self, link: u64, unread: &[u8], call: WorldCall) -> Result<(), NoMemory>
-        ensures ok { OnOk result (self.new
-            ≡ logged call (meaning.carried link self.old (messages_in unread.now))) }
+    /// Hears what an open link carries behind the bytes that are written to it.
+    fn carry(&mut self, link: u64, bytes: &[u8], unread: &[u8]) -> Result<(), NoMemory>
+        requires { option_map (λ found. found.unread ++ bytes.now) (find (meaning.has_number link) self.old.links)
+            ≡ Some unread.now }
+        ensures ok { OnOk result (meaning.WritesAll link bytes.now self.old self.new (Count (length bytes.now))) }
         ensures err { OnErr result (self.new ≡ self.old) }
     {
         let (messages, rest) = messages_in(self.alloc, unread)?;
         let heard = hear_all(self.alloc, &self.zone, link, messages.as_slice())?;
         let rest = Bytes::of(self.alloc, rest)?;
+        let call = written_call(self.alloc, link, bytes)?;
         self.asked.reserve(heard.len())?;
         self.items.reserve(heard.len())?;
         self.log.push(call)?;
@@ -246,6 +232,28 @@ impl PeerWorld {
         }
         Ok(Waited::Woken)
     }
+}
+
+/// The call that sends a datagram.
+fn sent_call(alloc: Global, server: u32, bytes: &[u8]) -> Result<WorldCall, NoMemory>
+    ensures { IfOk result (λ call. call ≡ Send server bytes.now WasSent) }
+{
+    Ok(WorldCall::Send {
+        server,
+        bytes: Bytes::of(alloc, bytes)?,
+        sent: Sent::Sent,
+    })
+}
+
+/// The call that writes to a link, which takes all bytes.
+fn written_call(alloc: Global, link: u64, bytes: &[u8]) -> Result<WorldCall, NoMemory>
+    ensures { IfOk result (λ call. call ≡ Write link bytes.now (Count (length bytes.now))) }
+{
+    Ok(WorldCall::Write {
+        link,
+        bytes: Bytes::of(alloc, bytes)?,
+        wrote: Wrote::Count(bytes.len()),
+    })
 }
 
 /// The random word with this number.

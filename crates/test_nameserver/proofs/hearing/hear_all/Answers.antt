@@ -1,4 +1,3 @@
-use Rattle.std.proofs.Common.{rules}
 use Rattle.test_nameserver.specs.Query.{asked_by}
 use Rattle.test_nameserver.specs.Peer.{key_asked, link_reply}
 use Rattle.test_nameserver.proofs.HearingLemmas.{heard_more}

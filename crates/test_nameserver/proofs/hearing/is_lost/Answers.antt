@@ -1,4 +1,4 @@
-use Rattle.std.proofs.Common.{refl, map, length, arith, rules, ◌∙◌, sym}
+use Rattle.std.proofs.Common.{refl, ◌∙◌, sym}
 use Rattle.std.proofs.lemmas.List.{length-map}
 use Rattle.test_nameserver.proofs.HearingLemmas.{any_keys}
 use Rattle.test_nameserver.proofs.hearing.is_lost.Goals as goal

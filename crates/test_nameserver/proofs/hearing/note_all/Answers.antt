@@ -1,4 +1,4 @@
-use Rattle.std.proofs.Common.{◌≡◌, ◌∷◌, [], ◌++◌, map, ap, sym, ◌∙◌, append_assoc, arith, rules}
+use Rattle.std.proofs.Common.{◌≡◌, ◌∷◌, [], ◌++◌, map, ap, sym, ◌∙◌, append_assoc, rules}
 use Rattle.std.specs.Prelude.{fold}
 use Rattle.test_nameserver.specs.Peer.{noted}
 use Rattle.test_nameserver.specs.Heard.{keys_of, key_heard, got_heard}

@@ -1,4 +1,4 @@
-use Rattle.std.proofs.Common.{arith, length, map}
+use Rattle.std.proofs.Common.{map}
 use Rattle.std.proofs.lemmas.List.{length-map}
 use Rattle.test_nameserver.proofs.LineLemmas.{few_words}
 use Rattle.test_nameserver.proofs.line_reading.record_of_words.Goals as goal

@@ -1,6 +1,6 @@
-use Rattle.std.proofs.Common.{◌≡◌, ◌++◌, map, None, ap, ◌∙◌, rules}
+use Rattle.std.proofs.Common.{◌≡◌, map, None, rules}
 use Rattle.std.proofs.lemmas.List.{map-append}
-use Rattle.test_nameserver.specs.Peer.{first_message, messages_in}
+use Rattle.test_nameserver.specs.Peer.{first_message}
 use Rattle.test_nameserver.proofs.HearingLemmas.{next_message, all_messages}
 use Rattle.test_nameserver.proofs.messages.messages_in.Goals as goal
 

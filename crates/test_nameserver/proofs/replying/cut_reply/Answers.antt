@@ -1,6 +1,4 @@
-use Rattle.std.proofs.Common.{[], ap, sym, length, arith}
-use Rattle.dns_message.specs.Spelling.{message_bytes}
-use Rattle.test_nameserver.specs.Reply.{reply_with}
+use Rattle.std.proofs.Common.{arith}
 use Rattle.test_nameserver.proofs.ReplyLemmas.{cut_short}
 use Rattle.test_nameserver.proofs.replying.cut_reply.Goals as goal
 

@@ -1,4 +1,4 @@
-use Rattle.std.proofs.Common.{◌≡◌, sym}
+use Rattle.std.proofs.Common.{sym}
 use Rattle.test_nameserver.proofs.TurnLemmas.{reply_logged}
 use Rattle.test_nameserver.proofs.serving.send_reply.Goals as goal
 

@@ -1,7 +1,6 @@
 use Rattle.std.proofs.Common.{◌+◌, arith, Ok, Err}
 use Rattle.net_world.specs.declared.answers.Sent.TheVariants.{Sent as WasSent, Failed as NotSent}
 use Rattle.test_nameserver.specs.Turns.{AreTurn, AreTurns, FailInTurns, StopInTurns}
-use Rattle.test_nameserver.specs.declared.ending.End.TheVariants.{SocketFault}
 use Rattle.test_nameserver.proofs.TurnLemmas.{logs_trans, one_fails, one_more, one_stops}
 use Rattle.test_nameserver.proofs.serving.take_turns.Goals as goal
 

@@ -1,4 +1,4 @@
-use Rattle.std.proofs.Common.{map, length, arith, rules, ◌∙◌, sym, ◌<◌, get_or}
+use Rattle.std.proofs.Common.{length, rules, ◌∙◌, sym, ◌<◌, get_or}
 use Rattle.std.proofs.lemmas.List.{map-append}
 use Rattle.test_nameserver.specs.Index.{has_key}
 use Rattle.test_nameserver.proofs.IndexLemmas.{next_item, all_items, place_below}

@@ -1,4 +1,4 @@
-use Rattle.std.proofs.Common.{◌≡◌, ◌∷◌, ◌+◌, ap, sym, ◌∙◌, length, arith, rules}
+use Rattle.std.proofs.Common.{◌≡◌, ◌∷◌, ap, sym, ◌∙◌, length, arith, rules}
 use Rattle.text_lines.specs.Left.{lines_left}
 use Rattle.test_nameserver.proofs.LineLemmas.{rest_read, line_taken, line_refused, few_lines}
 use Rattle.test_nameserver.proofs.zone_reading.read_lines.Goals as goal

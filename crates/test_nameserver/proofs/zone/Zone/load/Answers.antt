@@ -1,5 +1,4 @@
-use Rattle.std.proofs.Common.{◌≡◌, refl, false, true, sym, ap, ◌∙◌, arith, rules, append-nil}
-use Rattle.std.proofs.lemmas.Grind.{common_steps}
+use Rattle.std.proofs.Common.{◌≡◌, refl, false, true, sym, rules, append-nil}
 use Rattle.test_nameserver.specs.Load.{is_there, load_zone}
 use Rattle.test_nameserver.proofs.LoadLemmas.{load_more}
 use Rattle.test_nameserver.proofs.zone.Zone.load.Goals as goal

@@ -1,4 +1,3 @@
-use Rattle.std.proofs.Common.{rules}
 use Rattle.test_nameserver.proofs.IndexLemmas.{indexed_more}
 use Rattle.test_nameserver.proofs.zone.Zone.with.Goals as goal
 
