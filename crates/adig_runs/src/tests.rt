@@ -2,6 +2,7 @@
 
 mod ending;
 mod links;
+mod outgoing;
 mod outside;
 mod pages;
 mod refusals;

@@ -1,10 +1,10 @@
 -- The answers that are called for, by the network's calls alone.
-use Rattle.std.proofs.Common.{◌≡◌, ◌≢◌, ℕ, ◌==◌, ◌&&◌, List, [], ◌∷◌, ◌++◌, refl, sym, ap, subst, ◌∙◌, map, Bool, true, false, if◌then◌else◌, inl, inr, eqb-true}
+use Rattle.std.proofs.Common.{◌≡◌, ◌≢◌, ℕ, ◌==◌, ◌&&◌, List, [], ◌∷◌, ◌++◌, refl, sym, ap, ap₂, subst, ◌∙◌, map, Bool, true, false, if◌then◌else◌, inl, inr, arith, eqb-true}
 use Rattle.std.specs.Bool.{then_some}
 use Rattle.std.specs.Cmp.Lexicographic.{bytes_decides, pointwise_decides}
-use Rattle.std.specs.List.{AllByRecursion, list_all}
+use Rattle.std.specs.List.{AllByRecursion, Contains, list_all}
 use Rattle.std.specs.Option.{option_map_or}
-use Rattle.std.specs.Prelude.{Err, None, Ok, Option, Result, Some, filter, find, flat_map, is_some, option_and_then, option_map, slice_get, unwrap_or, ◌⊎◌, ⊤}
+use Rattle.std.specs.Prelude.{Err, IfOk, None, Ok, Option, Result, Some, filter, find, flat_map, is_some, option_and_then, option_map, slice_get, unwrap_or, ◌⊎◌, ⊤}
 use Rattle.std.specs.Char.{to_ascii_lowercase}
 use Rattle.std.proofs.lemmas.List.{append_assoc}
 use mathlib.Core.List.{IsPrefix}
@@ -15,6 +15,7 @@ use Rattle.chan_types.specs.declared.journal.What.TheVariants.{Arrive}
 use Rattle.chan_types.specs.declared.spec.Spec.{Spec}
 use Rattle.chan_types.specs.declared.spec.Spec.TheVariants.{Address, Query, Reverse, Search}
 use Rattle.chan_types.specs.declared.status.Status.{Status}
+use Rattle.dns_message.specs.Mixing.{mixed_question}
 use Rattle.dns_message.specs.Name.{same_name}
 use Rattle.dns_message.specs.Numbers.{is_response, is_standard}
 use Rattle.dns_message.specs.Question.{same_question}
@@ -22,7 +23,8 @@ use Rattle.dns_message.specs.Spelling.{message_bytes}
 use Rattle.dns_message.specs.declared.message.Message.{Message}
 use Rattle.dns_message.specs.declared.message.Question.{Question}
 use Rattle.dns_message.specs.declared.name.Name.{Name}
-use Rattle.dns_message.proofs.Theorems.{same_name_says}
+use Rattle.net_addr.specs.declared.addr.Family.{Family}
+use Rattle.dns_message.proofs.Theorems.{mixed_is_same, same_name_says, same_question_says}
 use Rattle.net_world.specs.declared.log.WorldCall.{WorldCall}
 use Rattle.channel_model.specs.Completion.{fate, requests, waiting_of, is_idle, legs_at, pending}
 use Rattle.channel_model.specs.Course.{IsCourse}
@@ -33,20 +35,18 @@ use Rattle.channel_model.specs.Legs.{Leg, candidate_of, leg_of, legs_of}
 use Rattle.channel_model.specs.Past.{closings, offered_size, query_for, query_of}
 use Rattle.channel_model.specs.Questions.{candidates_of, question_for, question_of, wanted_kind}
 use Rattle.channel_model.specs.Replies.{Reply, read_reply}
-use Rattle.channel_model.specs.Search.{Stand, answer_of_search, asking, over, search_answer, stand_of}
+use Rattle.channel_model.specs.Search.{Stand, answer_of_search, asking, goes_on, over, search_answer, stand_of}
 use Rattle.channel_model.specs.Setting.{Setting}
 use Rattle.channel_model.specs.Traffic.{query_bytes}
 use Rattle.channel_model.proofs.Theorems.{flies_by_position}
-use Rattle.channel_model.proofs.Theorems.{spec_of-later, start_allowed}
-use Rattle.event_runner.specs.UnderWay.{LogGets}
+use Rattle.channel_model.proofs.Theorems.{followed_by-append, spec_of-later, start_allowed}
+use Rattle.net_world.specs.Logs.{LogGets}
 use Rattle.tool_line.specs.declared.ending.Exit.TheVariants.{OutOfMemory}
-use Rattle.adig_tool.specs.Answered.{AreAnswered, IsAnswered, IsMeantBy, WasExchanged, opens_no_link, status_meant}
+use Rattle.adig_tool.specs.Answered.{AreAnswered, IsAnswered, IsMeantBy, IsQuestionOf, WasExchanged, opens_no_link, status_meant}
 use Rattle.adig_tool.specs.Entries.{is_own, is_steady}
-use Rattle.tool_line.specs.Outside.{FilesTold, Outside}
-use Rattle.adig_tool.specs.Running.{Comes, IsRunFor, setting_with}
+use Rattle.tool_line.specs.Outside.{Outside}
+use Rattle.adig_tool.specs.Running.{Comes, setting_with}
 use Rattle.resolv_options.specs.Values.{OptionValues}
-use Rattle.tool_line.specs.Files.{options_set}
-use Rattle.tool_line.specs.declared.adig.AdigAsk.{AdigAsk}
 use Rattle.tool_line.specs.declared.files.FileFault.{FileFault as FaultOfFile}
 use Rattle.adig_tool.specs.Output.{text_at}
 use Rattle.tool_line.specs.Put.{PutsText}
@@ -54,10 +54,11 @@ use Rattle.adig_tool.specs.Promise.{IsTraffic, Promise}
 use Rattle.adig_tool.specs.Session.{first_request}
 use Rattle.owner_laws.specs.Sessions.{longest_slice}
 use Rattle.run_end.specs.declared.ended.Ended.{Ended}
-use Rattle.adig_tool.proofs.ExchangeLemmas.{exchanged, item_passes, two_pass}
-use Rattle.adig_tool.proofs.ListLemmas.{both_hold, heads, one_at_most, tails, three_hold}
-use Rattle.adig_tool.proofs.PromiseLemmas.{log_same, log_then}
+use Rattle.adig_tool.proofs.ExchangeLemmas.{exchanged}
+use Rattle.adig_tool.proofs.ListLemmas.{both_hold, heads, item_passes, one_at_most, tails, three_hold, two_pass}
+use Rattle.adig_tool.proofs.PromiseLemmas.{log_then}
 use Rattle.adig_tool.proofs.ReplyLemmas.{ToldStatus, replied, search_tells, searched}
+use Rattle.adig_tool.proofs.SentLemmas.{no_fault}
 
 -- the request isn't one for addresses
 abbrev IsAsk : Spec → Type 0
@@ -138,31 +139,63 @@ first_of f (n ∷ ns) leg is = by (f n) refl (λ h. first_of f ns leg h) is
     by [] it later h = later h
     by (x ∷ xs) it later h = (n, xs, it ∙ ap (λ y. y ∷ xs) (let e : Some x ≡ Some leg = h in cc))
 
--- the legs of a request's current candidate are its own
-kept_leg : (request : ℕ) (test : Leg → Bool) (ns : List ℕ) (leg : Leg) (rest : List Leg) → filter test (map (leg_of request) ns) ≡ leg ∷ rest → request ≡ leg.request
-kept_leg request test [] leg rest h = absurd (cc h)
-kept_leg request test (n ∷ ns) leg rest h = pass (test (leg_of request n)) (λ k. kept_leg request test ns leg rest k) h
+-- a leg of a candidate
+abbrev IsLegOf : Spec → ℕ → ℕ → Type 0
+IsLegOf spec c number = Contains (legs_of spec c) number × (candidate_of number ≡ c)
+
+-- each of a candidate's legs is one
+each_leg : (spec : Spec) (c : ℕ) → AllByRecursion (IsLegOf spec c) (legs_of spec c)
+each_leg (Query text kind class) c = (((0, omega arith, refl), omega arith), tt)
+each_leg (Search text kind class) c = (((0, omega arith, refl), omega arith), tt)
+each_leg (Address host Family.Any nosort) c = (((0, omega arith, refl), omega arith), (((1, omega arith, refl), omega arith), tt))
+each_leg (Address host Family.V4 nosort) c = (((0, omega arith, refl), omega arith), tt)
+each_leg (Address host Family.V6 nosort) c = (((0, omega arith, refl), omega arith), tt)
+each_leg (Reverse address) c = (((0, omega arith, refl), omega arith), tt)
+
+-- what a test leaves of these legs of a request is of the request, and one of them
+kept_leg : (request : ℕ) (test : Leg → Bool) (P : ℕ → Type 0) (ns : List ℕ) (leg : Leg) (rest : List Leg) → AllByRecursion P ns → filter test (map (leg_of request) ns) ≡ leg ∷ rest →
+    (request ≡ leg.request) × P leg.number
+kept_leg request test P [] leg rest each h = absurd (cc h)
+kept_leg request test P (n ∷ ns) leg rest each h = pass (test (leg_of request n)) (λ k. kept_leg request test P ns leg rest each.1 k) h
   where
-    pass : (b : Bool) → (filter test (map (leg_of request) ns) ≡ leg ∷ rest → request ≡ leg.request) →
-        (if b then leg_of request n ∷ filter test (map (leg_of request) ns) else filter test (map (leg_of request) ns)) ≡ leg ∷ rest → request ≡ leg.request
-    pass true later k = ap (λ l. l.request) (heads (leg_of request n) leg (filter test (map (leg_of request) ns)) rest k)
+    pass : (b : Bool) → (filter test (map (leg_of request) ns) ≡ leg ∷ rest → (request ≡ leg.request) × P leg.number) →
+        (if b then leg_of request n ∷ filter test (map (leg_of request) ns) else filter test (map (leg_of request) ns)) ≡ leg ∷ rest → (request ≡ leg.request) × P leg.number
+    pass true later k =
+        let same : leg_of request n ≡ leg = heads (leg_of request n) leg (filter test (map (leg_of request) ns)) rest k in
+        (ap (λ l. l.request) same, subst P (ap (λ l. l.number) same) each.0)
     pass false later k = later k
 
-stand_leg : (setting : Setting) (past : Past) (request : ℕ) (s : Spec) (leg : Leg) (rest : List Leg) (stand : Stand) → filter (is_idle setting past) (legs_at setting request s stand) ≡ leg ∷ rest → request ≡ leg.request
-stand_leg setting past request s leg rest (asking c) h = kept_leg request (is_idle setting past) (legs_of s c) leg rest h
+-- a leg that waits is its request's, and one of its current candidate's
+record IsAskedBy (spec : Spec) (request : ℕ) (leg : Leg) : Type 0 where
+  candidate : ℕ
+  own : request ≡ leg.request
+  is_leg : IsLegOf spec candidate leg.number
+
+stand_leg : (setting : Setting) (past : Past) (request : ℕ) (s : Spec) (leg : Leg) (rest : List Leg) (stand : Stand) → filter (is_idle setting past) (legs_at setting request s stand) ≡ leg ∷ rest → IsAskedBy s request leg
+stand_leg setting past request s leg rest (asking c) h =
+    let k = kept_leg request (is_idle setting past) (IsLegOf s c) (legs_of s c) leg rest (each_leg s c) h in
+    record { candidate = c; own = k.0; is_leg = k.1 }
 stand_leg setting past request s leg rest (over a) h = absurd (cc h)
 
 -- a request of which a leg waits was accepted
-leg_of_spec : (setting : Setting) (past : Past) (request : ℕ) (leg : Leg) (rest : List Leg) → waiting_of setting past request ≡ leg ∷ rest → (s : Spec) × (spec_of leg.request past ≡ Some s)
+record Accepts (past : Past) (leg : Leg) : Type 0 where
+  spec : Spec
+  asks : spec_of leg.request past ≡ Some spec
+  candidate : ℕ
+  is_leg : IsLegOf spec candidate leg.number
+
+leg_of_spec : (setting : Setting) (past : Past) (request : ℕ) (leg : Leg) (rest : List Leg) → waiting_of setting past request ≡ leg ∷ rest → Accepts past leg
 leg_of_spec setting past request leg rest is = by (spec_of request past) refl is
   where
     by : (found : Option Spec) → spec_of request past ≡ found →
-        filter (is_idle setting past) (unwrap_or (option_map (λ spec. legs_at setting request spec (stand_of setting request spec past)) found) []) ≡ leg ∷ rest → (s : Spec) × (spec_of leg.request past ≡ Some s)
+        filter (is_idle setting past) (unwrap_or (option_map (λ spec. legs_at setting request spec (stand_of setting request spec past)) found) []) ≡ leg ∷ rest → Accepts past leg
     by None none h = absurd (cc h)
-    by (Some s) it h = (s, subst (λ n. spec_of n past ≡ Some s) (stand_leg setting past request s leg rest (stand_of setting request s past) h) it)
+    by (Some s) it h =
+        let k = stand_leg setting past request s leg rest (stand_of setting request s past) h in
+        record { spec = s; asks = subst (λ n. spec_of n past ≡ Some s) k.own it; candidate = k.candidate; is_leg = k.is_leg }
 
 -- an attempt that may start is of an accepted request
-started_spec : (setting : Setting) (past : Past) (what : What) (a : Attempt) → IsLawfulPast setting (what ∷ past) → begun_by what ≡ Some a → (s : Spec) × (spec_of a.leg.request past ≡ Some s)
+started_spec : (setting : Setting) (past : Past) (what : What) (a : Attempt) → IsLawfulPast setting (what ∷ past) → begun_by what ≡ Some a → Accepts past a.leg
 started_spec setting past what a lawful begun =
     let may = start_allowed setting past what a lawful.0 begun in
     let f = first_of (waiting_of setting past) (pending setting past) a.leg may.waits in
@@ -215,6 +248,26 @@ query_shape : (id : ℕ) (question : Question) (norecurse : Bool) (size : Option
 query_shape id question norecurse None = (refl, refl)
 query_shape id question norecurse (Some size) = (refl, refl)
 
+-- a question in any case of letters is the same
+asked_same : (mix : Option ℕ) (question : Question) → same_question (asked_with mix question) question ≡ true
+asked_same None question = (same_question_says question question).1 (record { name = refl; kind = refl; class = refl })
+asked_same (Some bits) question = (same_question_says (mixed_question bits question) question).1 (record { name = mixed_is_same bits question.name; kind = refl; class = refl })
+
+-- the question of a leg is its request's
+leg_asks : (setting : Setting) (spec : Spec) (past : Past) (leg : Leg) (candidate : ℕ) (mix : Option ℕ) (question wanted : Question) → spec_of leg.request past ≡ Some spec → IsLegOf spec candidate leg.number →
+    question_of setting leg past ≡ Some question → asked_with mix question ≡ wanted → IsQuestionOf setting spec wanted
+leg_asks setting spec past leg candidate mix question wanted asks is_leg is as_asked =
+    let made = made_of (question_for spec leg.number) (slice_get (candidates_of setting spec) (candidate_of leg.number)) question
+    (subst (λ o. option_and_then (λ s. option_map (question_for s leg.number) (slice_get (candidates_of setting s) (candidate_of leg.number))) o ≡ Some question) asks is) in
+    record {
+      candidate = candidate;
+      name = made.0;
+      is_candidate = subst (λ c. slice_get (candidates_of setting spec) c ≡ Some made.0) is_leg.1 made.1;
+      leg = leg.number;
+      is_leg = is_leg.0;
+      same = subst (λ q. same_question wanted q ≡ true) (sym made.2) (subst (λ w. same_question w question ≡ true) as_asked (asked_same mix question));
+    }
+
 -- the question of a request's leg stays
 question_stays : (setting : Setting) (leg : Leg) (newer : List What) (older : Past) (s : Spec) → spec_of leg.request older ≡ Some s → question_of setting leg (newer ++ older) ≡ question_of setting leg older
 question_stays setting leg newer older s is =
@@ -242,11 +295,11 @@ module _ (spec : Spec) (setting : Setting) (turns : ℕ) (journal : List Entry) 
       by : (s : Spec) → ToldStatus s status end → (IsAsk s → end ≡ status_meant reply) → IsMeantBy s reply status
       by (Query text kind class) t m = t ∙ m tt
       by (Search text kind class) (inl t) m = inl (t ∙ m tt)
-      by (Search text kind class) (inr t) m = inr t
+      by (Search text kind class) (inr t) m = inr (t.0, subst (λ st. goes_on st ≡ true) (m tt) t.1)
       by (Address host family nosort) t m = tt
       by (Reverse address) t m = t ∙ m tt
 
-  one_answer : (request : ℕ) (answer : Answer) → fate setting request (past_of journal) ≡ Some answer → answer.message ≢ [] → IsAnswered spec calls answer
+  one_answer : (request : ℕ) (answer : Answer) → fate setting request (past_of journal) ≡ Some answer → answer.message ≢ [] → IsAnswered setting spec calls answer
   one_answer request answer is some =
       let se = searched setting request (past_of journal) answer is some in
       let accepted_as = asks_some setting request se.older answer se.searched in
@@ -271,7 +324,16 @@ module _ (spec : Spec) (setting : Setting) (turns : ℕ) (journal : List Entry) 
       let one = asks_one (is_some r.attempt.mix) (asked_question setting r.attempt r.older) r.reply.message.questions shown.1 in
       let q = made_of (asked_with r.attempt.mix) (question_of setting r.attempt.leg r.older) one.wanted one.asked_is in
       let question : question_of setting r.attempt.leg f.older ≡ Some q.0 =
-      sym (question_stays setting r.attempt.leg (f.newer ++ f.start ∷ []) f.older start_spec.0 start_spec.1) ∙ ap (question_of setting r.attempt.leg) (append_assoc f.newer (f.start ∷ []) f.older ∙ sym f.parts) ∙ q.1 in
+      sym (question_stays setting r.attempt.leg (f.newer ++ f.start ∷ []) f.older start_spec.spec start_spec.asks) ∙ ap (question_of setting r.attempt.leg) (append_assoc f.newer (f.start ∷ []) f.older ∙ sym f.parts) ∙ q.1 in
+      let later : List What = se.newer ++ r.newer ++ Arrive r.server r.link t.end.reply ∷ [] in
+      let since : List What = later ++ (f.newer ++ f.start ∷ []) in
+      let start_whole : past_of journal ≡ since ++ f.older =
+      whole_parts se.newer r.newer (Arrive r.server r.link t.end.reply) r.older se.parts r.parts
+      ∙ ap (λ p. later ++ p) (f.parts ∙ sym (append_assoc f.newer (f.start ∷ []) f.older)) ∙ sym (append_assoc later (f.newer ++ f.start ∷ []) f.older) in
+      let asks_same : start_spec.spec ≡ spec = own_spec r.attempt.leg.request f.older since start_spec.spec start_whole start_spec.asks in
+      let started_behind : followed_by (f.start ∷ f.older) begins.back ≡ f.newer ++ f.start ∷ f.older =
+      sym (followed_by-append [] begins.front (begins.entry ∷ begins.back) ∙ ap₂ (λ w p. followed_by (w ∷ p) begins.back) begins.is begins.older_is)
+      ∙ sym (ap (followed_by []) begins.parts) ∙ there.older_is ∙ f.parts in
       let query : Message = query_of setting r.attempt.id (asked_with r.attempt.mix q.0) (closings setting r.attempt.leg f.older) in
       let shape = query_shape r.attempt.id (asked_with r.attempt.mix q.0) setting.options.flags.norecurse (offered_size setting (closings setting r.attempt.leg f.older)) in
       let sent : query_bytes setting f.older r.attempt ≡ message_bytes query =
@@ -287,14 +349,17 @@ module _ (spec : Spec) (setting : Setting) (turns : ℕ) (journal : List Entry) 
             (exchanged setting longest_slice r.server r.link t.end.reply journal calls turns course opens there.front there.back begins.front begins.back there.entry begins.entry r.attempt
             there.parts (seat_none there.entry (item_passes is_own there.front there.back there.entry all_own)) there.is begins.parts
             (seat_none begins.entry (item_passes is_own begins.front begins.back begins.entry front_own)) (ap begun_by begins.is ∙ f.begun)
-            (eqb-true r.attempt.server r.server over.0) (eqb-true r.attempt.link r.link over.1)));
+            (eqb-true r.attempt.server r.server over.0) (eqb-true r.attempt.link r.link over.1)
+            (no_fault setting r.attempt (f.start ∷ f.older) begins.back f.newer started_behind f.spared)));
         reads = ap read_reply t.message ∙ reads.0;
-        same_id = shown.0 ∙ sym shape.0;
         query_asks = shape.1 ∙ ap (λ x. x ∷ []) q.2;
+        wanted = leg_asks setting spec f.older r.attempt.leg start_spec.candidate r.attempt.mix q.0 one.wanted (start_spec.asks ∙ ap Some asks_same)
+            (subst (λ s. IsLegOf s start_spec.candidate r.attempt.leg.number) asks_same start_spec.is_leg) question q.2;
+        same_id = shown.0 ∙ sym shape.0;
         reply_asks = one.questions_are;
         same_asked = one.same;
         meant = meant_by answer.status t.end.status r.reply t.status
-            (λ asks. r.meant (wanted_none r.attempt.leg.request r.attempt.leg.number r.older (se.newer ++ r.newer ++ Arrive r.server r.link t.end.reply ∷ [])
+            (λ asks. r.meant (wanted_none r.attempt.leg.request r.attempt.leg.number r.older later
             (whole_parts se.newer r.newer (Arrive r.server r.link t.end.reply) r.older se.parts r.parts) asks));
       }
     where
@@ -310,15 +375,17 @@ module _ (spec : Spec) (setting : Setting) (turns : ℕ) (journal : List Entry) 
       whole_parts : (a b : List What) (what : What) (older : Past) {mid : Past} → past_of journal ≡ a ++ mid → mid ≡ b ++ what ∷ older → past_of journal ≡ (a ++ b ++ what ∷ []) ++ older
       whole_parts a b what older is more = is ∙ ap (λ p. a ++ p) more ∙ sym (append_assoc a b (what ∷ older)) ∙ sym (append_assoc (a ++ b) (what ∷ []) older)
 
+      -- what a request asks at an earlier position is what the one request asks
+      own_spec : (n : ℕ) (older : Past) (newer : List What) (s : Spec) → past_of journal ≡ newer ++ older → spec_of n older ≡ Some s → s ≡ spec
+      own_spec n older newer s is it = spec_first spec s (past_of journal) n at_most (subst (λ p. spec_of n p ≡ Some s) (sym is) (spec_stays n newer older s it))
+
       -- no kind is wanted at an earlier position
       wanted_none : (n number : ℕ) (older : Past) (newer : List What) → past_of journal ≡ newer ++ older → IsAsk spec → wanted_kind (spec_of n older) number ≡ None
       wanted_none n number older newer is asks = by (spec_of n older) refl
         where
           by : (found : Option Spec) → spec_of n older ≡ found → wanted_kind (spec_of n older) number ≡ None
           by None none = rw none refl
-          by (Some s) it =
-              let same : s ≡ spec = spec_first spec s (past_of journal) n at_most (subst (λ p. spec_of n p ≡ Some s) (sym is) (spec_stays n newer older s it)) in
-              rw (it, same) (any_kind spec number asks)
+          by (Some s) it = rw (it, own_spec n older newer s is it) (any_kind spec number asks)
 
       -- what a message shows that answers
       answer_shown : (id : ℕ) (exact : Bool) (asked : Option Question) (m : Message) → answers id exact asked m ≡ true → (m.id ≡ id) × (asks_only exact asked m.questions ≡ true)
@@ -344,11 +411,11 @@ each_answered P Q follows [] all = tt
 each_answered P Q follows (a ∷ calls) all = (follows a all.0, each_answered P Q follows calls all.1)
 
 -- a run that keeps its promise has answers of this kind
-pub answered_of : (spec : Spec) (setting : Setting) (turns : ℕ) (ended : Ended) (before after : Outside) → Promise spec setting turns ended before after → LogGets (AreAnswered spec ended.status ended.calls) before.network.log after.network.log
+pub answered_of : (spec : Spec) (setting : Setting) (turns : ℕ) (ended : Ended) (before after : Outside) → Promise spec setting turns ended before after → LogGets (AreAnswered setting spec ended.status ended.calls) before.network.log after.network.log
 answered_of spec setting turns ended before after p =
-    log_then (IsTraffic setting turns p.end ended.journal) (AreAnswered spec ended.status ended.calls)
+    log_then (IsTraffic setting turns p.end ended.journal) (AreAnswered setting spec ended.status ended.calls)
     (λ calls traffic served opens.
-    each_answered (λ a. (n : ℕ) × (fate setting n (past_of ended.journal) ≡ Some a)) (λ a. a.message ≢ [] → IsAnswered spec calls a)
+    each_answered (λ a. (n : ℕ) × (fate setting n (past_of ended.journal) ≡ Some a)) (λ a. a.message ≢ [] → IsAnswered setting spec calls a)
     (λ a known some. one_answer spec setting traffic.made ended.journal calls (traffic.course (apart served)) opens p.lawful.allowed p.own p.asked_at_most known.0 a known.1 some)
     ended.calls (each_fate setting (past_of ended.journal) ended.calls (requests (past_of ended.journal)) p.called_once))
     before.network.log after.network.log p.traffic
@@ -357,18 +424,8 @@ answered_of spec setting turns ended before after p =
     apart served none =
         served (let h : PutsText None OutOfMemory ended.status before.output after.output = subst (λ e. PutsText (text_at spec ended.calls e) e ended.status before.output after.output) none p.put.told in h.0)
 
--- so a run for what is asked has
-pub run_answered : (ask : AdigAsk) (turns : ℕ) (ended : Ended) (files_before files_after : FilesTold) (before after : Outside) → IsRunFor ask turns ended files_before files_after before after →
-    LogGets (AreAnswered ask.spec ended.status ended.calls) before.network.log after.network.log
-run_answered ask turns ended files_before files_after before after run = by (options_set ask.settings run.file) run.comes
-  where
-    by : (options : Result OptionValues FaultOfFile) → Comes ask.spec turns options ended before after → LogGets (AreAnswered ask.spec ended.status ended.calls) before.network.log after.network.log
-    by (Ok options) comes = answered_of ask.spec (setting_with options) turns ended before after comes
-    by (Err fault) ends =
-        subst (λ network. LogGets (AreAnswered ask.spec ended.status ended.calls) before.network.log network.log) (sym ends.no_traffic)
-        (log_same (AreAnswered ask.spec ended.status ended.calls)
-        (λ served opens. subst (AllByRecursion (λ answer. answer.message ≢ [] → IsAnswered ask.spec [] answer)) (sym ends.no_calls) tt) before.network.log)
-
--- and one that called for nothing
-pub none_answered : (spec : Spec) (status : ℕ) (log : Option (List WorldCall)) → LogGets (AreAnswered spec status []) log log
-none_answered spec status log = log_same (AreAnswered spec status []) (λ served opens. tt) log
+-- so a run has with the options that it came to
+pub comes_answered : (spec : Spec) (turns : ℕ) (options : Result OptionValues FaultOfFile) (ended : Ended) (before after : Outside) → Comes spec turns options ended before after →
+    IfOk options (λ values. LogGets (AreAnswered (setting_with values) spec ended.status ended.calls) before.network.log after.network.log)
+comes_answered spec turns (Ok options) ended before after comes = answered_of spec (setting_with options) turns ended before after comes
+comes_answered spec turns (Err fault) ended before after ends = tt

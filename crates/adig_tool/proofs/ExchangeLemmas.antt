@@ -1,15 +1,12 @@
 -- Which calls of the network an entry of the journal tells of, and in which order, where no TCP link is begun.
 use Rattle.std.proofs.Common.{◌≡◌, ℕ, ◌+◌, ◌==◌, not, List, [], ◌∷◌, ◌++◌, length, refl, sym, ap, subst, ◌∙◌, Bool, true, false, if◌then◌else◌, inl, inr, arith, eq-eqb}
-use Rattle.std.specs.List.{list_all}
 use Rattle.std.specs.Prelude.{Some, flat_map, is_none, ◌⊎◌}
-use Rattle.std.specs.Option.{option_map_or}
 use Rattle.std.proofs.lemmas.List.{append-nil, append_assoc}
-use Rattle.std.proofs.lemmas.List.Folds.{list_all-append}
 use Rattle.chan_types.specs.declared.journal.Entry.{Entry}
 use Rattle.chan_types.specs.declared.journal.What.{What}
 use Rattle.chan_types.specs.declared.journal.What.TheVariants.{Accept, Arrive, Cancel, Destroy, Expire, Fault, Start, Take, Servers}
 use Rattle.net_world.specs.declared.answers.Got.TheVariants.{Datagram, Ended, Failed as LinkFailed, Nothing, Piece}
-use Rattle.net_world.specs.declared.answers.Sent.{Sent}
+use Rattle.net_world.specs.declared.answers.Sent.TheVariants.{Sent as WasSent}
 use Rattle.net_world.specs.declared.answers.Wrote.TheVariants.{Count, Failed as NotWritten}
 use Rattle.net_world.specs.declared.log.WorldCall.{WorldCall}
 use Rattle.net_world.specs.declared.log.WorldCall.TheVariants.{Close, Connect, Now, Receive, Send, Serve, Wait, Word, Write}
@@ -17,52 +14,17 @@ use Rattle.channel_model.specs.Calls.{connected_by}
 use Rattle.channel_model.specs.Course.{AreTurns, IsCourse, Round, asides_of, calls_of, calls_of_rest, entries_of, has_no_turn, is_of_turn, readings, serves_from}
 use Rattle.channel_model.specs.Flight.{Attempt, begun_by}
 use Rattle.channel_model.specs.Journal.{Past, followed_by, past_of}
-use Rattle.channel_model.specs.Links.{Link, held_after, held_by, told}
+use Rattle.channel_model.specs.Links.{held_after, held_by, told}
 use Rattle.channel_model.specs.Setting.{Setting}
 use Rattle.channel_model.specs.Stretch.{Agrees, Standing, beginning, behind}
-use Rattle.channel_model.specs.Traffic.{Parcel, arrived, asked, asked_by, datagrams, messages, noted, query_bytes}
+use Rattle.channel_model.specs.Traffic.{Parcel, arrived, messages, noted, noticed, notices, of_datagram, query_bytes}
 use Rattle.channel_model.specs.Turn.{IsTurn, is_among, parts_of_entry, receiving}
 use Rattle.channel_model.proofs.Theorems.{agrees_none, agrees_trans, noted-append, turn_agrees}
 use Rattle.channel_model.proofs.Theorems.{rounds_agree, serves_agree}
 use Rattle.channel_model.proofs.Theorems.{receives_first}
 use Rattle.adig_tool.specs.Answered.{WasExchanged, opens_no_link}
-use Rattle.adig_tool.proofs.ListLemmas.{both_hold, first_passes, heads, tails}
-
--- ---- lists that are put together of two, and an item in them
-
--- the item stands in the first, or in the second
-abbrev InFirst : {A : Type 0} → List A → List A → List A → List A → A → Type 0
-InFirst xs ys front back x = (rest : List _) × (xs ≡ front ++ x ∷ rest) × (back ≡ rest ++ ys)
-
-abbrev InSecond : {A : Type 0} → List A → List A → List A → List A → A → Type 0
-InSecond xs ys front back x = (before : List _) × (front ≡ xs ++ before) × (ys ≡ before ++ x ∷ back)
-
-split_further : {A : Type 0} (y : A) (xs ys front back : List A) (x : A) → InFirst xs ys front back x ⊎ InSecond xs ys front back x → InFirst (y ∷ xs) ys (y ∷ front) back x ⊎ InSecond (y ∷ xs) ys (y ∷ front) back x
-split_further y xs ys front back x (inl a) = inl (a.0, ap (λ l. y ∷ l) a.1, a.2)
-split_further y xs ys front back x (inr b) = inr (b.0, ap (λ l. y ∷ l) b.1, b.2)
-
-split_at : {A : Type 0} (xs ys front back : List A) (x : A) → xs ++ ys ≡ front ++ x ∷ back → InFirst xs ys front back x ⊎ InSecond xs ys front back x
-split_at [] ys front back x is = inr (front, refl, is)
-split_at (y ∷ xs) ys [] back x is =
-    let same : y ≡ x = heads y x (xs ++ ys) back is in
-    inl (xs, ap (λ z. z ∷ xs) same, sym (tails y x (xs ++ ys) back is))
-split_at (y ∷ xs) ys (z ∷ front) back x is =
-    let same : y ≡ z = heads y z (xs ++ ys) (front ++ x ∷ back) is in
-    subst (λ f. InFirst (y ∷ xs) ys (f ∷ front) back x ⊎ InSecond (y ∷ xs) ys (f ∷ front) back x) same
-    (split_further y xs ys front back x (split_at xs ys front back x (tails y z (xs ++ ys) (front ++ x ∷ back) is)))
-
--- no list without an item has one
-not_there : {A : Type 0} (front back : List A) (x : A) → [] ≡ front ++ x ∷ back → ⊥
-not_there [] back x is = cc is
-not_there (y ∷ front) back x is = cc is
-
--- a test of two lists
-pub two_pass : {A : Type 0} (test : A → Bool) (xs ys : List A) → list_all test (xs ++ ys) ≡ true → (list_all test xs ≡ true) × (list_all test ys ≡ true)
-two_pass test xs ys h = both_hold (list_all test xs) (list_all test ys) (sym (list_all-append test xs ys) ∙ h)
-
--- an item of a list passes its test
-pub item_passes : {A : Type 0} (test : A → Bool) (front back : List A) (x : A) → list_all test (front ++ x ∷ back) ≡ true → test x ≡ true
-item_passes test front back x h = (first_passes test x back (two_pass test front (x ∷ back) h).1).0
+use Rattle.adig_tool.proofs.ListLemmas.{InFirst, InSecond, first_passes, heads, item_passes, not_there, split_at, tails, two_pass}
+use Rattle.adig_tool.proofs.SentLemmas.{HasFault, start_first, taken_datagram}
 
 -- ---- calls that begin no link
 
@@ -130,37 +92,6 @@ came (call ∷ calls) h front back p is =
         InFirst (messages [] call) (told messages [] calls) front back p ⊎ InSecond (messages [] call) (told messages [] calls) front back p → Came (call ∷ calls) p
     by later (inl a) = came_now call calls front a.0 p a.1
     by later (inr b) = let c = later b.0 back b.2 in record { before = call ∷ c.before; behind = c.behind; calls_are = ap (λ l. call ∷ l) c.calls_are; direct = c.direct }
-
--- the parcel went as a datagram
-record Went (calls : List WorldCall) (p : Parcel) : Type 0 where
-  outcome : Sent
-  before : List WorldCall
-  behind : List WorldCall
-  calls_are : calls ≡ before ++ Send p.server p.bytes outcome ∷ behind
-
-went_now : (held : List Link) (call : WorldCall) (calls : List WorldCall) (front rest : List Parcel) (p : Parcel) → datagrams held call ≡ front ++ p ∷ rest → Went (call ∷ calls) p
-went_now held (Serve server address) calls front rest p is = absurd (not_there front rest p is)
-went_now held (Now reading) calls front rest p is = absurd (not_there front rest p is)
-went_now held (Word word) calls front rest p is = absurd (not_there front rest p is)
-went_now held (Send server bytes outcome) calls [] rest p is =
-    let same : record { server = server; link = 0; bytes = bytes } ≡ p = heads (record { server = server; link = 0; bytes = bytes }) p [] rest is in
-    record { outcome = outcome; before = []; behind = calls; calls_are = ap (λ q. Send q.server q.bytes outcome ∷ calls) same }
-went_now held (Send server bytes outcome) calls (q ∷ front) rest p is = absurd (not_there front rest p (tails (record { server = server; link = 0; bytes = bytes }) q [] (front ++ p ∷ rest) is))
-went_now held (Connect server link outcome) calls front rest p is = absurd (not_there front rest p is)
-went_now held (Write link bytes outcome) calls front rest p is = absurd (not_there front rest p is)
-went_now held (Receive got) calls front rest p is = absurd (not_there front rest p is)
-went_now held (Close link) calls front rest p is = absurd (not_there front rest p is)
-went_now held (Wait until outcome) calls front rest p is = absurd (not_there front rest p is)
-
-went : (held : List Link) (calls : List WorldCall) (front back : List Parcel) (p : Parcel) → told datagrams held calls ≡ front ++ p ∷ back → Went calls p
-went held [] front back p is = absurd (not_there front back p is)
-went held (call ∷ calls) front back p is =
-    by (λ f b e. went (held_by held call) calls f b p e) (split_at (datagrams held call) (told datagrams (held_by held call) calls) front back p is)
-  where
-    by : ((f b : List Parcel) → told datagrams (held_by held call) calls ≡ f ++ p ∷ b → Went calls p) →
-        InFirst (datagrams held call) (told datagrams (held_by held call) calls) front back p ⊎ InSecond (datagrams held call) (told datagrams (held_by held call) calls) front back p → Went (call ∷ calls) p
-    by later (inl a) = went_now held call calls front a.0 p a.1
-    by later (inr b) = let c = later b.0 back b.2 in record { outcome = c.outcome; before = call ∷ c.before; behind = c.behind; calls_are = ap (λ l. call ∷ l) c.calls_are }
 
 -- the calls of a round behind its turn
 abbrev readings_of : Round → List WorldCall
@@ -269,13 +200,6 @@ module _ (setting : Setting) (slice server link : ℕ) (bytes : List ℕ) where
 
   -- ---- in a whole course
 
-  -- the Start of an attempt over link 0 notes its query
-  asks_first : (who : ℕ) (past : Past) (back : List Entry) (e : Entry) (a : Attempt) → e.seat ≡ who → begun_by e.what ≡ Some a → a.link ≡ 0 →
-      noted who (asked setting) past (e ∷ back) ≡ record { server = a.server; link = 0; bytes = query_bytes setting past a } ∷ noted who (asked setting) (e.what ∷ past) back
-  asks_first who past back e a seat begun direct =
-      rw (eq-eqb e.seat who seat, noted) (ap (λ l. l ++ noted who (asked setting) (e.what ∷ past) back)
-      (ap (λ o. option_map_or (asked_by setting past) o []) begun ∙ ap (λ b. if b then record { server = a.server; link = 0; bytes = query_bytes setting past a } ∷ [] else []) (eq-eqb a.link 0 direct)))
-
   -- a Start isn't made while a turn receives
   start_apart : (what : What) (a : Attempt) → begun_by what ≡ Some a → is_among receiving (parts_of_entry what) ≡ false
   start_apart (Accept number spec script) a is = refl
@@ -325,11 +249,11 @@ module _ (setting : Setting) (slice server link : ℕ) (bytes : List ℕ) where
             direct = m.direct;
           }
 
-  -- the query of a Start went before the message of an Arrive behind it came
+  -- the query of a Start went before the message of an Arrive behind it came, where no fault of its way stands between
   pub exchanged : (journal : List Entry) (log : List WorldCall) (turns : ℕ) → IsCourse setting 0 slice journal log turns 0 → opens_no_link log ≡ true → (front back f b : List Entry) (e x : Entry) (a : Attempt) →
       journal ≡ front ++ e ∷ back → e.seat ≡ 0 → e.what ≡ Arrive server link bytes → front ≡ f ++ x ∷ b → x.seat ≡ 0 → begun_by x.what ≡ Some a → a.server ≡ server → a.link ≡ link →
-      WasExchanged server (query_bytes setting (past_of f) a) bytes log
-  exchanged journal log turns course opens front back f b e x a is seat arrive parts own begun to over =
+      (HasFault setting b (record { server = a.server; link = a.link }) → ⊥) → WasExchanged server (query_bytes setting (past_of f) a) bytes log
+  exchanged journal log turns course opens front back f b e x a is seat arrive parts own begun to over none =
       by m (split_at m.earlier m.since f b x (sym m.front_is ∙ parts))
     where
       m : Meets beginning log front
@@ -341,20 +265,31 @@ module _ (setting : Setting) (slice server link : ℕ) (bytes : List ℕ) where
       parcel : Parcel
       parcel = record { server = a.server; link = 0; bytes = query_bytes setting (past_of f) a }
 
+      -- a fault of the way in a part of what stands between is one there
+      none_in : (rest since : List Entry) → b ≡ rest ++ since → HasFault setting rest (record { server = a.server; link = 0 }) → ⊥
+      none_in rest since between h =
+          none (record {
+            front = h.front;
+            entry = h.entry;
+            back = h.back ++ since;
+            moment = h.moment;
+            parts = between ∙ ap (λ l. l ++ since) h.parts ∙ append_assoc h.front (h.entry ∷ h.back) since;
+            is = h.is ∙ ap (λ k. Fault a.server k h.moment) (sym direct);
+          })
+
       by : (m : Meets beginning log front) → InFirst m.earlier m.since f b x ⊎ InSecond m.earlier m.since f b x → WasExchanged server (query_bytes setting (past_of f) a) bytes log
       by m (inr s) = absurd (m.no_start s.0 b x s.2 own (start_apart x.what a begun))
       by m (inl r) =
-          let asked_are : told datagrams [] m.calls_before ≡ noted 0 (asked setting) [] f ++ parcel ∷ noted 0 (asked setting) (x.what ∷ past_of f) r.0 =
-          sym m.agrees.sends ∙ ap (noted 0 (asked setting) []) r.1 ∙ noted-append 0 (asked setting) [] f (x ∷ r.0)
-          ∙ ap (λ l. noted 0 (asked setting) [] f ++ l) (asks_first 0 (past_of f) r.0 x a own begun (over ∙ m.direct)) in
-          let w = went [] m.calls_before (noted 0 (asked setting) [] f) (noted 0 (asked setting) (x.what ∷ past_of f) r.0) parcel asked_are in
+          let told_are : told notices [] m.calls_before ≡ noted 0 (noticed setting) [] f ++ of_datagram parcel ∷ noted 0 (noticed setting) (x.what ∷ past_of f) r.0 =
+          sym m.agrees.in_order ∙ ap (noted 0 (noticed setting) []) r.1 ∙ noted-append 0 (noticed setting) [] f (x ∷ r.0)
+          ∙ ap (λ l. noted 0 (noticed setting) [] f ++ l) (start_first setting 0 (past_of f) r.0 x a own begun direct) in
+          let w = taken_datagram setting [] m.calls_before (noted 0 (noticed setting) [] f) parcel 0 (x.what ∷ past_of f) r.0 told_are (none_in r.0 m.since r.2) in
           record {
-            outcome = w.outcome;
             before = w.before;
             between = w.behind ++ m.before;
             behind = m.behind;
             calls_are = m.calls_are ∙ ap (λ l. l ++ (m.before ++ Receive (Datagram server bytes) ∷ m.behind)) w.calls_are
-                ∙ append_assoc w.before (Send a.server (query_bytes setting (past_of f) a) w.outcome ∷ w.behind) (m.before ++ Receive (Datagram server bytes) ∷ m.behind)
-                ∙ ap (λ l. w.before ++ Send a.server (query_bytes setting (past_of f) a) w.outcome ∷ l) (sym (append_assoc w.behind m.before (Receive (Datagram server bytes) ∷ m.behind)))
-                ∙ ap (λ k. w.before ++ Send k (query_bytes setting (past_of f) a) w.outcome ∷ ((w.behind ++ m.before) ++ Receive (Datagram server bytes) ∷ m.behind)) to;
+                ∙ append_assoc w.before (Send a.server (query_bytes setting (past_of f) a) WasSent ∷ w.behind) (m.before ++ Receive (Datagram server bytes) ∷ m.behind)
+                ∙ ap (λ l. w.before ++ Send a.server (query_bytes setting (past_of f) a) WasSent ∷ l) (sym (append_assoc w.behind m.before (Receive (Datagram server bytes) ∷ m.behind)))
+                ∙ ap (λ k. w.before ++ Send k (query_bytes setting (past_of f) a) WasSent ∷ ((w.behind ++ m.before) ++ Receive (Datagram server bytes) ∷ m.behind)) to;
           }

@@ -8,7 +8,8 @@ pub mod WholeLemmas
 pub mod CalledLemmas
 pub mod ObeyedLemmas
 pub mod PromiseLemmas
-pub mod RunningLemmas
 pub mod ReplyLemmas
+pub mod SentLemmas
 pub mod ExchangeLemmas
 pub mod AnsweredLemmas
+pub mod RunningLemmas

@@ -1,7 +1,8 @@
--- Tests of lists, and lists of one item at most.
-use Rattle.std.proofs.Common.{◌≡◌, ◌&&◌, not, List, [], ◌∷◌, ◌++◌, length, take, refl, ap, Bool, true, false, inl, inr}
+-- Tests of lists, lists of one item at most, and lists that are put together of two.
+use Rattle.std.proofs.Common.{◌≡◌, ◌&&◌, not, List, [], ◌∷◌, ◌++◌, length, take, refl, sym, ap, subst, ◌∙◌, Bool, true, false, inl, inr}
 use Rattle.std.specs.Prelude.{Option, Some, None, option_to_list, ◌⊎◌}
 use Rattle.std.specs.List.{list_all, cons_option}
+use Rattle.std.proofs.lemmas.List.Folds.{list_all-append}
 use mathlib.Core.List.{IsPrefix}
 
 -- three tests that hold
@@ -59,3 +60,39 @@ heads x y xs ys e = cc
 
 pub tails : {A : Type 0} (x y : A) (xs ys : List A) → x ∷ xs ≡ y ∷ ys → xs ≡ ys
 tails x y xs ys e = cc
+
+-- ---- lists that are put together of two, and an item in them
+
+-- the item stands in the first, or in the second
+abbrev pub InFirst : {A : Type 0} → List A → List A → List A → List A → A → Type 0
+InFirst xs ys front back x = (rest : List _) × (xs ≡ front ++ x ∷ rest) × (back ≡ rest ++ ys)
+
+abbrev pub InSecond : {A : Type 0} → List A → List A → List A → List A → A → Type 0
+InSecond xs ys front back x = (before : List _) × (front ≡ xs ++ before) × (ys ≡ before ++ x ∷ back)
+
+split_further : {A : Type 0} (y : A) (xs ys front back : List A) (x : A) → InFirst xs ys front back x ⊎ InSecond xs ys front back x → InFirst (y ∷ xs) ys (y ∷ front) back x ⊎ InSecond (y ∷ xs) ys (y ∷ front) back x
+split_further y xs ys front back x (inl a) = inl (a.0, ap (λ l. y ∷ l) a.1, a.2)
+split_further y xs ys front back x (inr b) = inr (b.0, ap (λ l. y ∷ l) b.1, b.2)
+
+pub split_at : {A : Type 0} (xs ys front back : List A) (x : A) → xs ++ ys ≡ front ++ x ∷ back → InFirst xs ys front back x ⊎ InSecond xs ys front back x
+split_at [] ys front back x is = inr (front, refl, is)
+split_at (y ∷ xs) ys [] back x is =
+    let same : y ≡ x = heads y x (xs ++ ys) back is in
+    inl (xs, ap (λ z. z ∷ xs) same, sym (tails y x (xs ++ ys) back is))
+split_at (y ∷ xs) ys (z ∷ front) back x is =
+    let same : y ≡ z = heads y z (xs ++ ys) (front ++ x ∷ back) is in
+    subst (λ f. InFirst (y ∷ xs) ys (f ∷ front) back x ⊎ InSecond (y ∷ xs) ys (f ∷ front) back x) same
+    (split_further y xs ys front back x (split_at xs ys front back x (tails y z (xs ++ ys) (front ++ x ∷ back) is)))
+
+-- no list without an item has one
+pub not_there : {A : Type 0} (front back : List A) (x : A) → [] ≡ front ++ x ∷ back → ⊥
+not_there [] back x is = cc is
+not_there (y ∷ front) back x is = cc is
+
+-- a test of two lists
+pub two_pass : {A : Type 0} (test : A → Bool) (xs ys : List A) → list_all test (xs ++ ys) ≡ true → (list_all test xs ≡ true) × (list_all test ys ≡ true)
+two_pass test xs ys h = both_hold (list_all test xs) (list_all test ys) (sym (list_all-append test xs ys) ∙ h)
+
+-- an item of a list passes its test
+pub item_passes : {A : Type 0} (test : A → Bool) (front back : List A) (x : A) → list_all test (front ++ x ∷ back) ≡ true → test x ≡ true
+item_passes test front back x h = (first_passes test x back (two_pass test front (x ∷ back) h).1).0

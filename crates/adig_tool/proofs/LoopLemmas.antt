@@ -20,7 +20,8 @@ use Rattle.event_runner.specs.Goes.{Goes, Stops}
 use Rattle.event_runner.specs.Running.{HasLooked, HasWaited, PausesBy, Running, run_of}
 use Rattle.event_runner.specs.State.{IsTurnOwner}
 use Rattle.event_runner.specs.Turning.{IsCutShort, MakesTurn}
-use Rattle.event_runner.specs.UnderWay.{IsSoFar, IsUnderWay, LogGets, RanSince, Reach, RunsSince, delivered, following, rested, turned}
+use Rattle.event_runner.specs.UnderWay.{IsSoFar, IsUnderWay, RanSince, Reach, RunsSince, delivered, following, rested, turned}
+use Rattle.net_world.specs.Logs.{LogGets}
 use Rattle.run_end.specs.declared.loop_end.LoopEnd.{LoopEnd}
 use Rattle.run_end.specs.declared.loop_end.LoopEnd.TheVariants.{Completed, Stalled, WaitFault as WaitFailed}
 use Rattle.adig_tool.specs.Session.{FallsIntoTurns}

@@ -19,7 +19,8 @@ use Rattle.channel_table.specs.Calling.{Owned, known_by_owner}
 use Rattle.event_runner.proofs.Theorems.{ran_at_most, ran_so_far, runs_begin, runs_behind, runs_unbegun, told_as}
 use Rattle.event_runner.specs.Running.{Running}
 use Rattle.event_runner.specs.State.{IsTurnOwner}
-use Rattle.event_runner.specs.UnderWay.{LogGets, RanSince, RunsSince, rested}
+use Rattle.event_runner.specs.UnderWay.{RanSince, RunsSince, rested}
+use Rattle.net_world.specs.Logs.{LogGets}
 use Rattle.run_end.specs.declared.loop_end.LoopEnd.{LoopEnd}
 use Rattle.adig_tool.specs.Session.{FallsIntoTurns, HasAccepted, IsSession, first_request, is_of_session, leaves_running}
 use Rattle.adig_tool.specs.SessionParts.{MakesTurns, Works}

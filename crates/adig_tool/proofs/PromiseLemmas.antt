@@ -27,7 +27,7 @@ use Rattle.channel_progress.specs.PlainRun.{IsPlainRun}
 use Rattle.channel_progress.specs.Waking.{NoWaitFailed}
 use Rattle.channel_progress.proofs.Theorems.{not_failed, stalled_one}
 use Rattle.channel_table.specs.Calling.{Owned}
-use Rattle.event_runner.specs.UnderWay.{LogGets}
+use Rattle.net_world.specs.Logs.{LogGets}
 use Rattle.event_runner.proofs.Theorems.{course_then, so_far_then, stalled_then}
 use Rattle.tool_line.specs.Words.{Text}
 use Rattle.tool_line.specs.declared.ending.Exit.{Exit}
@@ -431,5 +431,5 @@ promise_early spec setting turns outside = record {
   traffic = log_same (IsTraffic setting turns OutOfMemory []) (nothing_called setting turns) outside.network.log;
   completes = log_same (λ calls. IsGivenTime setting turns [] calls → ¬ Rose outside.output.faults outside.output.faults → IsComplete spec (record { status = 5; journal = []; calls = [] }) outside.output outside.output)
       (λ time quiet. inr refl) outside.network.log;
-  put = record { told = (refl, refl); counted = omega arith };
+  put = record { told = (refl, (refl, refl)); counted = omega arith };
 }

@@ -171,10 +171,10 @@ module _ (setting : Setting) (leg : Leg) where
 
 -- ---- the leg whose end a request's answer tells
 
--- a request's status is its leg's; a search's may be NoData
+-- a request's status is its leg's; a search's may be NoData in place of one with which it goes on
 abbrev pub ToldStatus : Spec → Status → Status → Type 0
 ToldStatus (Query text kind class) status end = status ≡ end
-ToldStatus (Search text kind class) status end = (status ≡ end) ⊎ (status ≡ NoData)
+ToldStatus (Search text kind class) status end = (status ≡ end) ⊎ ((status ≡ NoData) × (goes_on end ≡ true))
 ToldStatus (Address host family nosort) status end = status ≡ end
 ToldStatus (Reverse address) status end = status ≡ end
 
@@ -349,12 +349,18 @@ search_told setting request text kind class past answer empty (Some a) it is som
       end = t.end;
       ends = t.ends;
       message = message ∙ t.message;
-      status = subst (λ st. ToldStatus (Search text kind class) st t.end.status) (ap (λ x. x.status) same) (either (goes_on a.status && empty) t.end.status t.status);
+      status = subst (λ st. ToldStatus (Search text kind class) st t.end.status) (ap (λ x. x.status) same) (either (goes_on a.status) empty refl t.end.status t.status);
     }
   where
-    either : (b : Bool) (end : Status) → ToldStatus (Search text kind class) a.status end → ToldStatus (Search text kind class) (if b then record a { status = NoData } else a).status end
-    either true end told = inr refl
-    either false end told = told
+    ends_so : (end : Status) → ToldStatus (Search text kind class) a.status end → goes_on a.status ≡ true → goes_on end ≡ true
+    ends_so end (inl same) on = subst (λ st. goes_on st ≡ true) same on
+    ends_so end (inr other) on = other.1
+
+    either : (b c : Bool) → goes_on a.status ≡ b → (end : Status) → ToldStatus (Search text kind class) a.status end →
+        ToldStatus (Search text kind class) (if b && c then record a { status = NoData } else a).status end
+    either true true on end told = inr (refl, ends_so end told on)
+    either true false on end told = told
+    either false c on end told = told
 
 -- an address request has no message
 address_told : (setting : Setting) (request : ℕ) (host : List ℕ) (family : Family) (nosort : Bool) (past : Past) (answer : Answer) (empty : Bool) (found : Option Answer) →

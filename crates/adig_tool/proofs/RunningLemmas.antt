@@ -1,6 +1,6 @@
 -- How a run comes to its promise: by its words, and by the file that it reads.
-use Rattle.std.proofs.Common.{◌≡◌, ◌≢◌, ℕ, List, [], length, refl, sym, ap, subst, ◌∙◌, inr, arith, ltb-true, ltb-false}
-use Rattle.std.specs.Prelude.{Bool, Err, None, Ok, Option, Result, Some, false, nat_lt, true}
+use Rattle.std.proofs.Common.{◌≡◌, ◌≢◌, ℕ, List, [], ◌∷◌, length, refl, sym, ap, subst, ◌∙◌, inl, inr, arith, ltb-true, ltb-false}
+use Rattle.std.specs.Prelude.{Bool, Err, IfOk, None, Ok, Option, Result, Some, false, nat_lt, true}
 use Rattle.std.specs.String.{string_bytes}
 use Rattle.item_list.specs.declared.no_memory.NoMemory.{NoMemory}
 use Rattle.net_world.specs.Cause.{HasCause, Rose, is_not_read}
@@ -21,8 +21,13 @@ use Rattle.tool_line.specs.declared.ending.Exit.TheVariants.{FileFault}
 use Rattle.tool_line.specs.declared.files.FileFault.{FileFault as FaultOfFile}
 use Rattle.tool_line.specs.declared.files.FileFault.TheVariants.{Failed, NoMemory as NoMemoryLeft, TooLarge}
 use Rattle.tool_line.specs.Outside.{FilesTold, Outside}
+use Rattle.tool_line.specs.Read.{HasRead, HasReadAt, read_call}
+use Rattle.tool_line.proofs.ReadLemmas.{read_none_at}
+use Rattle.net_world.specs.Logs.{LogGets}
+use Rattle.adig_tool.specs.Answered.{AreAnswered}
 use Rattle.adig_tool.specs.Running.{Comes, EndsEarly, IsRunFor, setting_with}
 use Rattle.run_end.specs.declared.ended.Ended.{Ended}
+use Rattle.adig_tool.proofs.AnsweredLemmas.{comes_answered}
 use Rattle.adig_tool.proofs.PromiseLemmas.{promise_early}
 
 -- ---- words ask one thing
@@ -57,9 +62,12 @@ same_run words a b turns ended files_before files_after before after x y run =
     record {
       file = run.file;
       read = subst (λ p. IsReadOf files_before.files p 65536 run.file) path run.read;
+      reads = subst (λ p. HasReadAt ended.status (read_call p 65536 run.file ∷ []) files_before.reads files_after.reads) path run.reads;
       read_fault = run.read_fault;
       comes = subst (λ s. Comes s turns (options_set b.settings run.file) ended before after) spec
           (subst (λ v. Comes a.spec turns (options_set v run.file) ended before after) settings run.comes);
+      answered = subst (λ s. IfOk (options_set b.settings run.file) (λ options. LogGets (AreAnswered (setting_with options) s ended.status ended.calls) before.network.log after.network.log)) spec
+          (subst (λ v. IfOk (options_set v run.file) (λ options. LogGets (AreAnswered (setting_with options) a.spec ended.status ended.calls) before.network.log after.network.log)) settings run.answered);
     }
 
 -- ---- want of memory before there is a channel
@@ -84,42 +92,60 @@ early_comes spec turns (Err fault) outside = record {
   no_journal = refl;
   no_calls = refl;
   no_traffic = refl;
-  put = record { told = inr (inr (refl, refl)); counted = omega arith };
+  put = record { told = inr (inr (refl, (refl, refl))); counted = omega arith };
 }
 
--- a run that wanted memory before it read the file, or behind that
-pub early_run : (ask : AdigAsk) (turns : ℕ) (files_before files_after : FilesTold) (outside : Outside) → IsRunFor ask turns (record { status = 5; journal = []; calls = [] }) files_before files_after outside outside
-early_run ask turns files_before files_after outside =
+-- a run that wanted memory before it had read the file
+pub early_run : (ask : AdigAsk) (turns : ℕ) (files_before files_after : FilesTold) (outside : Outside) → files_after.reads ≡ files_before.reads →
+    IsRunFor ask turns (record { status = 5; journal = []; calls = [] }) files_before files_after outside outside
+early_run ask turns files_before files_after outside unread =
     let found = some_read files_before.files (string_bytes ask.resolv) in
     record {
       file = found.0;
       read = found.1;
+      reads = subst (HasReadAt 5 (read_call (string_bytes ask.resolv) 65536 found.0 ∷ []) files_before.reads) (sym unread) (read_none_at (read_call (string_bytes ask.resolv) 65536 found.0 ∷ []) files_before.reads);
       read_fault = λ is. absurd (found.2 is);
       comes = early_comes ask.spec turns (options_set ask.settings found.0) outside;
+      answered = comes_answered ask.spec turns (options_set ask.settings found.0) _ outside outside (early_comes ask.spec turns (options_set ask.settings found.0) outside);
     }
 
 -- a run that came to something with the options of the file that was read
 pub run_of : (ask : AdigAsk) (turns : ℕ) (ended : Ended) (files_before files_after : FilesTold) (before after : Outside) (file : FileRead) (options : Result OptionValues FaultOfFile) →
-    IsReadOf files_before.files (string_bytes ask.resolv) 65536 file → (file ≡ NotRead → Rose files_before.faults files_after.faults) → options_set ask.settings file ≡ options →
+    IsReadOf files_before.files (string_bytes ask.resolv) 65536 file → HasRead (read_call (string_bytes ask.resolv) 65536 file ∷ []) files_before.reads files_after.reads →
+    (file ≡ NotRead → Rose files_before.faults files_after.faults) → options_set ask.settings file ≡ options →
     Comes ask.spec turns options ended before after → IsRunFor ask turns ended files_before files_after before after
-run_of ask turns ended files_before files_after before after file options read cause is comes = record {
+run_of ask turns ended files_before files_after before after file options read told cause is comes = record {
   file = file;
   read = read;
+  reads = inl told;
   read_fault = cause;
   comes = subst (λ o. Comes ask.spec turns o ended before after) (sym is) comes;
+  answered = comes_answered ask.spec turns (options_set ask.settings file) ended before after (subst (λ o. Comes ask.spec turns o ended before after) (sym is) comes);
 }
 
 -- what a read answered that didn't want memory
 abbrev ok_of : FileRead → Result FileRead NoMemory
 ok_of file = Ok file
 
--- a file that can't be read ended the run
-pub fault_run : (ask : AdigAsk) (turns : ℕ) (ended : Ended) (files_before files_after : FilesTold) (before after : Outside) (path : List ℕ) (file : FileRead) (fault : FaultOfFile) →
-    path ≡ string_bytes ask.resolv → IsReadOf files_before.files path 65536 file → HasCause files_before.faults files_after.faults is_not_read (ok_of file) → options_set ask.settings file ≡ Err fault →
-    EndsEarly FileFault ended before after → IsRunFor ask turns ended files_before files_after before after
-fault_run ask turns ended files_before files_after before after path file fault same read cause is ends =
-    run_of ask turns ended files_before files_after before after file (Err fault) (subst (λ p. IsReadOf files_before.files p 65536 file) same read)
-    (λ failed. cause.cause (ap is_not_read failed)) is ends
+-- a run that came to something with this file, which was read at a path
+module _ (ask : AdigAsk) (turns : ℕ) (ended : Ended) (files_before files_after : FilesTold) (before after : Outside) (path : List ℕ) (file : FileRead)
+    (same : path ≡ string_bytes ask.resolv) (read : IsReadOf files_before.files path 65536 file) (cause : HasCause files_before.faults files_after.faults is_not_read (ok_of file))
+    (told : HasRead (read_call path 65536 file ∷ []) files_before.reads files_after.reads) where
+  pub read_run : (options : Result OptionValues FaultOfFile) → options_set ask.settings file ≡ options → Comes ask.spec turns options ended before after → IsRunFor ask turns ended files_before files_after before after
+  read_run options is comes =
+      run_of ask turns ended files_before files_after before after file options (subst (λ p. IsReadOf files_before.files p 65536 file) same read)
+      (subst (λ p. HasRead (read_call p 65536 file ∷ []) files_before.reads files_after.reads) same told) (λ failed. cause.cause (ap is_not_read failed)) is comes
+
+  -- a file that can't be read ended the run
+  pub fault_run : (fault : FaultOfFile) → options_set ask.settings file ≡ Err fault → EndsEarly FileFault ended before after → IsRunFor ask turns ended files_before files_after before after
+  fault_run fault is ends = read_run (Err fault) is ends
+
+-- memory was wanting behind it
+pub wanting_run : (ask : AdigAsk) (turns : ℕ) (files_before files_after : FilesTold) (outside : Outside) (path : List ℕ) (file : FileRead) → path ≡ string_bytes ask.resolv →
+    IsReadOf files_before.files path 65536 file → HasCause files_before.faults files_after.faults is_not_read (ok_of file) → HasRead (read_call path 65536 file ∷ []) files_before.reads files_after.reads →
+    IsRunFor ask turns (record { status = 5; journal = []; calls = [] }) files_before files_after outside outside
+wanting_run ask turns files_before files_after outside path file same read cause told =
+    read_run ask turns _ files_before files_after outside outside path file same read cause told (options_set ask.settings file) refl (early_comes ask.spec turns (options_set ask.settings file) outside)
 
 -- such a fault is no want of memory
 pub failed_apart : (fault : FaultOfFile) → fault ≡ Failed → fault ≢ NoMemoryLeft

@@ -21,7 +21,7 @@ use Rattle.channel_progress.specs.Allowed.{attempts_allowed}
 use Rattle.channel_progress.specs.Waking.{NoWaitFailed, WakesInTime}
 use Rattle.tool_line.specs.declared.ending.Exit.{Exit}
 use Rattle.tool_line.specs.declared.ending.Exit.TheVariants.{Failure, OutOfMemory, Stalled, Success, WaitFault}
-use Rattle.event_runner.specs.UnderWay.{LogGets}
+use Rattle.net_world.specs.Logs.{LogGets}
 use Rattle.adig_tool.specs.Entries.{closing, is_own, no_orders}
 use Rattle.tool_line.specs.Outside.{GrowsBy, Outside, OutputTold}
 use Rattle.adig_tool.specs.Output.{page_for, text_at}

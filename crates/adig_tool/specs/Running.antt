@@ -1,5 +1,5 @@
 -- How a run comes to its promise: by its words, and by the resolv.conf that it reads.
-use Rattle.std.specs.Prelude.{List, Result, Ok, Err, [], ℕ, ◌≡◌}
+use Rattle.std.specs.Prelude.{List, Result, IfOk, Ok, Err, [], ℕ, ◌∷◌, ◌≡◌}
 use Rattle.std.specs.String.{string_bytes}
 use Rattle.net_world.specs.Cause.{Rose}
 use Rattle.net_world.specs.Files.{IsReadOf}
@@ -19,6 +19,9 @@ use Rattle.tool_line.specs.declared.ending.Tool.TheVariants.{Adig}
 use Rattle.tool_line.specs.declared.files.FileFault.{FileFault as FaultOfFile}
 use Rattle.tool_line.specs.Outside.{FilesTold, Outside}
 use Rattle.tool_line.specs.Put.{IsPut}
+use Rattle.tool_line.specs.Read.{HasReadAt, read_call}
+use Rattle.net_world.specs.Logs.{LogGets}
+use Rattle.adig_tool.specs.Answered.{AreAnswered}
 use Rattle.adig_tool.specs.Promise.{Promise}
 use Rattle.run_end.specs.declared.ended.Ended.{Ended}
 
@@ -51,7 +54,11 @@ pub record IsRunFor (ask : AdigAsk) (turns : ℕ) (ended : Ended) (files_before 
   -- resolv.conf as it was read: where files are told, its whole content of at most 65,536 bytes, or that there is none, or that it has more.
   pub file : FileRead
   pub read : IsReadOf files_before.files (string_bytes ask.resolv) 65536 file
+  -- That is the run's one read; where memory was wanting at it, nothing was read, and the exit status is 5.
+  pub reads : HasReadAt ended.status (read_call (string_bytes ask.resolv) 65536 file ∷ []) files_before.reads files_after.reads
   -- A read fails only where the count of failures rose in this run.
   pub read_fault : file ≡ NotRead → Rose files_before.faults files_after.faults
   -- The channel's options are those of the file, and what the words set in place of them.
   pub comes : Comes ask.spec turns (options_set ask.settings file) ended before after
+  -- Where the network tells its calls, and they begin no TCP link, an answer with a message is a reply to a query of this run, for a question that was asked under these options.
+  pub answered : IfOk (options_set ask.settings file) (λ options. LogGets (AreAnswered (setting_with options) ask.spec ended.status ended.calls) before.network.log after.network.log)

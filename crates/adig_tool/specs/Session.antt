@@ -17,7 +17,7 @@ use Rattle.channel_model.specs.Journal.{Accepted, accepted, past_of}
 use Rattle.channel_model.specs.Lawful.{IsLawful}
 use Rattle.channel_progress.specs.Waking.{NoWaitFailed}
 use Rattle.channel_table.specs.Calling.{Owned}
-use Rattle.event_runner.specs.UnderWay.{LogGets}
+use Rattle.net_world.specs.Logs.{LogGets}
 use Rattle.owner_laws.specs.Sessions.{BeginsPending, EndsWithFailedWait, longest_slice}
 use Rattle.run_end.specs.Left.{LeavesPending}
 use Rattle.run_end.specs.declared.loop_end.LoopEnd.{LoopEnd}

@@ -12,7 +12,8 @@ use Rattle.channel_model.specs.Lawful.{IsLawful}
 use Rattle.channel_table.specs.Calling.{Owned, known_by_owner}
 use Rattle.event_runner.specs.Running.{Running}
 use Rattle.event_runner.specs.State.{IsTurnOwner}
-use Rattle.event_runner.specs.UnderWay.{LogGets, RunsSince, rested}
+use Rattle.event_runner.specs.UnderWay.{RunsSince, rested}
+use Rattle.net_world.specs.Logs.{LogGets}
 use Rattle.run_end.specs.declared.loop_end.LoopEnd.{LoopEnd}
 use Rattle.adig_tool.specs.Session.{FallsIntoTurns, is_of_session}
 use Rattle.owner_laws.specs.Sessions.{longest_slice}

@@ -23,10 +23,12 @@ pub fn ask<W: World, F: Files, K: Sink>(
     turns: u64,
 ) -> Ended
     ensures promise { IsRunFor asked turns result
-        (files_told (F.files files.old) (F.faults files.old)) (files_told (F.files files.new) (F.faults files.new))
-        (outside (W.log world.old) (W.wait_faults world.old) (K.bytes sink.old) (K.faults sink.old))
-        (outside (W.log world.new) (W.wait_faults world.new) (K.bytes sink.new) (K.faults sink.new)) }
+        (files_told (F.files files.old) (F.faults files.old) (F.reads files.old))
+        (files_told (F.files files.new) (F.faults files.new) (F.reads files.new))
+        (outside (W.log world.old) (W.wait_faults world.old) (K.bytes sink.old) (K.faults sink.old) (K.puts sink.old))
+        (outside (W.log world.new) (W.wait_faults world.new) (K.bytes sink.new) (K.faults sink.new) (K.puts sink.new)) }
     ensures files { F.files files.new ≡ F.files files.old }
+    ensures origin { W.origin world.new ≡ W.origin world.old }
 {
     let AdigAsk {
         resolv,
@@ -47,8 +49,8 @@ pub fn ask<W: World, F: Files, K: Sink>(
 /// Ends a run before it has a channel: the line of this end is put.
 pub fn leave<K: Sink>(alloc: Global, sink: &mut K, end: Exit) -> Ended
     ensures { (log : Option (List WorldCall)) (wait_faults : ℕ) → EndsEarly end result
-        (outside log wait_faults (K.bytes sink.old) (K.faults sink.old))
-        (outside log wait_faults (K.bytes sink.new) (K.faults sink.new)) }
+        (outside log wait_faults (K.bytes sink.old) (K.faults sink.old) (K.puts sink.old))
+        (outside log wait_faults (K.bytes sink.new) (K.faults sink.new) (K.puts sink.new)) }
 {
     let status = put_line(sink, end);
     Ended::early(alloc, status)

@@ -15,8 +15,8 @@ use tool_line::{Exit, Tool, page_of};
 /// Puts the text of a run that came to this end, and answers the exit status.
 pub fn put<K: Sink>(sink: &mut K, text: &[u8], end: Exit) -> u8
     ensures { IsPut (Some text.now) end result
-        (record { bytes = K.bytes sink.old; faults = K.faults sink.old })
-        (record { bytes = K.bytes sink.new; faults = K.faults sink.new }) }
+        (record { bytes = K.bytes sink.old; faults = K.faults sink.old; puts = K.puts sink.old })
+        (record { bytes = K.bytes sink.new; faults = K.faults sink.new; puts = K.puts sink.new }) }
 {
     match sink.put(text) {
         Ok(PutEnd::Done) => end.number(),
@@ -28,8 +28,8 @@ pub fn put<K: Sink>(sink: &mut K, text: &[u8], end: Exit) -> u8
 /// Puts the line that stands in place of a page at this end, if there is one.
 pub fn put_line<K: Sink>(sink: &mut K, end: Exit) -> u8
     ensures { IsPut (text_of Adig end) end result
-        (record { bytes = K.bytes sink.old; faults = K.faults sink.old })
-        (record { bytes = K.bytes sink.new; faults = K.faults sink.new }) }
+        (record { bytes = K.bytes sink.old; faults = K.faults sink.old; puts = K.puts sink.old })
+        (record { bytes = K.bytes sink.new; faults = K.faults sink.new; puts = K.puts sink.new }) }
 {
     match end.text(Tool::Adig) {
         Some(line) => put(sink, line.as_bytes(), end),
@@ -40,8 +40,8 @@ pub fn put_line<K: Sink>(sink: &mut K, end: Exit) -> u8
 /// Puts the page of a request whose callback was called, if it was.
 fn put_page<K: Sink>(alloc: Global, spec: &Spec, calls: &Calls, end: Exit, sink: &mut K) -> u8
     ensures { IsPut (page_for spec.now calls.now) end result
-        (record { bytes = K.bytes sink.old; faults = K.faults sink.old })
-        (record { bytes = K.bytes sink.new; faults = K.faults sink.new }) }
+        (record { bytes = K.bytes sink.old; faults = K.faults sink.old; puts = K.puts sink.old })
+        (record { bytes = K.bytes sink.new; faults = K.faults sink.new; puts = K.puts sink.new }) }
 {
     match calls.iter().next() {
         Some(answer) => match page_of(alloc, spec, answer) {
@@ -55,8 +55,8 @@ fn put_page<K: Sink>(alloc: Global, spec: &Spec, calls: &Calls, end: Exit, sink:
 /// Puts the text of a run that came to this end: its page, or the line in place of it.
 pub fn tell<K: Sink>(alloc: Global, spec: &Spec, calls: &Calls, end: Exit, sink: &mut K) -> u8
     ensures { IsPut (text_at spec.now calls.now end) end result
-        (record { bytes = K.bytes sink.old; faults = K.faults sink.old })
-        (record { bytes = K.bytes sink.new; faults = K.faults sink.new }) }
+        (record { bytes = K.bytes sink.old; faults = K.faults sink.old; puts = K.puts sink.old })
+        (record { bytes = K.bytes sink.new; faults = K.faults sink.new; puts = K.puts sink.new }) }
 {
     match end {
         Exit::Success | Exit::Failure => put_page(alloc, spec, calls, end, sink),

@@ -29,9 +29,10 @@ pub fn resolve<W: World, K: Sink>(
     sink: &mut K,
     turns: u64,
 ) -> Ended
-    ensures { Promise spec.now (setting_with options) turns result
-        (outside (W.log world.old) (W.wait_faults world.old) (K.bytes sink.old) (K.faults sink.old))
-        (outside (W.log world.new) (W.wait_faults world.new) (K.bytes sink.new) (K.faults sink.new)) }
+    ensures promise { Promise spec.now (setting_with options) turns result
+        (outside (W.log world.old) (W.wait_faults world.old) (K.bytes sink.old) (K.faults sink.old) (K.puts sink.old))
+        (outside (W.log world.new) (W.wait_faults world.new) (K.bytes sink.new) (K.faults sink.new) (K.puts sink.new)) }
+    ensures origin { W.origin world.new ≡ W.origin world.old }
 {
     let Ok((told, mut alone)) = channel_with(alloc, options) else {
         return Ended::early(alloc, Exit::OutOfMemory.number());

@@ -2,8 +2,6 @@
 
 ghost use Rattle.std.specs.Prelude.{◌≡◌, map};
 ghost use Rattle.tool_line.specs.declared.ending.Exit.TheVariants.{Usage};
-ghost use Rattle.event_runner.specs.UnderWay.{LogGets};
-ghost use Rattle.adig_tool.specs.Answered.{AreAnswered};
 ghost use Rattle.tool_line.specs.Outside.{files_told, outside};
 ghost use Rattle.adig_tool.specs.Running.{AreRefused, EndsEarly, ForWords, IsRunFor};
 
@@ -25,21 +23,20 @@ pub fn run<W: World, F: Files, K: Sink>(
     // Words that ask nothing are refused: no file is read, and the network isn't called.
     ensures refused { AreRefused (map (λ word. word.now) words.now)
         → (files.new ≡ files.old) × (world.new ≡ world.old) × EndsEarly Usage result
-        (outside (W.log world.old) (W.wait_faults world.old) (K.bytes sink.old) (K.faults sink.old))
-        (outside (W.log world.new) (W.wait_faults world.new) (K.bytes sink.new) (K.faults sink.new)) }
+        (outside (W.log world.old) (W.wait_faults world.old) (K.bytes sink.old) (K.faults sink.old) (K.puts sink.old))
+        (outside (W.log world.new) (W.wait_faults world.new) (K.bytes sink.new) (K.faults sink.new) (K.puts sink.new)) }
 
-    // Words that ask something: the run keeps its promise, with the options of the resolv.conf that it reads.
+    // Words that ask something: resolv.conf is read once, with its options the run keeps its promise, and its answers are
+    // replies to queries of this run.
     ensures promise { ForWords (map (λ word. word.now) words.now) (λ asked. IsRunFor asked turns result
-        (files_told (F.files files.old) (F.faults files.old)) (files_told (F.files files.new) (F.faults files.new))
-        (outside (W.log world.old) (W.wait_faults world.old) (K.bytes sink.old) (K.faults sink.old))
-        (outside (W.log world.new) (W.wait_faults world.new) (K.bytes sink.new) (K.faults sink.new))) }
+        (files_told (F.files files.old) (F.faults files.old) (F.reads files.old))
+        (files_told (F.files files.new) (F.faults files.new) (F.reads files.new))
+        (outside (W.log world.old) (W.wait_faults world.old) (K.bytes sink.old) (K.faults sink.old) (K.puts sink.old))
+        (outside (W.log world.new) (W.wait_faults world.new) (K.bytes sink.new) (K.faults sink.new) (K.puts sink.new))) }
 
-    // Where the network tells its calls, and they begin no TCP link, an answer with a message is a reply to a query of this run.
-    ensures answered { ForWords (map (λ word. word.now) words.now) (λ asked. LogGets
-        (AreAnswered asked.spec result.status result.calls) (W.log world.old) (W.log world.new)) }
-
-    // The files stay as they are.
+    // The files stay as they are, and the network is the one that was lent.
     ensures files { F.files files.new ≡ F.files files.old }
+    ensures origin { W.origin world.new ≡ W.origin world.old }
 {
     match adig_ask(alloc, words) {
         Ok(asked) => ask(alloc, asked, files, world, sink, turns),

@@ -36,6 +36,7 @@ pub fn session<W: World>(
     ensures waits { W.wait_faults world.old ≤ W.wait_faults world.new }
     ensures wait_fault { result ≡ Ok LoopEnd.WaitFault
         → Rose (W.wait_faults world.old) (W.wait_faults world.new) }
+    ensures origin { W.origin world.new ≡ W.origin world.old }
 {
     let mut runner = Runner::make(alloc, world, options)?;
     let asked = spec.copy(alloc)?;
@@ -59,6 +60,7 @@ fn make_turns<W: World>(
     ensures waits { W.wait_faults world.old ≤ W.wait_faults world.new }
     ensures wait_fault { result ≡ Ok LoopEnd.WaitFault
         → Rose (W.wait_faults world.old) (W.wait_faults world.new) }
+    ensures origin { W.origin world.new ≡ W.origin world.old }
 {
     deliver_all(alone, calls);
     for _ in 0..turns {

@@ -8,6 +8,7 @@ mod families;
 mod loads;
 mod names;
 mod outside;
+mod reading;
 mod reentry;
 mod servers;
 mod statuses;

@@ -19,7 +19,9 @@ pub mod FinalLemmas
 pub mod ProgressLemmas
 pub mod EndLemmas
 pub mod PromiseLemmas
+pub mod NetworkLemmas
+pub mod QuietLemmas
+pub mod SettingLemmas
 pub mod LoadingLemmas
 pub mod RunningLemmas
 pub mod LaterLemmas
-pub mod SettingLemmas

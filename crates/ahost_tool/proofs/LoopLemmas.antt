@@ -25,7 +25,8 @@ use Rattle.event_runner.specs.Goes.{Goes, Stops}
 use Rattle.event_runner.specs.Running.{HasLooked, HasWaited, PausesBy, Running, run_of}
 use Rattle.event_runner.specs.State.{IsTurnOwner}
 use Rattle.event_runner.specs.Turning.{IsCutShort, MakesTurn}
-use Rattle.event_runner.specs.UnderWay.{IsSoFar, IsUnderWay, LogGets, RanSince, Reach, RunsSince, delivered, following, rested, turned}
+use Rattle.event_runner.specs.UnderWay.{IsSoFar, IsUnderWay, RanSince, Reach, RunsSince, delivered, following, rested, turned}
+use Rattle.net_world.specs.Logs.{LogGets}
 use Rattle.ahost_tool.specs.Kinds.{has_servers, is_of_session}
 use Rattle.ahost_tool.specs.Session.{CountsPending, FallsIntoTurns, MakesTurns, SetsAtMost, SetsBehindFirst, SetsLater, ShowsEnd}
 use Rattle.owner_laws.specs.Sessions.{EndsWithFailedWait, longest_slice}

@@ -20,7 +20,7 @@ use Rattle.channel_model.specs.Lawful.{IsLawful}
 use Rattle.channel_model.specs.Setting.{Setting}
 use Rattle.channel_model.proofs.Theorems.{destroy_completes, past_of-push, so_far_nearly}
 use Rattle.channel_table.specs.Calling.{Owned}
-use Rattle.event_runner.specs.UnderWay.{LogGets}
+use Rattle.net_world.specs.Logs.{LogGets}
 use Rattle.event_runner.proofs.Theorems.{told_as}
 use Rattle.tool_line.specs.Outside.{Outside, OutputTold}
 use Rattle.tool_line.specs.Put.{IsPut}
@@ -357,5 +357,5 @@ promise_early asked setting turns outside = record {
   traffic = log_same (IsTraffic setting asked.later turns OutOfMemory []) (nothing_called setting asked.later turns) outside.network.log;
   completes = log_same (λ calls. IsGivenTime setting turns [] calls → ¬ Rose outside.output.faults outside.output.faults → IsComplete asked.report (record { status = 5; journal = []; calls = [] }) outside.output outside.output)
       (λ time quiet. inr refl) outside.network.log;
-  put = record { told = (refl, refl); counted = omega arith };
+  put = record { told = (refl, (refl, refl)); counted = omega arith };
 }

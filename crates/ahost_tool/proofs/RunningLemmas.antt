@@ -1,16 +1,12 @@
 -- How a run comes to its promise: by its words, and by the files that it reads.
-use Rattle.std.proofs.Common.{◌≡◌, ◌≢◌, ℕ, ◌≤◌, List, [], length, nat_lt, refl, sym, subst, ◌∙◌, inr, arith, ltb-true, ltb-false}
+use Rattle.std.proofs.Common.{◌≡◌, ◌≢◌, ℕ, ◌≤◌, List, [], refl, sym, subst, ◌∙◌, inl, inr, arith}
 use Rattle.std.specs.Prelude.{Bool, Err, IfSome, None, Ok, Option, Result, Some, false, true}
 use Rattle.std.specs.String.{string_bytes}
 use Rattle.chan_types.specs.Plans.{Plan}
 use Rattle.hosts_file.specs.declared.hosts.HostLine.{HostLine}
 use Rattle.net_addr.specs.declared.addr.Addr.{Addr}
-use Rattle.net_world.specs.Files.{IsReadOf}
-use Rattle.net_world.specs.declared.answers.FileRead.{FileRead}
-use Rattle.net_world.specs.declared.answers.FileRead.TheVariants.{Absent, Content, Failed as NotRead, Large}
 use Rattle.resolv_options.specs.Values.{OptionValues}
 use Rattle.tool_line.specs.Ahost.{AhostAsks, IsSaid}
-use Rattle.tool_line.specs.Files.{hosts_of, options_set}
 use Rattle.tool_line.specs.Lookup.{Lookup, lookup}
 use Rattle.tool_line.specs.Outside.{FilesTold, Outside}
 use Rattle.tool_line.specs.Settings.{AreSetBy, SettingValues}
@@ -24,10 +20,11 @@ use Rattle.tool_line.specs.declared.switches.Switches.{Switches}
 use Rattle.ahost_tool.specs.Asked.{Asked, asked_of}
 use Rattle.ahost_tool.specs.Promise.{Promise}
 use Rattle.ahost_tool.specs.Running.{Comes, EndsEarly, IsRunFor, IsServed, count_names}
-use Rattle.ahost_tool.specs.Setting.{GivesHosts, GivesSetting, IsSettingOf, ReadsFile}
+use Rattle.ahost_tool.specs.Setting.{IsPartlyRead, IsRead, IsSettingOf, ReadsSetting}
 use Rattle.run_end.specs.declared.ended.Ended.{Ended}
 use Rattle.ahost_tool.specs.declared.reporting.Report.TheVariants.{Page}
 use Rattle.ahost_tool.proofs.PromiseLemmas.{promise_early}
+use Rattle.ahost_tool.proofs.SettingLemmas.{none_read}
 
 -- ---- words ask one thing
 
@@ -77,10 +74,12 @@ same_run words plans a b turns ended files_before files_after before after x y r
     let later : a.later ≡ b.later = some_same _ _ (sym says.later ∙ y.say.later) in
     record {
       setting = run.setting;
+      reads = run.reads;
       read =
-          subst (λ p. IsSettingOf p (string_bytes b.hosts) b.settings run.setting files_before files_after) resolv
-          (subst (λ p. IsSettingOf (string_bytes a.resolv) p b.settings run.setting files_before files_after) hosts
-          (subst (λ v. IsSettingOf (string_bytes a.resolv) (string_bytes a.hosts) v run.setting files_before files_after) settings run.read));
+          subst (λ p. IsSettingOf p (string_bytes b.hosts) b.settings run.setting run.reads files_before files_after) resolv
+          (subst (λ p. IsSettingOf (string_bytes a.resolv) p b.settings run.setting run.reads files_before files_after) hosts
+          (subst (λ v. IsSettingOf (string_bytes a.resolv) (string_bytes a.hosts) v run.setting run.reads files_before files_after) settings run.read));
+      made = run.made;
       comes =
           subst (λ s. Comes (asked_of Page s plans b.orders b.later) turns run.setting ended before after) specs
           (subst (λ o. Comes (asked_of Page a.specs plans o b.later) turns run.setting ended before after) orders
@@ -112,76 +111,69 @@ module _ (bodies count : ℕ) (a : AhostAsk) (test : Bool) (count_is : count ≡
 
 -- ---- want of memory before there is a channel
 
--- some answer of a read fits, which is no failure
-some_read : (files : FilesTold) (after : FilesTold) (path : Text) (most : ℕ) → (file : FileRead) × ReadsFile path most file files after
-some_read files after path most = by files.files refl
-  where
-    of_told : (told : List ℕ → Option (List ℕ)) (found : Option (List ℕ)) → told path ≡ found → (file : FileRead) × IsReadOf (Some told) path most file × (file ≢ NotRead)
-    of_told told None is = (Absent, is, λ e. absurd (cc e))
-    of_told told (Some bytes) is = sized (nat_lt most (length bytes)) refl
-      where
-        sized : (large : Bool) → nat_lt most (length bytes) ≡ large → (file : FileRead) × IsReadOf (Some told) path most file × (file ≢ NotRead)
-        sized true more = (Large, rw is (ltb-true most (length bytes) more), λ e. absurd (cc e))
-        sized false fits = (Content bytes, (ltb-false most (length bytes) fits, is), λ e. absurd (cc e))
-
-    by : (f : Option (List ℕ → Option (List ℕ))) → files.files ≡ f → (file : FileRead) × ReadsFile path most file files after
-    by None is = (Absent, record { read = subst (λ x. IsReadOf x path most Absent) (sym is) tt; fault = λ e. absurd (cc e) })
-    by (Some told) is =
-        let found = of_told told (told path) refl in
-        (found.0, record { read = subst (λ x. IsReadOf x path most found.0) (sym is) found.1; fault = λ e. absurd (found.2 e) })
-
 -- nothing was put, with status 5
 nothing_put : (outside : Outside) → EndsEarly FileFault (record { status = 5; journal = []; calls = [] }) outside outside
 nothing_put outside = record {
   no_journal = refl;
   no_calls = refl;
   no_traffic = refl;
-  put = record { told = inr (inr (refl, refl)); counted = omega arith };
+  put = record { told = inr (inr (refl, (refl, refl))); counted = omega arith };
 }
 
 early_comes : (asked : Asked) (turns : ℕ) (setting : Result (OptionValues × List HostLine) FaultOfFile) (outside : Outside) → Comes asked turns setting (record { status = 5; journal = []; calls = [] }) outside outside
 early_comes asked turns (Ok setting) outside = promise_early asked (record { options = setting.0; hosts = setting.1 }) turns outside
 early_comes asked turns (Err fault) outside = nothing_put outside
 
--- a run that wanted memory before it had its setting, or behind that
-pub early_run : (ask : AhostAsk) (plans : List Plan) (turns : ℕ) (files_before files_after : FilesTold) (outside : Outside) → IsRunFor ask plans turns (record { status = 5; journal = []; calls = [] }) files_before files_after outside outside
-early_run ask plans turns files_before files_after outside =
-    let resolv = some_read files_before files_after (string_bytes ask.resolv) 65536 in
-    let found = of_options (options_set ask.settings resolv.0) in
-    record {
-      setting = found.0;
-      read = (resolv.0, resolv.1, found.1);
-      comes = early_comes (asked_of Page ask.specs plans ask.orders ask.later) turns found.0 outside;
-    }
-  where
-    of_hosts : (options : OptionValues) (file : FileRead) → ReadsFile (string_bytes ask.hosts) 4194304 file files_before files_after → (lines : Result (List HostLine) FaultOfFile) → hosts_of file ≡ lines →
-        (setting : Result (OptionValues × List HostLine) FaultOfFile) × GivesHosts (string_bytes ask.hosts) options setting files_before files_after
-    of_hosts options file reads (Ok lines) is = (Ok (options, lines), (refl, (file, reads, is)))
-    of_hosts options file reads (Err fault) is = (Err fault, (file, reads, is))
+-- a run that wanted memory on the way to its setting
+partly_run : (ask : AhostAsk) (plans : List Plan) (turns : ℕ) (files_before files_after : FilesTold) (outside : Outside) → IsPartlyRead (string_bytes ask.resolv) (string_bytes ask.hosts) ask.settings files_before files_after →
+    IsRunFor ask plans turns (record { status = 5; journal = []; calls = [] }) files_before files_after outside outside
+partly_run ask plans turns files_before files_after outside partly = record {
+  setting = partly.result;
+  reads = partly.reads;
+  read = partly.setting;
+  made = inr (refl, (partly.first, partly.is_first, partly.made));
+  comes = early_comes (asked_of Page ask.specs plans ask.orders ask.later) turns partly.result outside;
+}
 
-    of_options : (options : Result OptionValues FaultOfFile) → (setting : Result (OptionValues × List HostLine) FaultOfFile) × GivesSetting (string_bytes ask.hosts) options setting files_before files_after
-    of_options (Ok options) =
-        let hosts = some_read files_before files_after (string_bytes ask.hosts) 4194304 in
-        of_hosts options hosts.0 hosts.1 (hosts_of hosts.0) refl
-    of_options (Err fault) = (Err fault, refl)
+-- or before that
+pub early_run : (ask : AhostAsk) (plans : List Plan) (turns : ℕ) (files : FilesTold) (outside : Outside) → IsRunFor ask plans turns (record { status = 5; journal = []; calls = [] }) files files outside outside
+early_run ask plans turns files outside = partly_run ask plans turns files files outside (none_read (string_bytes ask.resolv) (string_bytes ask.hosts) ask.settings files files refl)
 
 -- ---- files that were read, by their paths as they were passed
 
-module _ (ask : AhostAsk) (plans : List Plan) (turns : ℕ) (ended : Ended) (files_before files_after : FilesTold) (before after : Outside) (resolv hosts : Text) (resolv_is : resolv ≡ string_bytes ask.resolv) (hosts_is : hosts ≡ string_bytes ask.hosts) where
-  read_for : (setting : Result (OptionValues × List HostLine) FaultOfFile) → IsSettingOf resolv hosts ask.settings setting files_before files_after →
-      IsSettingOf (string_bytes ask.resolv) (string_bytes ask.hosts) ask.settings setting files_before files_after
-  read_for setting read =
-      subst (λ p. IsSettingOf p (string_bytes ask.hosts) ask.settings setting files_before files_after) resolv_is
-      (subst (λ p. IsSettingOf resolv p ask.settings setting files_before files_after) hosts_is read)
+module _ (ask : AhostAsk) (plans : List Plan) (turns : ℕ) (files_before files_after : FilesTold) (resolv hosts : Text) (resolv_is : resolv ≡ string_bytes ask.resolv) (hosts_is : hosts ≡ string_bytes ask.hosts) where
+  module _ (ended : Ended) (before after : Outside) where
+    run_for : (setting : Result (OptionValues × List HostLine) FaultOfFile) → IsRead resolv hosts ask.settings setting files_before files_after → Comes (asked_of Page ask.specs plans ask.orders ask.later) turns setting ended before after →
+        IsRunFor ask plans turns ended files_before files_after before after
+    run_for setting read comes = record {
+      setting = setting;
+      reads = read.reads;
+      read =
+          subst (λ p. IsSettingOf p (string_bytes ask.hosts) ask.settings setting read.reads files_before files_after) resolv_is
+          (subst (λ p. IsSettingOf resolv p ask.settings setting read.reads files_before files_after) hosts_is read.setting);
+      made = inl read.made;
+      comes = comes;
+    }
 
-  -- the run asked a channel with what they set
-  pub good_run : (options : OptionValues) (lines : List HostLine) → IsSettingOf resolv hosts ask.settings (Ok (options, lines)) files_before files_after →
-      Promise (asked_of Page ask.specs plans ask.orders ask.later) (record { options = options; hosts = lines }) turns ended before after → IsRunFor ask plans turns ended files_before files_after before after
-  good_run options lines read promise = record { setting = Ok (options, lines); read = read_for (Ok (options, lines)) read; comes = promise }
+    -- the run asked a channel with what they set
+    pub good_run : (options : OptionValues) (lines : List HostLine) → ReadsSetting resolv hosts ask.settings (Ok (options, lines)) files_before files_after →
+        Promise (asked_of Page ask.specs plans ask.orders ask.later) (record { options = options; hosts = lines }) turns ended before after → IsRunFor ask plans turns ended files_before files_after before after
+    good_run options lines read promise = run_for (Ok (options, lines)) read promise
 
-  -- a file that can't be read ended the run
-  pub fault_run : (fault : FaultOfFile) → IsSettingOf resolv hosts ask.settings (Err fault) files_before files_after → EndsEarly FileFault ended before after → IsRunFor ask plans turns ended files_before files_after before after
-  fault_run fault read ends = record { setting = Err fault; read = read_for (Err fault) read; comes = ends }
+    -- a file that can't be read ended the run
+    pub fault_run : (fault : FaultOfFile) → fault ≢ NoMemoryLeft → ReadsSetting resolv hosts ask.settings (Err fault) files_before files_after → EndsEarly FileFault ended before after → IsRunFor ask plans turns ended files_before files_after before after
+    fault_run Failed other read ends = run_for (Err Failed) read ends
+    fault_run TooLarge other read ends = run_for (Err TooLarge) read ends
+    fault_run NoMemoryLeft other read ends = absurd (other refl)
+
+  -- memory was wanting for them
+  pub wanting_run : (outside : Outside) (fault : FaultOfFile) → fault ≡ NoMemoryLeft → ReadsSetting resolv hosts ask.settings (Err fault) files_before files_after →
+      IsRunFor ask plans turns (record { status = 5; journal = []; calls = [] }) files_before files_after outside outside
+  wanting_run outside fault none read =
+      partly_run ask plans turns files_before files_after outside
+      (subst (λ p. IsPartlyRead p (string_bytes ask.hosts) ask.settings files_before files_after) resolv_is
+      (subst (λ p. IsPartlyRead resolv p ask.settings files_before files_after) hosts_is
+      (subst (λ f. ReadsSetting resolv hosts ask.settings (Err f) files_before files_after) none read)))
 
 -- such a fault is no want of memory
 pub failed_apart : (fault : FaultOfFile) → fault ≡ Failed → fault ≢ NoMemoryLeft

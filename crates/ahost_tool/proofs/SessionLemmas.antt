@@ -25,7 +25,8 @@ use Rattle.channel_table.specs.Calling.{Owned, known_by_owner}
 use Rattle.event_runner.proofs.Theorems.{ran_at_most, ran_so_far, runs_begin, runs_behind, runs_unbegun, told_as}
 use Rattle.event_runner.specs.Running.{Running}
 use Rattle.event_runner.specs.State.{IsTurnOwner}
-use Rattle.event_runner.specs.UnderWay.{LogGets, RanSince, RunsSince, rested}
+use Rattle.event_runner.specs.UnderWay.{RanSince, RunsSince, rested}
+use Rattle.net_world.specs.Logs.{LogGets}
 use Rattle.ahost_tool.specs.Delivering.{IsIdle}
 use Rattle.ahost_tool.specs.Kinds.{has_servers, is_cancel, is_of_session, is_ruled, is_servers}
 use Rattle.ahost_tool.specs.Session.{AcceptsAll, FallsIntoTurns, HasAccepted, HasObeyed, IsKept, IsNew, IsSession, MakesTurns, is_asking}

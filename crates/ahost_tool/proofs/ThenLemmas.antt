@@ -18,7 +18,8 @@ use Rattle.channel_table.specs.Calling.{Owned, known_by_owner}
 use Rattle.event_runner.proofs.Theorems.{told_as, told_trans}
 use Rattle.event_runner.specs.Running.{Running}
 use Rattle.event_runner.specs.State.{IsTurnOwner}
-use Rattle.event_runner.specs.UnderWay.{IsUnderWay, LogGets, RunsSince, rested}
+use Rattle.event_runner.specs.UnderWay.{IsUnderWay, RunsSince, rested}
+use Rattle.net_world.specs.Logs.{LogGets}
 use Rattle.ahost_tool.specs.Kinds.{has_servers, is_servers}
 use Rattle.ahost_tool.specs.Session.{SetsAtMost, SetsBehindFirst, SetsLater, SetsOnce, SetsThese, servers_entry}
 use Rattle.owner_laws.specs.Sessions.{FirstTurn, longest_slice}

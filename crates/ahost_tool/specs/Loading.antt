@@ -1,19 +1,24 @@
 -- A run of a load: it asks for so many names over a network in memory of its own, and puts a summary.
 use Rattle.std.specs.List.{range_with_len}
-use Rattle.std.specs.Prelude.{List, None, Some, [], codes, decimal, false, map, true, ℕ, ◌++◌, ◌≤◌}
+use Rattle.std.specs.Prelude.{List, None, Some, [], codes, decimal, false, map, true, ℕ, ◌*◌, ◌+◌, ◌++◌, ◌<◌, ◌≤◌}
 use Rattle.chan_types.specs.Plans.{Plan}
 use Rattle.chan_types.specs.declared.orders.Orders.{Orders}
 use Rattle.chan_types.specs.declared.spec.Spec.{Spec}
 use Rattle.chan_types.specs.declared.spec.Spec.TheVariants.{Address}
 use Rattle.channel_model.specs.Setting.{Setting}
+use Rattle.channel_model.specs.Turn.{received_in}
+use Rattle.channel_progress.specs.Allowed.{attempts_allowed}
 use Rattle.net_addr.specs.declared.addr.Family.TheVariants.{V4}
+use Rattle.net_world.specs.Cause.{Rose}
 use Rattle.net_world.specs.declared.log.WorldCall.{WorldCall}
 use Rattle.resolv_options.specs.Defaults.{plain_values}
+use Rattle.test_nameserver.specs.Load.{load_zone}
+use Rattle.test_nameserver.specs.PeerLog.{IsLogOf}
 use Rattle.tool_line.specs.Outside.{Outside, OutputTold}
 use Rattle.tool_line.specs.Words.{Text}
 use Rattle.tool_line.specs.declared.ahost.Load.{Load}
 use Rattle.ahost_tool.specs.Asked.{Asked, asked_of}
-use Rattle.ahost_tool.specs.Promise.{Promise}
+use Rattle.ahost_tool.specs.Promise.{IsComplete, Promise}
 use Rattle.run_end.specs.declared.ended.Ended.{Ended}
 use Rattle.ahost_tool.specs.declared.reporting.Report.TheVariants.{Summary}
 
@@ -52,7 +57,11 @@ over_calls calls output = record { network = record { log = Some calls; wait_fau
 
 -- a run of a load, with callbacks of these scripts
 pub record IsLoadRun (load : Load) (plans : List Plan) (turns : ℕ) (ended : Ended) (before after : OutputTold) : Type 0 where
-  -- What the run's own network told in the end. Which network that is isn't said: its answers are free.
+  -- What the run's own network told in the end.
   pub told : List WorldCall
+  -- It is a network in memory of the load's zone, which loses queries and draws words by the load's seed, and it was called from its start on: so its answers are those that zone and seed make.
+  pub network : IsLogOf (load_zone load.names) load.seed told
   -- The promise of a run is kept over it, and before the run it had told nothing.
   pub promise : Promise (asked_by_load load plans) load_setting turns ended (over_calls [] before) (over_calls told after)
+  -- Such a network wakes in time, and its waits don't fail. So a run that is given more turns than two for each attempt that its requests may spend and one for each item that was received comes to its summary, where the output doesn't fail in it, unless memory is wanting.
+  pub completes : 2 * attempts_allowed load_setting ended.journal + received_in told < turns → ¬ Rose before.faults after.faults → IsComplete (Summary load) ended before after

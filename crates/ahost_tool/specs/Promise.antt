@@ -18,7 +18,7 @@ use Rattle.channel_model.specs.Traffic.{TrafficAgrees}
 use Rattle.channel_model.specs.Turn.{received_in}
 use Rattle.channel_progress.specs.Allowed.{attempts_allowed}
 use Rattle.channel_progress.specs.Waking.{NoWaitFailed, WakesInTime}
-use Rattle.event_runner.specs.UnderWay.{LogGets}
+use Rattle.net_world.specs.Logs.{LogGets}
 use Rattle.net_addr.specs.declared.addr.ServerAddr.{ServerAddr}
 use Rattle.tool_line.specs.Outside.{GrowsBy, Outside, OutputTold}
 use Rattle.tool_line.specs.Put.{IsPut}

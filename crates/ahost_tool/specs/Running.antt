@@ -4,11 +4,13 @@ use Rattle.std.specs.String.{string_bytes}
 use Rattle.chan_types.specs.Plans.{Plan}
 use Rattle.chan_types.specs.declared.spec.Spec.{Spec}
 use Rattle.hosts_file.specs.declared.hosts.HostLine.{HostLine}
+use Rattle.net_world.specs.declared.read_call.ReadCall.{ReadCall}
 use Rattle.resolv_options.specs.Values.{OptionValues}
 use Rattle.tool_line.specs.Ahost.{AhostAsks}
 use Rattle.tool_line.specs.Ending.{text_of}
 use Rattle.tool_line.specs.Outside.{FilesTold, Outside}
 use Rattle.tool_line.specs.Put.{IsPut}
+use Rattle.tool_line.specs.Read.{HasReadAt}
 use Rattle.tool_line.specs.Words.{Text}
 use Rattle.tool_line.specs.declared.ahost.AhostAsk.{AhostAsk}
 use Rattle.tool_line.specs.declared.ahost.Load.{Load}
@@ -54,7 +56,10 @@ Comes asked turns (Err fault) ended before after = EndsEarly FileFault ended bef
 
 -- a run for names that the words ask for, with callbacks of these scripts
 pub record IsRunFor (ask : AhostAsk) (plans : List Plan) (turns : ℕ) (ended : Ended) (files_before files_after : FilesTold) (before after : Outside) : Type 0 where
-  -- What the files say that were read, and what the words set in place of it.
+  -- What the files say, and what the words set in place of it: resolv.conf is read, and behind it the hosts file, unless resolv.conf has a fault.
   pub setting : Result (OptionValues × List HostLine) FaultOfFile
-  pub read : IsSettingOf (string_bytes ask.resolv) (string_bytes ask.hosts) ask.settings setting files_before files_after
+  pub reads : List ReadCall
+  pub read : IsSettingOf (string_bytes ask.resolv) (string_bytes ask.hosts) ask.settings setting reads files_before files_after
+  -- These reads were made, once each, in this order and with these limits, and no other; where memory was wanting, with exit status 5, the first of them, or none.
+  pub made : HasReadAt ended.status reads files_before.reads files_after.reads
   pub comes : Comes (asked_of Page ask.specs plans ask.orders ask.later) turns setting ended before after

@@ -22,7 +22,8 @@ use Rattle.channel_progress.specs.Waking.{NoWaitFailed}
 use Rattle.channel_table.specs.Calling.{Owned, known_by_owner}
 use Rattle.event_runner.specs.Running.{Running}
 use Rattle.event_runner.specs.State.{IsTurnOwner}
-use Rattle.event_runner.specs.UnderWay.{LogGets, RunsSince, rested}
+use Rattle.event_runner.specs.UnderWay.{RunsSince, rested}
+use Rattle.net_world.specs.Logs.{LogGets}
 use Rattle.ahost_tool.specs.Delivering.{IsIdle}
 use Rattle.ahost_tool.specs.Kinds.{has_servers, is_of_session, is_ruled}
 use Rattle.ahost_tool.specs.declared.caller.Caller.{Caller}

@@ -29,11 +29,12 @@ pub(crate) fn ask<B: Done + Drop, W: World, F: Files, K: Sink>(
     requires fresh { All (λ body. B.told body ≡ None) bodies.items }
     requires servers { IfSome asked.later (λ later. (1 ≤ length later) × (length later ≤ 8)) }
     ensures promise { IsRunFor asked (map B.plan bodies.items) turns result
-        (files_told (F.files files.old) (F.faults files.old))
-        (files_told (F.files files.new) (F.faults files.new))
-        (outside (W.log world.old) (W.wait_faults world.old) (K.bytes sink.old) (K.faults sink.old))
-        (outside (W.log world.new) (W.wait_faults world.new) (K.bytes sink.new) (K.faults sink.new)) }
+        (files_told (F.files files.old) (F.faults files.old) (F.reads files.old))
+        (files_told (F.files files.new) (F.faults files.new) (F.reads files.new))
+        (outside (W.log world.old) (W.wait_faults world.old) (K.bytes sink.old) (K.faults sink.old) (K.puts sink.old))
+        (outside (W.log world.new) (W.wait_faults world.new) (K.bytes sink.new) (K.faults sink.new) (K.puts sink.new)) }
     ensures files { F.files files.new ≡ F.files files.old }
+    ensures origin { W.origin world.new ≡ W.origin world.old }
 {
     let AhostAsk {
         resolv,
@@ -63,8 +64,8 @@ pub(crate) fn ask<B: Done + Drop, W: World, F: Files, K: Sink>(
 /// Ends a run before it has a channel: the line of this end is put.
 pub(crate) fn leave<K: Sink>(alloc: Global, sink: &mut K, end: Exit) -> Ended
     ensures { (log : Option (List WorldCall)) (wait_faults : ℕ) → EndsEarly end result
-        (outside log wait_faults (K.bytes sink.old) (K.faults sink.old))
-        (outside log wait_faults (K.bytes sink.new) (K.faults sink.new)) }
+        (outside log wait_faults (K.bytes sink.old) (K.faults sink.old) (K.puts sink.old))
+        (outside log wait_faults (K.bytes sink.new) (K.faults sink.new) (K.puts sink.new)) }
 {
     let status = put_line(sink, end);
     Ended::early(alloc, status)

@@ -31,8 +31,8 @@ pub(crate) fn load<B: Done + Drop, K: Sink>(
     requires fresh { All (λ body. B.told body ≡ None) bodies.items }
     requires limits { IsWithinLimits load }
     ensures { IsLoadRun load (map B.plan bodies.items) turns result
-        (record { bytes = K.bytes sink.old; faults = K.faults sink.old })
-        (record { bytes = K.bytes sink.new; faults = K.faults sink.new }) }
+        (record { bytes = K.bytes sink.old; faults = K.faults sink.old; puts = K.puts sink.old })
+        (record { bytes = K.bytes sink.new; faults = K.faults sink.new; puts = K.puts sink.new }) }
 {
     let Ok((options, specs, mut world)) = prepare(alloc, load) else {
         return Ended::early(alloc, Exit::OutOfMemory.number());
@@ -48,7 +48,7 @@ pub(crate) fn load<B: Done + Drop, K: Sink>(
         later: None,
         report: Report::Summary(load),
     };
-    resolve(
+    let ended = resolve(
         alloc,
         task,
         options,
@@ -56,7 +56,10 @@ pub(crate) fn load<B: Done + Drop, K: Sink>(
         &mut world,
         sink,
         turns,
-    )
+    );
+    // What the network has told is a log of its zone and its seed: this is said by `log`.
+    let _ = world.log();
+    ended
 }
 
 /// The options of a load's channel, its requests, and its network.

@@ -16,8 +16,8 @@ use tool_line::{Exit, Tool};
 /// Puts the text of a run that came to this end, and answers the exit status.
 fn put<K: Sink>(sink: &mut K, text: &[u8], end: Exit) -> u8
     ensures { IsPut (Some text.now) end result
-        (record { bytes = K.bytes sink.old; faults = K.faults sink.old })
-        (record { bytes = K.bytes sink.new; faults = K.faults sink.new }) }
+        (record { bytes = K.bytes sink.old; faults = K.faults sink.old; puts = K.puts sink.old })
+        (record { bytes = K.bytes sink.new; faults = K.faults sink.new; puts = K.puts sink.new }) }
 {
     match sink.put(text) {
         Ok(PutEnd::Done) => end.number(),
@@ -29,8 +29,8 @@ fn put<K: Sink>(sink: &mut K, text: &[u8], end: Exit) -> u8
 /// Puts the line that stands in place of a page at this end, if there is one.
 pub(crate) fn put_line<K: Sink>(sink: &mut K, end: Exit) -> u8
     ensures { IsPut (text_of Ahost end) end result
-        (record { bytes = K.bytes sink.old; faults = K.faults sink.old })
-        (record { bytes = K.bytes sink.new; faults = K.faults sink.new }) }
+        (record { bytes = K.bytes sink.old; faults = K.faults sink.old; puts = K.puts sink.old })
+        (record { bytes = K.bytes sink.new; faults = K.faults sink.new; puts = K.puts sink.new }) }
 {
     match end.text(Tool::Ahost) {
         Some(line) => put(sink, line.as_bytes(), end),
@@ -48,8 +48,8 @@ fn put_report<K: Sink>(
     sink: &mut K,
 ) -> u8
     ensures { IsPut (Some (report_of report entries.now calls.now)) end result
-        (record { bytes = K.bytes sink.old; faults = K.faults sink.old })
-        (record { bytes = K.bytes sink.new; faults = K.faults sink.new }) }
+        (record { bytes = K.bytes sink.old; faults = K.faults sink.old; puts = K.puts sink.old })
+        (record { bytes = K.bytes sink.new; faults = K.faults sink.new; puts = K.puts sink.new }) }
 {
     match report_of(alloc, report, entries, calls) {
         Ok(text) => put(sink, text.as_slice(), end),
@@ -67,8 +67,8 @@ pub(crate) fn tell<K: Sink>(
     sink: &mut K,
 ) -> u8
     ensures { IsPut (text_at report entries.now calls.now end) end result
-        (record { bytes = K.bytes sink.old; faults = K.faults sink.old })
-        (record { bytes = K.bytes sink.new; faults = K.faults sink.new }) }
+        (record { bytes = K.bytes sink.old; faults = K.faults sink.old; puts = K.puts sink.old })
+        (record { bytes = K.bytes sink.new; faults = K.faults sink.new; puts = K.puts sink.new }) }
 {
     match end {
         Exit::Success | Exit::Failure => put_report(alloc, report, entries, calls, end, sink),

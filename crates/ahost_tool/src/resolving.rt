@@ -35,10 +35,11 @@ pub(crate) fn resolve<B: Done + Drop, W: World, K: Sink>(
 ) -> Ended
     requires fresh { All (λ body. B.told body ≡ None) task.bodies.items }
     requires servers { IfSome task.later (λ later. (1 ≤ length later) × (length later ≤ 8)) }
-    ensures { Promise (asked_of task.report task.specs (map B.plan task.bodies.items) task.orders task.later)
+    ensures promise { Promise (asked_of task.report task.specs (map B.plan task.bodies.items) task.orders task.later)
         (record { options = options; hosts = hosts }) turns result
-        (outside (W.log world.old) (W.wait_faults world.old) (K.bytes sink.old) (K.faults sink.old))
-        (outside (W.log world.new) (W.wait_faults world.new) (K.bytes sink.new) (K.faults sink.new)) }
+        (outside (W.log world.old) (W.wait_faults world.old) (K.bytes sink.old) (K.faults sink.old) (K.puts sink.old))
+        (outside (W.log world.new) (W.wait_faults world.new) (K.bytes sink.new) (K.faults sink.new) (K.puts sink.new)) }
+    ensures origin { W.origin world.new ≡ W.origin world.old }
 {
     let report = task.report;
     let Ok((known, mut caller)) = caller_with(alloc, options, hosts, task.orders) else {

@@ -30,26 +30,27 @@ pub fn run<B: Done + Drop, W: World, F: Files, K: Sink>(
     // Words that ask nothing, or more than there are bodies for, are refused: no file is read, and the network isn't called.
     ensures refused { AreRefused (map (λ word. word.now) words.now) (length bodies.items)
         → (files.new ≡ files.old) × (world.new ≡ world.old) × EndsEarly Usage result
-        (outside (W.log world.old) (W.wait_faults world.old) (K.bytes sink.old) (K.faults sink.old))
-        (outside (W.log world.new) (W.wait_faults world.new) (K.bytes sink.new) (K.faults sink.new)) }
+        (outside (W.log world.old) (W.wait_faults world.old) (K.bytes sink.old) (K.faults sink.old) (K.puts sink.old))
+        (outside (W.log world.new) (W.wait_faults world.new) (K.bytes sink.new) (K.faults sink.new) (K.puts sink.new)) }
 
     // Words that ask for names: the run keeps its promise, with the setting that the files and the words give.
     ensures promise { ForWords (map (λ word. word.now) words.now) (length bodies.items)
         (λ asked. asked.load ≡ None → IsRunFor asked (map B.plan bodies.items) turns result
-        (files_told (F.files files.old) (F.faults files.old))
-        (files_told (F.files files.new) (F.faults files.new))
-        (outside (W.log world.old) (W.wait_faults world.old) (K.bytes sink.old) (K.faults sink.old))
-        (outside (W.log world.new) (W.wait_faults world.new) (K.bytes sink.new) (K.faults sink.new))) }
+        (files_told (F.files files.old) (F.faults files.old) (F.reads files.old))
+        (files_told (F.files files.new) (F.faults files.new) (F.reads files.new))
+        (outside (W.log world.old) (W.wait_faults world.old) (K.bytes sink.old) (K.faults sink.old) (K.puts sink.old))
+        (outside (W.log world.new) (W.wait_faults world.new) (K.bytes sink.new) (K.faults sink.new) (K.puts sink.new))) }
 
     // Words that ask for a load: the run keeps its promise over a network of its own, and files and network are left alone.
     ensures load { ForWords (map (λ word. word.now) words.now) (length bodies.items)
         (λ asked. IfSome asked.load (λ load. (files.new ≡ files.old) × (world.new ≡ world.old)
         × IsLoadRun load (map B.plan bodies.items) turns result
-        (record { bytes = K.bytes sink.old; faults = K.faults sink.old })
-        (record { bytes = K.bytes sink.new; faults = K.faults sink.new }))) }
+        (record { bytes = K.bytes sink.old; faults = K.faults sink.old; puts = K.puts sink.old })
+        (record { bytes = K.bytes sink.new; faults = K.faults sink.new; puts = K.puts sink.new }))) }
 
-    // The files stay as they are.
+    // The files stay as they are, and so does what tells how the network was made.
     ensures files { F.files files.new ≡ F.files files.old }
+    ensures origin { W.origin world.new ≡ W.origin world.old }
 {
     match ahost_ask(alloc, words) {
         Ok(asked) if is_served(&asked, bodies.len()) => {
@@ -74,20 +75,21 @@ pub fn run_boxed<W: World, F: Files, K: Sink>(
     requires fresh { All (λ body. told body ≡ None) boxes.items }
     ensures refused { AreRefused (map (λ word. word.now) words.now) (length boxes.items)
         → (files.new ≡ files.old) × (world.new ≡ world.old) × EndsEarly Usage result
-        (outside (W.log world.old) (W.wait_faults world.old) (K.bytes sink.old) (K.faults sink.old))
-        (outside (W.log world.new) (W.wait_faults world.new) (K.bytes sink.new) (K.faults sink.new)) }
+        (outside (W.log world.old) (W.wait_faults world.old) (K.bytes sink.old) (K.faults sink.old) (K.puts sink.old))
+        (outside (W.log world.new) (W.wait_faults world.new) (K.bytes sink.new) (K.faults sink.new) (K.puts sink.new)) }
     ensures promise { ForWords (map (λ word. word.now) words.now) (length boxes.items)
         (λ asked. asked.load ≡ None → IsRunFor asked (map (λ body. plan body) boxes.items) turns result
-        (files_told (F.files files.old) (F.faults files.old))
-        (files_told (F.files files.new) (F.faults files.new))
-        (outside (W.log world.old) (W.wait_faults world.old) (K.bytes sink.old) (K.faults sink.old))
-        (outside (W.log world.new) (W.wait_faults world.new) (K.bytes sink.new) (K.faults sink.new))) }
+        (files_told (F.files files.old) (F.faults files.old) (F.reads files.old))
+        (files_told (F.files files.new) (F.faults files.new) (F.reads files.new))
+        (outside (W.log world.old) (W.wait_faults world.old) (K.bytes sink.old) (K.faults sink.old) (K.puts sink.old))
+        (outside (W.log world.new) (W.wait_faults world.new) (K.bytes sink.new) (K.faults sink.new) (K.puts sink.new))) }
     ensures load { ForWords (map (λ word. word.now) words.now) (length boxes.items)
         (λ asked. IfSome asked.load (λ load. (files.new ≡ files.old) × (world.new ≡ world.old)
         × IsLoadRun load (map (λ body. plan body) boxes.items) turns result
-        (record { bytes = K.bytes sink.old; faults = K.faults sink.old })
-        (record { bytes = K.bytes sink.new; faults = K.faults sink.new }))) }
+        (record { bytes = K.bytes sink.old; faults = K.faults sink.old; puts = K.puts sink.old })
+        (record { bytes = K.bytes sink.new; faults = K.faults sink.new; puts = K.puts sink.new }))) }
     ensures files { F.files files.new ≡ F.files files.old }
+    ensures origin { W.origin world.new ≡ W.origin world.old }
 {
     run(alloc, words, boxes, files, world, sink, turns)
 }
@@ -106,15 +108,16 @@ fn serve<B: Done + Drop, W: World, F: Files, K: Sink>(
     requires limits { IfSome asked.load IsWithinLimits }
     requires servers { IfSome asked.later (λ later. (1 ≤ length later) × (length later ≤ 8)) }
     ensures promise { asked.load ≡ None → IsRunFor asked (map B.plan bodies.items) turns result
-        (files_told (F.files files.old) (F.faults files.old))
-        (files_told (F.files files.new) (F.faults files.new))
-        (outside (W.log world.old) (W.wait_faults world.old) (K.bytes sink.old) (K.faults sink.old))
-        (outside (W.log world.new) (W.wait_faults world.new) (K.bytes sink.new) (K.faults sink.new)) }
+        (files_told (F.files files.old) (F.faults files.old) (F.reads files.old))
+        (files_told (F.files files.new) (F.faults files.new) (F.reads files.new))
+        (outside (W.log world.old) (W.wait_faults world.old) (K.bytes sink.old) (K.faults sink.old) (K.puts sink.old))
+        (outside (W.log world.new) (W.wait_faults world.new) (K.bytes sink.new) (K.faults sink.new) (K.puts sink.new)) }
     ensures load { IfSome asked.load (λ load. (files.new ≡ files.old) × (world.new ≡ world.old)
         × IsLoadRun load (map B.plan bodies.items) turns result
-        (record { bytes = K.bytes sink.old; faults = K.faults sink.old })
-        (record { bytes = K.bytes sink.new; faults = K.faults sink.new })) }
+        (record { bytes = K.bytes sink.old; faults = K.faults sink.old; puts = K.puts sink.old })
+        (record { bytes = K.bytes sink.new; faults = K.faults sink.new; puts = K.puts sink.new })) }
     ensures files { F.files files.new ≡ F.files files.old }
+    ensures origin { W.origin world.new ≡ W.origin world.old }
 {
     match asked.load {
         Some(wanted) => load(alloc, wanted, bodies, sink, turns),

@@ -40,6 +40,7 @@ pub(crate) fn session<B: Done + Drop, W: World>(
     ensures session { IsSession (askings task.specs (map B.plan task.bodies.items)) task.later turns result
         caller.old caller.new (W.log world.old) (W.log world.new) }
     ensures waits { W.wait_faults world.old ≤ W.wait_faults world.new }
+    ensures origin { W.origin world.new ≡ W.origin world.old }
     ensures wait_fault { result ≡ Ok LoopEnd.WaitFault
         → Rose (W.wait_faults world.old) (W.wait_faults world.new) }
 {
@@ -106,6 +107,7 @@ fn make_turns<B: Done + Drop, W: World>(
     ensures turns { MakesTurns later turns result caller.old caller.new runner.old
         (W.log world.old) (W.log world.new) }
     ensures waits { W.wait_faults world.old ≤ W.wait_faults world.new }
+    ensures origin { W.origin world.new ≡ W.origin world.old }
     ensures wait_fault { result ≡ Ok LoopEnd.WaitFault
         → Rose (W.wait_faults world.old) (W.wait_faults world.new) }
 {

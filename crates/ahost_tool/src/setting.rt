@@ -20,8 +20,8 @@ pub(crate) fn read_setting<F: Files>(
     files: &mut F,
 ) -> Result<(Options, Hosts), FileFault>
     ensures reads { ReadsSetting resolv.now hosts.now settings result
-        (files_told (F.files files.old) (F.faults files.old))
-        (files_told (F.files files.new) (F.faults files.new)) }
+        (files_told (F.files files.old) (F.faults files.old) (F.reads files.old))
+        (files_told (F.files files.new) (F.faults files.new) (F.reads files.new)) }
     ensures files { F.files files.new ≡ F.files files.old }
 {
     let Ok(file) = files.read(resolv, RESOLV_MOST) else {

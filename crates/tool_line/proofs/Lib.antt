@@ -1,5 +1,6 @@
 mod AskLemmas
 mod LoopLemmas
+pub mod ReadLemmas
 mod ReadingLemmas
 mod SaidLemmas
 mod ToldLemmas

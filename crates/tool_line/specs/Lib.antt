@@ -10,6 +10,7 @@ pub mod Outside
 pub mod Page
 pub mod Parser
 pub mod Put
+pub mod Read
 pub mod SettingFields
 pub mod Settings
 pub mod Values

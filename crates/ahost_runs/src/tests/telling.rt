@@ -1,6 +1,7 @@
-//! The calls of callbacks as lines of text.
+//! The calls of callbacks, of files and of an output as lines of text.
 
 use chan_types::Calls;
+use net_world::{FileRead, PutCall, PutEnd, ReadCall};
 use std::alloc::Global;
 use std::test::Fail;
 
@@ -13,4 +14,54 @@ pub fn answers_told(alloc: Global, calls: &Calls) -> Result<String, Fail> {
         text.push_str(format!(in alloc; "{number} status {code}\n")?.as_str())?;
     }
     Ok(text)
+}
+
+/// The lines of reads: the path of each, how many bytes were asked for at most, and what was answered.
+pub fn reads_told(alloc: Global, reads: &[ReadCall]) -> Result<Vec<u8>, Fail> {
+    let mut text = Vec::new(alloc);
+    for read in reads {
+        add_read(alloc, &mut text, read)?;
+    }
+    Ok(text)
+}
+
+/// Adds the line of a read.
+fn add_read(alloc: Global, text: &mut Vec<u8>, read: &ReadCall) -> Result<(), Fail> {
+    let most = read.most;
+    text.extend_from_slice(read.path.as_slice())?;
+    text.extend_from_slice(format!(in alloc; " {most} ")?.as_bytes())?;
+    text.extend_from_slice(read_told(alloc, &read.read)?.as_bytes())?;
+    text.push(b'\n')?;
+    Ok(())
+}
+
+/// What a read answered.
+fn read_told(alloc: Global, read: &FileRead) -> Result<String, Fail> {
+    Ok(match read {
+        FileRead::Content(bytes) => {
+            let len = bytes.len();
+            format!(in alloc; "{len} bytes")?
+        }
+        FileRead::Absent => String::from_str(alloc, "absent")?,
+        FileRead::Large => String::from_str(alloc, "large")?,
+        FileRead::Failed => String::from_str(alloc, "failed")?,
+    })
+}
+
+/// Puts one behind the other: how each ended, and its text.
+pub fn puts_told(alloc: Global, puts: &[PutCall]) -> Result<Vec<u8>, Fail> {
+    let mut text = Vec::new(alloc);
+    for put in puts {
+        text.extend_from_slice(end_told(put.end).as_bytes())?;
+        text.extend_from_slice(put.text.as_slice())?;
+    }
+    Ok(text)
+}
+
+/// How a put ended.
+fn end_told(end: PutEnd) -> &'static str {
+    match end {
+        PutEnd::Done => "done ",
+        PutEnd::Failed => "failed ",
+    }
 }

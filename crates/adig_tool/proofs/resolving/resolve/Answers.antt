@@ -9,8 +9,8 @@ close-requires g c = record {
 }
 
 -- the channel was made
-pub returns : goal.returns
-returns g c =
+pub returns-clause-promise : goal.returns-clause-promise
+returns-clause-promise g c =
     rw c.close-2.ensures
     (promise_of _ _ _ _ _ _ _ _ _ _ _ (ap (λ alone. alone.setting) c.in-Ok.ensures.1) c.session-loop_end.ensures.session c.close.ensures
     (subst (λ options. 1 ≤ length options.servers) (c.told.view_is ∙ c.in-Ok.ensures.0) c.told.invariant.some_server)
@@ -18,5 +18,5 @@ returns g c =
     c.end_of-end.ensures c.session-loop_end.ensures.wait_fault c.tell-status.ensures)
 
 -- memory was wanting for it
-pub returns-in_default : goal.returns-in_default
-returns-in_default g c = rw (c.early.ensures, c.number.ensures) (promise_early _ _ _ _)
+pub returns-in_default-clause-promise : goal.returns-in_default-clause-promise
+returns-in_default-clause-promise g c = rw (c.early.ensures, c.number.ensures) (promise_early _ _ _ _)

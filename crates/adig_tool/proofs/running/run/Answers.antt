@@ -1,5 +1,4 @@
 use Rattle.std.proofs.Common.{Err, ap, refl}
-use Rattle.adig_tool.proofs.AnsweredLemmas.{none_answered, run_answered}
 use Rattle.adig_tool.proofs.RunningLemmas.{early_run, same_run}
 use Rattle.adig_tool.proofs.running.run.Goals as goal
 
@@ -11,9 +10,6 @@ returns-in-Ok-clause-refused g c = λ refused. absurd (refused c.in-Ok.asked c.i
 pub returns-in-Ok-clause-promise : goal.returns-in-Ok-clause-promise
 returns-in-Ok-clause-promise g c = λ ask asks. same_run _ c.in-Ok.asked ask _ _ _ _ _ _ c.in-Ok.ensures.read asks c.ask.ensures.promise
 
-pub returns-in-Ok-clause-answered : goal.returns-in-Ok-clause-answered
-returns-in-Ok-clause-answered g c = λ ask asks. run_answered ask _ _ _ _ _ _ (same_run _ c.in-Ok.asked ask _ _ _ _ _ _ c.in-Ok.ensures.read asks c.ask.ensures.promise)
-
 -- ---- words that ask nothing
 
 pub returns-in-Err-Refused-clause-refused : goal.returns-in-Err-Refused-clause-refused
@@ -22,13 +18,7 @@ returns-in-Err-Refused-clause-refused g c = λ refused. (refl, refl, c.leave.ens
 pub returns-in-Err-Refused-clause-promise : goal.returns-in-Err-Refused-clause-promise
 returns-in-Err-Refused-clause-promise g c = λ ask asks. absurd (c.in-Err-Refused.ensures.refused (ap Err c.in-Err-Refused.field-0-is) ask asks)
 
-pub returns-in-Err-Refused-clause-answered : goal.returns-in-Err-Refused-clause-answered
-returns-in-Err-Refused-clause-answered g c = λ ask asks. absurd (c.in-Err-Refused.ensures.refused (ap Err c.in-Err-Refused.field-0-is) ask asks)
-
 -- ---- want of memory
 
 pub returns-in-Err-NoMemory-clause-promise : goal.returns-in-Err-NoMemory-clause-promise
-returns-in-Err-NoMemory-clause-promise g c = λ ask asks. rw (c.early.ensures, c.number.ensures) (early_run ask _ _ _ _)
-
-pub returns-in-Err-NoMemory-clause-answered : goal.returns-in-Err-NoMemory-clause-answered
-returns-in-Err-NoMemory-clause-answered g c = λ ask asks. rw c.early.ensures (none_answered ask.spec _ _)
+returns-in-Err-NoMemory-clause-promise g c = λ ask asks. rw (c.early.ensures, c.number.ensures) (early_run ask _ _ _ _ refl)

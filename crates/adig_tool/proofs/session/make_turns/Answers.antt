@@ -1,4 +1,4 @@
-use Rattle.std.proofs.Common.{arith}
+use Rattle.std.proofs.Common.{arith, refl, ◌∙◌}
 use Rattle.adig_tool.proofs.LoopLemmas.{asked_here, ends_completed, ends_cut, ends_failed, ends_stalled, ends_unpaused, made_delivered, made_following, made_none, made_paused, made_then, made_turned}
 use Rattle.owner_laws.proofs.Owner.{paused_ready}
 use Rattle.adig_tool.proofs.session.make_turns.Goals as goal
@@ -8,6 +8,7 @@ loop-init g c = record {
   made = made_then _ _ _ _ _ _ _ _ _ _ _ _ (made_none _ _ _ _) c.deliver_all.ensures.delivers;
   delivered = c.deliver_all.ensures.none_ready;
   waits = omega arith;
+  origin = refl;
 }
 
 pub returns-then-count_pending-eq0-clause-turns : goal.returns-then-count_pending-eq0-clause-turns
@@ -49,6 +50,7 @@ loop-preserved g c =
       made = made_paused _ _ _ _ _ _ _ _ _ _ _ _ _ c.in_ok-pause.field-0 (omega arith) c.in_default.not-WaitFault c.in_ok-pause.ensures.pauses c.in_ok-pause.ensures.kept delivered;
       delivered = paused_ready _ c.in_ok-pause.field-0 _ _ _ _ c.in_ok-pause.ensures.pauses c.deliver_all-in-loop.ensures.none_ready;
       waits = omega (arith, c.loop.invariant.waits, c.turn.ensures.waits, c.pause.ensures.waits);
+      origin = c.pause.ensures.origin ∙ c.turn.ensures.origin ∙ c.loop.invariant.origin;
     }
 
 pub returns-then-count_pending-eq0-2-clause-turns : goal.returns-then-count_pending-eq0-2-clause-turns

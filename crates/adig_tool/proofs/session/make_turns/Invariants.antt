@@ -11,4 +11,5 @@ invariant-loop g l = record {
   made : Made rested l.counter l.fn.alone l.alone l.fn.calls l.calls l.fn.runner l.runner (g.W.World.log l.fn.world) (g.W.World.log l.world);
   delivered : ready l.alone.setting (past_of l.alone.seen) ≡ [];
   waits : g.W.World.wait_faults l.fn.world ≤ g.W.World.wait_faults l.world;
+  origin : g.W.World.origin l.world ≡ g.W.World.origin l.fn.world;
 }

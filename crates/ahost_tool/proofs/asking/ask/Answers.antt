@@ -1,23 +1,25 @@
-use Rattle.ahost_tool.proofs.RunningLemmas.{early_run, failed_apart, fault_run, good_run, large_apart}
+use Rattle.ahost_tool.proofs.RunningLemmas.{failed_apart, fault_run, good_run, large_apart, wanting_run}
 use Rattle.ahost_tool.proofs.asking.ask.Goals as goal
 
 -- the files were read
 pub returns-in-Ok-clause-promise : goal.returns-in-Ok-clause-promise
 returns-in-Ok-clause-promise g c =
-    good_run c.args.asked _ c.args.turns _ _ _ _ _ _ _ c.as_str.ensures.value c.as_str-2.ensures.value c.in-Ok.options c.in-Ok.hosts c.in-Ok.ensures.reads c.resolve.ensures
+    good_run c.args.asked _ c.args.turns _ _ _ _ c.as_str.ensures.value c.as_str-2.ensures.value _ _ _ c.in-Ok.options c.in-Ok.hosts c.in-Ok.ensures.reads c.resolve.ensures.promise
 
 -- ---- a file that can't be read
 
 pub returns-in-Err-Failed-clause-promise : goal.returns-in-Err-Failed-clause-promise
 returns-in-Err-Failed-clause-promise g c =
-    fault_run c.args.asked _ c.args.turns _ _ _ _ _ _ _ c.as_str.ensures.value c.as_str-2.ensures.value c.in-Err-Failed.field-0
-    (c.in-Err-Failed.ensures.reads (failed_apart c.in-Err-Failed.field-0 c.in-Err-Failed.field-0-is)) (c.leave.ensures _ _)
+    fault_run c.args.asked _ c.args.turns _ _ _ _ c.as_str.ensures.value c.as_str-2.ensures.value _ _ _ c.in-Err-Failed.field-0
+    (failed_apart c.in-Err-Failed.field-0 c.in-Err-Failed.field-0-is) c.in-Err-Failed.ensures.reads (c.leave.ensures _ _)
 
 pub returns-in-Err-TooLarge-clause-promise : goal.returns-in-Err-TooLarge-clause-promise
 returns-in-Err-TooLarge-clause-promise g c =
-    fault_run c.args.asked _ c.args.turns _ _ _ _ _ _ _ c.as_str.ensures.value c.as_str-2.ensures.value c.in-Err-TooLarge.field-0
-    (c.in-Err-TooLarge.ensures.reads (large_apart c.in-Err-TooLarge.field-0 c.in-Err-TooLarge.field-0-is)) (c.leave-in-Err-TooLarge.ensures _ _)
+    fault_run c.args.asked _ c.args.turns _ _ _ _ c.as_str.ensures.value c.as_str-2.ensures.value _ _ _ c.in-Err-TooLarge.field-0
+    (large_apart c.in-Err-TooLarge.field-0 c.in-Err-TooLarge.field-0-is) c.in-Err-TooLarge.ensures.reads (c.leave-in-Err-TooLarge.ensures _ _)
 
 -- want of memory
 pub returns-clause-promise : goal.returns-clause-promise
-returns-clause-promise g c = rw (c.early.ensures, c.number.ensures) (early_run c.args.asked _ c.args.turns _ _ _)
+returns-clause-promise g c =
+    rw (c.early.ensures, c.number.ensures)
+    (wanting_run c.args.asked _ c.args.turns _ _ _ _ c.as_str.ensures.value c.as_str-2.ensures.value _ c.in-Err-NoMemory.field-0 c.in-Err-NoMemory.field-0-is c.in-Err-NoMemory.ensures.reads)

@@ -7,8 +7,8 @@ pub close-requires : goal.close-requires
 close-requires g c = record { idle = c.session-loop_end.ensures.session.kept.0 }
 
 -- the channel was made
-pub returns : goal.returns
-returns g c =
+pub returns-clause-promise : goal.returns-clause-promise
+returns-clause-promise g c =
     rw c.close-journal.ensures
     (promise_of _ _ _ _ _ _ _ _ _ (ap (λ caller. caller.alone.setting) c.in-Ok.ensures.1) (ap (λ caller. caller.hand.orders) c.in-Ok.ensures.1) c.session-loop_end.ensures.session c.close.ensures
     (subst (λ options. 1 ≤ length options.servers) (c.known.view_is ∙ c.in-Ok.ensures.0) c.known.invariant.some_server)
@@ -16,5 +16,5 @@ returns g c =
     c.ending_of-end.ensures c.session-loop_end.ensures.wait_fault (rw (c.entries.ensures, c.close-journal.ensures) at c.tell-status.ensures))
 
 -- memory was wanting for it
-pub returns-in_default : goal.returns-in_default
-returns-in_default g c = rw (c.early.ensures, c.number.ensures) (promise_early _ _ _ _)
+pub returns-in_default-clause-promise : goal.returns-in_default-clause-promise
+returns-in_default-clause-promise g c = rw (c.early.ensures, c.number.ensures) (promise_early _ _ _ _)

@@ -51,7 +51,7 @@ returns-in-Err-Refused-clause-load g c = λ ask asks served. absurd (c.ahost_ask
 -- ---- want of memory
 
 pub returns-clause-promise : goal.returns-clause-promise
-returns-clause-promise g c = λ ask asks served none. rw (c.early.ensures, c.number.ensures) (early_run ask _ _ _ _ _)
+returns-clause-promise g c = λ ask asks served none. rw (c.early.ensures, c.number.ensures) (early_run ask _ _ _ _)
 
 pub returns-clause-load : goal.returns-clause-load
 returns-clause-load g c = λ ask asks served. of_each _ (λ load. (refl, refl, rw (c.early.ensures, c.number.ensures) (early_load load _ _ _))) ask.load

@@ -1,4 +1,4 @@
-use Rattle.std.proofs.Common.{ap, arith}
+use Rattle.std.proofs.Common.{ap, arith, refl, ◌∙◌}
 use Rattle.std.specs.Prelude.{is_err}
 use Rattle.ahost_tool.proofs.LoopLemmas.{ends_completed, ends_cut, ends_failed, ends_stalled, ends_unpaused, ends_unset, made_none, made_paused, made_then, most_cut, most_turned, then_paused}
 use Rattle.ahost_tool.proofs.MoveLemmas.{quiet_all}
@@ -17,6 +17,7 @@ loop-init g c =
       delivered = c.deliver_all.ensures.none_ready;
       servers = c.requires.servers;
       waits = omega arith;
+      origin = refl;
     }
 
 -- ---- before a turn
@@ -55,6 +56,7 @@ loop-preserved g c =
       delivered = paused_ready _ c.in_ok-pause.field-0 _ _ _ _ c.in_ok-pause.ensures.pauses c.deliver_all-in-loop.ensures.none_ready;
       servers = rw c.set_later.ensures.left tt;
       waits = omega (arith, c.loop.invariant.waits, c.turn.ensures.waits, c.pause.ensures.waits);
+      origin = c.pause.ensures.origin ∙ c.turn.ensures.origin ∙ c.loop.invariant.origin;
     }
 
 pub returns-in_err-pause-clause-turns : goal.returns-in_err-pause-clause-turns

@@ -14,4 +14,5 @@ invariant-loop g l = record {
   delivered : ready l.caller.alone.setting (past_of l.caller.alone.seen) ≡ [];
   servers : IfSome l.later (λ later. (1 ≤ length later) × (length later ≤ 8));
   waits : g.W.World.wait_faults l.fn.world ≤ g.W.World.wait_faults l.world;
+  origin : g.W.World.origin l.world ≡ g.W.World.origin l.fn.world;
 }
