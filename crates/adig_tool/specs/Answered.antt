@@ -30,7 +30,7 @@ status_meant reply =
     let code = rcode_of reply.message reply.opt in
     if code == 0 then (if has_item reply.message.answers then Success else NoData) else status_of_rcode code
 
--- the status of a request is the one that its last reply means; a search may say NoData in place of one with which it would go on, since an earlier name was answered so; addresses aren't asked for
+-- the status of a request is the one that its last reply means; a search may say NoData in place of a status with which it goes on, for an earlier name that was answered so; addresses aren't asked for
 abbrev pub IsMeantBy : Spec → Reply → Status → Type 0
 IsMeantBy (Query name kind class) reply status = status ≡ status_meant reply
 IsMeantBy (Search name kind class) reply status = (status ≡ status_meant reply) ⊎ ((status ≡ NoData) × IsTrue (goes_on (status_meant reply)))

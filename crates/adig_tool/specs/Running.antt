@@ -60,5 +60,5 @@ pub record IsRunFor (ask : AdigAsk) (turns : ℕ) (ended : Ended) (files_before 
   pub read_fault : file ≡ NotRead → Rose files_before.faults files_after.faults
   -- The channel's options are those of the file, and what the words set in place of them.
   pub comes : Comes ask.spec turns (options_set ask.settings file) ended before after
-  -- Where the network tells its calls, and they begin no TCP link, an answer with a message is a reply to a query of this run, for a question that was asked under these options.
+  -- Where the network tells its calls, and they begin no TCP link, an answer with a message is a reply to a query of this run, for a question of what is asked under these options.
   pub answered : IfOk (options_set ask.settings file) (λ options. LogGets (AreAnswered (setting_with options) ask.spec ended.status ended.calls) before.network.log after.network.log)

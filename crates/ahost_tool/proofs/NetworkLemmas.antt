@@ -1,9 +1,9 @@
 -- The network of a load wakes in time, where no link is closed between a wait and the next receive; and its waits don't fail.
-use Rattle.std.proofs.Common.{◌≡◌, ◌≢◌, ◌∙◌, ℕ, ◌≤◌, ◌⊎◌, inl, inr, Bool, true, false, List, [], ◌∷◌, ◌++◌, Some, None, ap, refl, sym, subst, arith}
+use Rattle.std.proofs.Common.{◌≡◌, ◌≢◌, ℕ, ◌≤◌, ◌⊎◌, inl, inr, Bool, true, false, List, [], ◌∷◌, ap, refl, sym, subst, arith}
 use Rattle.std.proofs.lemmas.Bool.{and_from, and_parts, le-leb, or_left, or_right}
 use Rattle.std.specs.List.{AllByRecursion, list_any}
 use Rattle.std.specs.Option.{option_map_or}
-use Rattle.std.specs.Prelude.{filter_map, nat_le, not, ◌&&◌, ◌||◌}
+use Rattle.std.specs.Prelude.{filter_map, nat_le, not, ◌&&◌}
 use Rattle.channel_model.specs.Calls.{received_by}
 use Rattle.channel_model.specs.Endings.{waited_by}
 use Rattle.channel_model.specs.Lawful.{first}

@@ -1,17 +1,17 @@
 -- In the turns of a run no link is closed between a wait and the next receive.
-use Rattle.std.proofs.Common.{◌≡◌, ◌≢◌, ◌∙◌, ℕ, ◌+◌, ◌==◌, Bool, true, false, cond, not, List, [], ◌∷◌, ◌++◌, Option, Some, None, filter, find, length, map, inl, inr, ap, refl, sym, subst, arith, eq-eqb, length-append, true≢false}
+use Rattle.std.proofs.Common.{◌≡◌, ◌≢◌, ◌∙◌, ℕ, ◌+◌, ◌==◌, Bool, true, false, cond, not, List, [], ◌∷◌, ◌++◌, Option, Some, None, filter, length, map, inl, inr, ap, refl, sym, subst, arith, eq-eqb, length-append, true≢false}
 use Rattle.std.proofs.lemmas.Bool.{and_from, and_parts}
 use Rattle.std.proofs.lemmas.List.{append_assoc}
 use Rattle.std.specs.List.{AllByRecursion, list_all}
 use Rattle.std.specs.Option.{option_map_or}
-use Rattle.std.specs.Prelude.{flat_map, option_to_list, ◌&&◌}
+use Rattle.std.specs.Prelude.{flat_map, option_to_list}
 use Rattle.chan_types.specs.declared.journal.Entry.{Entry}
-use Rattle.channel_model.specs.Course.{AreTurns, IsCourse, Rest, Round, calls_of, calls_of_rest, has_no_turn, is_timely, may_follow, readings, serves_from}
+use Rattle.channel_model.specs.Course.{AreTurns, IsCourse, Rest, Round, calls_of, calls_of_rest, readings, serves_from}
 use Rattle.channel_model.specs.Frames.{left_in}
-use Rattle.channel_model.specs.Links.{Link, held_by, held_by_receive, held_link, told, with_bytes, without_link}
+use Rattle.channel_model.specs.Links.{Link, held_by_receive, held_link, told, with_bytes, without_link}
 use Rattle.channel_model.specs.Setting.{Setting}
 use Rattle.channel_model.specs.Stretch.{Standing, beginning, behind}
-use Rattle.channel_model.specs.Turn.{EndsWithNothing, HasMade, HasReceived, HaveMade, IsTurn, IsWholeReceive, Part, all_parts, are_of, closes_made, closing, expiring, if_held, is_among, losses, lost_receiving, most_receives, parts_of_call, receives, receiving, starting, writing}
+use Rattle.channel_model.specs.Turn.{HasMade, HasReceived, HaveMade, IsTurn, IsWholeReceive, Part, all_parts, closes_made, closing, expiring, if_held, is_among, losses, lost_receiving, most_receives, parts_of_call, receives, receiving, starting, writing}
 use Rattle.channel_progress.specs.Waking.{woken_by}
 use Rattle.net_addr.specs.declared.addr.ServerAddr.{ServerAddr}
 use Rattle.net_world.specs.declared.answers.Got.{Got}

@@ -1,6 +1,5 @@
 -- The setting of a run's channel, by the two files as they were read, and the reads that were made on the way to it.
 use Rattle.std.proofs.Common.{◌≡◌, ◌≢◌, ℕ, ◌+◌, ◌^◌, ◌≤◌, ◌<◌, Bool, true, false, nat_lt, List, [], ◌∷◌, Option, Some, None, Result, Ok, Err, length, refl, ap, sym, subst, arith, ltb-true, ltb-false}
-use mathlib.Core.List.{IsPrefix}
 use Rattle.hosts_file.specs.declared.hosts.HostLine.{HostLine}
 use Rattle.item_list.specs.declared.no_memory.NoMemory.{NoMemory}
 use Rattle.net_world.specs.Cause.{HasCause, Rose, is_not_read}
