@@ -1,5 +1,5 @@
 -- Which calls of the network an entry of the journal tells of, and in which order, where no TCP link is begun.
-use Rattle.std.proofs.Common.{◌≡◌, ℕ, ◌+◌, ◌==◌, not, List, [], ◌∷◌, ◌++◌, length, refl, sym, ap, subst, ◌∙◌, Bool, true, false, if◌then◌else◌, inl, inr, arith, eq-eqb}
+use Rattle.std.proofs.Common.{◌≡◌, ℕ, ◌+◌, ◌==◌, not, List, [], ◌∷◌, ◌++◌, length, refl, sym, ap, subst, ◌∙◌, Bool, true, false, inl, inr, arith, eq-eqb}
 use Rattle.std.specs.Prelude.{Some, flat_map, is_none, ◌⊎◌}
 use Rattle.std.proofs.lemmas.List.{append-nil, append_assoc}
 use Rattle.chan_types.specs.declared.journal.Entry.{Entry}

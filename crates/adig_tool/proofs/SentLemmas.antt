@@ -1,9 +1,8 @@
 -- A datagram behind which no fault of its way is noted is one that the network took.
-use Rattle.std.proofs.Common.{◌≡◌, ℕ, ◌+◌, ◌==◌, ◌||◌, List, [], ◌∷◌, ◌++◌, map, refl, sym, ap, ap₂, subst, ◌∙◌, Bool, true, false, if◌then◌else◌, inl, inr, eq-eqb}
+use Rattle.std.proofs.Common.{◌≡◌, ℕ, ◌==◌, ◌||◌, List, [], ◌∷◌, ◌++◌, map, refl, sym, ap, subst, ◌∙◌, Bool, true, false, if◌then◌else◌, inl, inr, eq-eqb}
 use Rattle.std.specs.List.{list_any}
-use Rattle.std.specs.Prelude.{None, Option, Some, ◌⊎◌}
-use Rattle.std.specs.Option.{option_map_or}
-use Rattle.std.proofs.lemmas.List.{append-nil, append_assoc, append_cancel_right}
+use Rattle.std.specs.Prelude.{Some, ◌⊎◌}
+use Rattle.std.proofs.lemmas.List.{append_assoc, append_cancel_right}
 use Rattle.chan_types.specs.declared.journal.Entry.{Entry}
 use Rattle.chan_types.specs.declared.journal.What.{What}
 use Rattle.chan_types.specs.declared.journal.What.TheVariants.{Accept, Arrive, Cancel, Destroy, Expire, Fault, Start, Take, Servers}

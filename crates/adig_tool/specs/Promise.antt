@@ -1,6 +1,6 @@
 -- What a run promises: one journal orders what happened in its channel, and what it asked, sent, called and put follows from that journal.
 use Rattle.std.specs.List.{list_all}
-use Rattle.std.specs.Prelude.{All, IsSomeAnd, IsTrue, List, Some, [], is_some, map, not, ℕ, ◌*◌, ◌++◌, ◌+◌, ◌∷◌, ◌≡◌, ◌≢◌, ◌≤◌, ◌⊎◌}
+use Rattle.std.specs.Prelude.{IsSomeAnd, IsTrue, List, Some, [], is_some, map, not, ℕ, ◌*◌, ◌++◌, ◌+◌, ◌∷◌, ◌≡◌, ◌≢◌, ◌≤◌, ◌⊎◌}
 use mathlib.Core.List.{IsPrefix}
 use Rattle.chan_types.specs.declared.journal.Entry.{Entry}
 use Rattle.chan_types.specs.declared.spec.Spec.{Spec}

@@ -1,6 +1,6 @@
 -- How one request is brought to its end: it is accepted, turns are made with waits between them, and it is called.
 use Rattle.std.specs.List.{list_all}
-use Rattle.std.specs.Prelude.{Bool, Err, IsTrue, List, Ok, Option, Result, Some, [], false, map, true, ℕ, ◌&&◌, ◌-◌, ◌==◌, ◌∷◌, ◌≡◌, ◌≤◌}
+use Rattle.std.specs.Prelude.{Bool, Err, IsTrue, List, Ok, Option, Result, Some, [], false, map, true, ℕ, ◌&&◌, ◌==◌, ◌∷◌, ◌≡◌, ◌≤◌}
 use mathlib.Core.List.{IsPrefix}
 use Rattle.item_list.specs.declared.no_memory.NoMemory.{NoMemory}
 use Rattle.net_world.specs.declared.log.WorldCall.{WorldCall}
@@ -10,7 +10,7 @@ use Rattle.chan_types.specs.declared.journal.Entry.{Entry}
 use Rattle.chan_types.specs.declared.journal.What.{What}
 use Rattle.chan_types.specs.declared.journal.What.TheVariants.{Accept, Arrive, Cancel, Destroy, Expire, Fault, Start, Take, Servers}
 use Rattle.chan_types.specs.declared.spec.Spec.{Spec}
-use Rattle.channel_model.specs.Completion.{fate, pending, taken}
+use Rattle.channel_model.specs.Completion.{fate, taken}
 use Rattle.channel_model.specs.Course.{IsCourse, IsCourseSoFar}
 use Rattle.channel_model.specs.Endings.{IsStalledBehind}
 use Rattle.channel_model.specs.Journal.{Accepted, accepted, past_of}

@@ -80,6 +80,7 @@ same_run words plans a b turns ended files_before files_after before after x y r
           (subst (λ p. IsSettingOf (string_bytes a.resolv) p b.settings run.setting run.reads files_before files_after) hosts
           (subst (λ v. IsSettingOf (string_bytes a.resolv) (string_bytes a.hosts) v run.setting run.reads files_before files_after) settings run.read));
       made = run.made;
+      made_all = run.made_all;
       comes =
           subst (λ s. Comes (asked_of Page s plans b.orders b.later) turns run.setting ended before after) specs
           (subst (λ o. Comes (asked_of Page a.specs plans o b.later) turns run.setting ended before after) orders
@@ -132,6 +133,7 @@ partly_run ask plans turns files_before files_after outside partly = record {
   reads = partly.reads;
   read = partly.setting;
   made = inr (refl, (partly.first, partly.is_first, partly.made));
+  made_all = λ some. absurd (some refl);
   comes = early_comes (asked_of Page ask.specs plans ask.orders ask.later) turns partly.result outside;
 }
 
@@ -152,6 +154,7 @@ module _ (ask : AhostAsk) (plans : List Plan) (turns : ℕ) (files_before files_
           subst (λ p. IsSettingOf p (string_bytes ask.hosts) ask.settings setting read.reads files_before files_after) resolv_is
           (subst (λ p. IsSettingOf resolv p ask.settings setting read.reads files_before files_after) hosts_is read.setting);
       made = inl read.made;
+      made_all = λ some. read.made;
       comes = comes;
     }
 

@@ -1,5 +1,5 @@
 -- How a run comes to its promise: by its words, and by the files that it reads.
-use Rattle.std.specs.Prelude.{Err, List, None, Ok, Option, Result, Some, [], length, ℕ, ◌≡◌, ◌≤◌}
+use Rattle.std.specs.Prelude.{Err, List, None, Ok, Option, Result, Some, [], length, ℕ, ◌≡◌, ◌≢◌, ◌≤◌}
 use Rattle.std.specs.String.{string_bytes}
 use Rattle.chan_types.specs.Plans.{Plan}
 use Rattle.chan_types.specs.declared.spec.Spec.{Spec}
@@ -10,7 +10,7 @@ use Rattle.tool_line.specs.Ahost.{AhostAsks}
 use Rattle.tool_line.specs.Ending.{text_of}
 use Rattle.tool_line.specs.Outside.{FilesTold, Outside}
 use Rattle.tool_line.specs.Put.{IsPut}
-use Rattle.tool_line.specs.Read.{HasReadAt}
+use Rattle.tool_line.specs.Read.{HasRead, HasReadAt}
 use Rattle.tool_line.specs.Words.{Text}
 use Rattle.tool_line.specs.declared.ahost.AhostAsk.{AhostAsk}
 use Rattle.tool_line.specs.declared.ahost.Load.{Load}
@@ -60,6 +60,7 @@ pub record IsRunFor (ask : AhostAsk) (plans : List Plan) (turns : ℕ) (ended : 
   pub setting : Result (OptionValues × List HostLine) FaultOfFile
   pub reads : List ReadCall
   pub read : IsSettingOf (string_bytes ask.resolv) (string_bytes ask.hosts) ask.settings setting reads files_before files_after
-  -- These reads were made, once each, in this order and with these limits, and no other; where memory was wanting, with exit status 5, the first of them, or none.
+  -- These reads were made, once each, in this order and with these limits, and no other; where memory was wanting, with exit status 5, the first of them, or none. A run whose channel has a journal has made all of them.
   pub made : HasReadAt ended.status reads files_before.reads files_after.reads
+  pub made_all : ended.journal ≢ [] → HasRead reads files_before.reads files_after.reads
   pub comes : Comes (asked_of Page ask.specs plans ask.orders ask.later) turns setting ended before after

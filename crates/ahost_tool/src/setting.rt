@@ -10,8 +10,8 @@ use resolv_options::Options;
 use std::alloc::Global;
 use tool_line::{FileFault, HOSTS_MOST, RESOLV_MOST, Settings, hosts_read, set_options};
 
-/// Reads resolv.conf and then the hosts file. The words' settings stand in place of what resolv.conf sets. A fault of
-/// resolv.conf ends it before the hosts file is read.
+/// Reads resolv.conf and then the hosts file, each once. The words' settings stand in place of what resolv.conf sets. A fault
+/// of resolv.conf ends it before the hosts file is read.
 pub(crate) fn read_setting<F: Files>(
     alloc: Global,
     resolv: &str,
@@ -24,13 +24,9 @@ pub(crate) fn read_setting<F: Files>(
         (files_told (F.files files.new) (F.faults files.new) (F.reads files.new)) }
     ensures files { F.files files.new ≡ F.files files.old }
 {
-    let Ok(file) = files.read(resolv, RESOLV_MOST) else {
-        return Err(FileFault::NoMemory);
-    };
+    let file = files.read(resolv, RESOLV_MOST)?;
     let options = set_options(alloc, settings, &file)?;
-    let Ok(file) = files.read(hosts, HOSTS_MOST) else {
-        return Err(FileFault::NoMemory);
-    };
-    let hosts = hosts_read(alloc, &file)?;
+    let lines = files.read(hosts, HOSTS_MOST)?;
+    let hosts = hosts_read(alloc, &lines)?;
     Ok((options, hosts))
 }
