@@ -1,0 +1,5 @@
+mod TicketLemmas
+mod SpendingLemmas
+mod JoiningLemmas
+mod OfferingLemmas
+pub mod Theorems

@@ -1,0 +1,4 @@
+pub mod Pools
+pub mod Spending
+pub mod Parts
+pub mod Rounds
