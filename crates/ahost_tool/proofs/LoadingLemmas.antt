@@ -16,7 +16,8 @@ use Rattle.net_world.specs.Cause.{Rose}
 use Rattle.net_world.specs.declared.log.WorldCall.{WorldCall}
 use Rattle.owner_laws.specs.Sessions.{longest_slice}
 use Rattle.test_nameserver.specs.Peer.{PeerState, at_start}
-use Rattle.test_nameserver.specs.PeerLog.{IsLogOf, origin_of}
+use Rattle.test_nameserver.specs.PeerLog.{IsLogOf}
+use Rattle.test_nameserver.specs.PeerOrigin.{origin_of}
 use Rattle.test_nameserver.proofs.Theorems.{log_of_none, log_told}
 use Rattle.tool_line.specs.Ahost.{AhostAsks, load_in}
 use Rattle.tool_line.specs.Lookup.{Lookup, lookup, read_if, read_or, value_under}

@@ -9,7 +9,9 @@ use Rattle.test_nameserver.specs.declared.query.Query.{Query}
 use Rattle.test_nameserver.specs.Query.{asked_by}
 use Rattle.test_nameserver.specs.Peer.{PeerState, at_start, heard_datagram}
 use Rattle.test_nameserver.specs.PeerCalls.{has_number, logged, written}
-use Rattle.test_nameserver.specs.PeerLog.{AreMade, IsLogOf, IsReached, Makes, making_code, origin_of}
+use Rattle.test_nameserver.specs.PeerFields.{IsReached}
+use Rattle.test_nameserver.specs.PeerLog.{AreMade, IsLogOf, Makes}
+use Rattle.test_nameserver.specs.PeerOrigin.{making_code, origin_of}
 
 -- what no call changes, and how the log goes on
 record GoesOn (call : WorldCall) (old new : PeerState) : Type 0 where

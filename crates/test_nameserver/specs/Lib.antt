@@ -10,6 +10,7 @@ pub mod Target
 pub mod Peer
 pub mod PeerCalls
 pub mod PeerLog
+pub mod PeerOrigin
 pub mod PeerFields
 pub mod Heard
 pub mod Seen

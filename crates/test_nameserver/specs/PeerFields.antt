@@ -1,11 +1,15 @@
--- What the fields of a network in memory stand for, and what is true of them.
+-- What the fields of a network in memory stand for, and what is true of them. Machinery, which no promise speaks of.
 use Rattle.std.specs.List.{AllByRecursion}
 use Rattle.std.specs.Prelude.{◌≤◌}
 use Rattle.net_world.specs.Script.{MayCome}
 use Rattle.test_nameserver.specs.Heard.{keys_of}
-use Rattle.test_nameserver.specs.Peer.{PeerState}
-use Rattle.test_nameserver.specs.PeerLog.{IsReached}
+use Rattle.test_nameserver.specs.Peer.{PeerState, at_start}
+use Rattle.test_nameserver.specs.PeerLog.{AreMade}
 use Rattle.test_nameserver.specs.declared.peer_world.PeerWorld.TheInside.{Inside}
+
+-- the network stands where the calls of its log lead from its start
+pub record IsReached (state : PeerState) : Type 0 where
+  pub made : AreMade state.log (at_start state.zone state.seed) state
 
 -- where the network stands
 abbrev pub state_of : Inside → PeerState

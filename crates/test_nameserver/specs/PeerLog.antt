@@ -1,7 +1,5 @@
 -- The log of such a network: its calls were made one after the other, from its start on, each by its meaning.
-use Rattle.std.specs.Coded.{Coded, codes}
 use Rattle.std.specs.Prelude.{◌≡◌, ℕ, List, [], ◌∷◌}
-use base.Stored.{Gv}
 use Rattle.dns_message.specs.declared.message.Record.{Record}
 use Rattle.net_world.specs.declared.log.WorldCall.{WorldCall}
 use Rattle.net_world.specs.declared.log.WorldCall.TheVariants.{Serve, Now, Word, Send, Connect, Write, Receive, Close, Wait}
@@ -29,15 +27,3 @@ AreMade (call ∷ calls) old new = (middle : PeerState) × Makes call old middle
 pub record IsLogOf (zone : List Record) (seed : ℕ) (calls : List WorldCall) : Type 0 where
   pub last : PeerState
   pub made : AreMade calls (at_start zone seed) last
-
--- the network stands where the calls of its log lead from its start
-pub record IsReached (state : PeerState) : Type 0 where
-  pub made : AreMade state.log (at_start state.zone state.seed) state
-
--- how the logic stores a zone and a seed
-pub making_code : Coded (List Record × ℕ)
-making_code = Prim.hlevel codes
-
--- what tells how a network was made: its zone and its seed
-abbrev pub origin_of : PeerState → Gv
-origin_of state = making_code.code (state.zone, state.seed)

@@ -8,7 +8,8 @@ ghost use Rattle.net_world.specs.declared.answers.Waited.{Waited};
 ghost use Rattle.net_world.specs.declared.answers.Waited.TheVariants.{Woken};
 ghost use Rattle.net_world.specs.declared.log.WorldCall.TheVariants.{Wait};
 ghost use Rattle.test_nameserver.specs.Peer.{PeerState, question_key};
-ghost use Rattle.test_nameserver.specs.PeerLog.{Makes, origin_of};
+ghost use Rattle.test_nameserver.specs.PeerLog.{Makes};
+ghost use Rattle.test_nameserver.specs.PeerOrigin.{origin_of};
 
 /// The law that two questions have one key exactly where they are the same, so that a network numbers distinct ones.
 #[tactic(auto, using(crate::proofs::QuestionLemmas::keys_tell))]

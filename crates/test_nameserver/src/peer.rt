@@ -7,7 +7,7 @@ use net_world::{Got, Sent, Waited, World, Wrote};
 
 impl World for PeerWorld {
     ghost use Rattle.std.specs.Prelude.{Some};
-    ghost use Rattle.test_nameserver.specs.PeerLog.{origin_of};
+    ghost use Rattle.test_nameserver.specs.PeerOrigin.{origin_of};
 
     ghost log = { λ w. Some w.log };
 
