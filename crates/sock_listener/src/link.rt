@@ -8,6 +8,9 @@ use std::io;
 use std::io::{ErrorKind, Read, Write};
 use test_nameserver::first_message;
 
+/// How long a client may be silent where all places are taken and another waits for one, in milliseconds.
+const SILENCE_MILLIS: u64 = 10_000;
+
 /// A stream of a client, under the token by which the poll tells of it.
 #[derive(Drop)]
 pub struct Link {
@@ -19,6 +22,8 @@ pub struct Link {
     ready: bool,
     /// It ended or failed.
     over: bool,
+    /// When it last brought something, or else was made, in milliseconds of the clock.
+    heard: u64,
 }
 
 /// How far a write came.
@@ -33,12 +38,13 @@ pub enum Written {
 }
 
 impl Link {
-    /// A link over a stream that was accepted.
+    /// A link over a stream that was accepted at this moment.
     pub fn make(
         alloc: Global,
         registry: &Registry,
         token: usize,
         mut stream: TcpStream,
+        now: u64,
     ) -> io::Result<Link> {
         stream.set_nodelay(true)?;
         registry.register(
@@ -52,6 +58,7 @@ impl Link {
             unread: Vec::new(alloc),
             ready: true,
             over: false,
+            heard: now,
         })
     }
 
@@ -63,6 +70,21 @@ impl Link {
     /// Its token.
     pub fn token(&self) -> usize {
         self.token
+    }
+
+    /// When it last brought something.
+    pub fn heard(&self) -> u64 {
+        self.heard
+    }
+
+    /// From when on it counts as silent, unless it brings something before.
+    pub fn silent_from(&self) -> u64 {
+        self.heard.saturating_add(SILENCE_MILLIS)
+    }
+
+    /// Whether it is silent at this moment: nothing came of it for so long, and nothing is there to read.
+    pub fn is_silent(&self, now: u64) -> bool {
+        self.silent_from() <= now && !self.is_pending()
     }
 
     /// Whether it has nothing more to bring.
@@ -96,12 +118,15 @@ impl Link {
         self.ready && !self.over
     }
 
-    /// Reads some of what has come. For want of memory nothing is read.
-    pub fn read(&mut self, buffer: &mut [u8]) -> Result<(), NoMemory> {
+    /// Reads some of what has come by this moment. For want of memory nothing is read.
+    pub fn read(&mut self, buffer: &mut [u8], now: u64) -> Result<(), NoMemory> {
         self.unread.reserve(buffer.len())?;
         match self.stream.read(buffer) {
             Ok(0) => self.over = true,
-            Ok(count) => self.unread.extend_from_slice(&buffer[..count])?,
+            Ok(count) => {
+                self.unread.extend_from_slice(&buffer[..count])?;
+                self.heard = now;
+            }
             Err(error) => match error.kind() {
                 ErrorKind::WouldBlock => self.ready = false,
                 ErrorKind::Interrupted => {}

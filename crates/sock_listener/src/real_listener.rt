@@ -9,6 +9,7 @@ use item_list::NoMemory;
 use net_world::{Sent, raise};
 use std::marker::Model;
 use std::net::Net;
+use std::time::Clock;
 use test_nameserver::{Heard, Listener};
 
 /// A server on 127.0.0.1, over UDP and TCP. Contracts see how often it failed, and nothing of what it heard.
@@ -27,7 +28,7 @@ impl<R> Model for RealListener<R> {
     ghost view = { λ l. l.faults };
 }
 
-impl<R: Net + AllocGlobal> RealListener<R> {
+impl<R: Net + Clock + AllocGlobal> RealListener<R> {
     /// A listener that doesn't listen yet.
     pub fn make(rt: R) -> RealListener<R>
         ensures { result ≡ 0 }
@@ -53,13 +54,18 @@ impl<R: Net + AllocGlobal> RealListener<R> {
         Ok(self.counted(sent))
     }
 
+    /// The bytes of the receive buffer that the system gave for datagrams, if it listens and the system tells them.
+    pub fn receive_buffer(&self) -> Option<u32> {
+        self.sockets.as_ref()?.receive_buffer()
+    }
+
     /// Waits for the next message. It fails before the first `listen`.
     pub fn next(&mut self) -> Result<Heard, NoMemory>
         ensures ok { IfOk result (λ heard. self.new ≡ raised (is_not_heard heard) self.old) }
         ensures err { OnErr result (self.new ≡ self.old) }
     {
         let heard = match &mut self.sockets {
-            Some(sockets) => sockets.next()?,
+            Some(sockets) => sockets.next(&self.rt)?,
             None => Heard::Failed,
         };
         self.faults = raise(is_nothing(&heard), self.faults);
@@ -102,7 +108,7 @@ fn is_nothing(heard: &Heard) -> bool
     }
 }
 
-impl<R: Net + AllocGlobal> Listener for RealListener<R> {
+impl<R: Net + Clock + AllocGlobal> Listener for RealListener<R> {
     ghost use Rattle.std.specs.Prelude.{None};
 
     ghost log = { λ _. None };

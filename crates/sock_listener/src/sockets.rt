@@ -1,15 +1,17 @@
 //! The sockets of a server on 127.0.0.1: one over UDP, one that takes TCP connections, and those connections.
 
+use crate::clock::millis_after;
 use crate::link::{Link, Written};
+use crate::room::{receive_buffer, widen};
 use item_list::{Bytes, NoMemory};
-use mio::net::{TcpListener, UdpSocket};
+use mio::net::{TcpListener, TcpStream, UdpSocket};
 use mio::{Events, Interest, Poll, Token};
 use net_world::Sent;
 use std::alloc::Global;
 use std::io;
 use std::io::ErrorKind;
 use std::net::{Ipv4Addr, Net, SocketAddr};
-use std::time::Duration;
+use std::time::{Clock, Duration};
 use test_nameserver::Heard;
 
 /// The tokens of the two sockets. Connections have those behind.
@@ -23,8 +25,12 @@ const BUFFER_SIZE: usize = 65_535;
 /// How many events a poll tells at most. What is left is told by the next.
 const EVENTS_MOST: usize = 256;
 
-/// How many connections are held at most. Further ones wait.
+/// How many connections are held at most. Further ones wait, until a client leaves or has been silent for so long.
 const LINKS_MOST: usize = 256;
+
+/// Behind so many messages the poll is asked, also where there are more: a client that never rests would else hide what
+/// the others sent.
+const MESSAGES_MOST: u32 = 16;
 
 /// How often a call is made that signals cut off, and how often a connection is read for one message: a message has
 /// 65,537 bytes with its length, and a read brings all that came, in most cases.
@@ -53,6 +59,7 @@ pub struct Sockets {
     events: Events,
     udp: UdpSocket,
     tcp: TcpListener,
+    /// The connections, in the order of their turns.
     links: Vec<Link>,
     buffer: Vec<u8>,
     /// There may be a datagram. Only a look that finds none clears it, since the poll tells a change once.
@@ -62,6 +69,10 @@ pub struct Sockets {
     /// The token of the newest connection.
     tokens: usize,
     sender: Sender,
+    /// The clock's last reading, in milliseconds.
+    now: u64,
+    /// How many messages were taken since the poll was asked.
+    taken: u32,
 }
 
 impl Sockets {
@@ -84,25 +95,51 @@ impl Sockets {
             tcp_ready: true,
             tokens: TCP,
             sender: Sender::Nobody,
+            now: 0,
+            taken: 0,
         }))
     }
 
+    /// The bytes of the receive buffer for datagrams, if the system tells them.
+    pub fn receive_buffer(&self) -> Option<u32> {
+        receive_buffer(&self.udp)
+    }
+
     /// Waits for the next message.
-    pub fn next(&mut self) -> Result<Heard, NoMemory> {
+    pub fn next<R: Clock>(&mut self, rt: &R) -> Result<Heard, NoMemory> {
         for _ in 0..u64::MAX {
+            self.now = millis_after(rt, self.now);
+            if self.wants_look() && self.look().is_err() {
+                return Ok(Heard::Failed);
+            }
             if let Some(heard) = self.take()? {
+                self.taken = self.taken.saturating_add(1);
                 return Ok(heard);
             }
-            let time = if self.is_pending() {
-                Some(Duration::from_millis(0))
-            } else {
-                None
-            };
-            if self.wait(time).is_err() {
+            if self.wait(self.patience()).is_err() {
                 return Ok(Heard::Failed);
             }
         }
         Ok(Heard::Failed)
+    }
+
+    /// Whether the poll is asked first: behind so many messages, and before a client is closed for its silence, since it may
+    /// have sent something.
+    fn wants_look(&self) -> bool {
+        self.taken >= MESSAGES_MOST || (self.is_full() && self.may_accept())
+    }
+
+    /// How long may be waited: not at all where something may be there, and no longer than a client may be silent that has
+    /// the place of one that waits; else for ever.
+    fn patience(&self) -> Option<Duration> {
+        if self.is_pending() {
+            return Some(Duration::from_millis(0));
+        }
+        if !self.tcp_ready {
+            return None;
+        }
+        let first = self.links.iter().map(|link| link.silent_from()).min()?;
+        Some(Duration::from_millis(first.saturating_sub(self.now)))
     }
 
     /// Answers the sender of the last message.
@@ -117,12 +154,18 @@ impl Sockets {
         }
     }
 
-    /// What has come: a datagram first, and then a message of a connection.
+    /// What has come. Behind a datagram a connection has its turn, and behind that a datagram.
     fn take(&mut self) -> Result<Option<Heard>, NoMemory> {
+        self.accept()?;
+        if let Sender::Datagram(_) = self.sender {
+            if let Some(heard) = self.take_from_links()? {
+                return Ok(Some(heard));
+            }
+            return self.take_datagram();
+        }
         if let Some(heard) = self.take_datagram()? {
             return Ok(Some(heard));
         }
-        self.accept()?;
         self.take_from_links()
     }
 
@@ -150,19 +193,16 @@ impl Sockets {
 
     /// Takes the connections that wait.
     fn accept(&mut self) -> Result<(), NoMemory> {
+        if self.is_full() {
+            self.forget_over();
+        }
         for _ in 0..LINKS_MOST {
             if !self.may_accept() {
                 return Ok(());
             }
             self.links.reserve(1)?;
             match self.tcp.accept() {
-                Ok((stream, _)) => {
-                    self.tokens = self.tokens.wrapping_add(1);
-                    let registry = self.poll.registry();
-                    if let Ok(link) = Link::make(self.alloc, registry, self.tokens, stream) {
-                        self.links.push(link)?;
-                    }
-                }
+                Ok((stream, _)) => self.welcome(stream)?,
                 Err(error) => match error.kind() {
                     ErrorKind::Interrupted | ErrorKind::ConnectionAborted => {}
                     _ => self.tcp_ready = false,
@@ -172,21 +212,62 @@ impl Sockets {
         Ok(())
     }
 
-    /// Whether a connection may wait, and has its place.
-    fn may_accept(&self) -> bool {
-        self.tcp_ready && self.links.len() < LINKS_MOST
+    /// Gives a connection a place: a free one, or that of the client that has been silent for longest.
+    fn welcome(&mut self, stream: TcpStream) -> Result<(), NoMemory> {
+        self.tokens = self.tokens.wrapping_add(1);
+        let registry = self.poll.registry();
+        let Ok(link) = Link::make(self.alloc, registry, self.tokens, stream, self.now) else {
+            return Ok(());
+        };
+        if self.is_full() {
+            self.close_most_silent();
+        }
+        self.links.push(link)?;
+        Ok(())
     }
 
-    /// Takes the first message of a connection, and closes those that are over.
-    fn take_from_links(&mut self) -> Result<Option<Heard>, NoMemory> {
-        for link in self.links.iter_mut() {
-            if let Some(bytes) = take_from(self.alloc, link, &mut self.buffer)? {
-                self.sender = Sender::Link(link.token());
-                return Ok(Some(Heard::Message { tcp: true, bytes }));
-            }
+    /// Closes the connection that has been silent for longest.
+    fn close_most_silent(&mut self) {
+        let resting = self.links.iter().filter(|link| !link.is_pending());
+        if let Some(link) = resting.min_by_key(|link| link.heard()) {
+            let token = link.token();
+            self.links.retain(|link| !link.has_token(token));
         }
+    }
+
+    /// Closes the connections that are over. None of them has a whole message left.
+    fn forget_over(&mut self) {
         self.links.retain(|link| !link.is_over());
-        Ok(None)
+    }
+
+    /// Whether all places are taken.
+    fn is_full(&self) -> bool {
+        self.links.len() >= LINKS_MOST
+    }
+
+    /// Whether a connection may wait, and has its place.
+    fn may_accept(&self) -> bool {
+        self.tcp_ready && (!self.is_full() || self.has_silent())
+    }
+
+    /// Whether a client has been silent for so long that it gives way.
+    fn has_silent(&self) -> bool {
+        self.links.iter().any(|link| link.is_silent(self.now))
+    }
+
+    /// Takes the next message of a connection, the one behind that whose turn was last first, or closes those that are over.
+    fn take_from_links(&mut self) -> Result<Option<Heard>, NoMemory> {
+        let found = first_of(self.alloc, &mut self.links, &mut self.buffer, self.now)?;
+        let Some((place, bytes)) = found else {
+            self.forget_over();
+            return Ok(None);
+        };
+        let next = place.saturating_add(1).min(self.links.len());
+        self.links.rotate_left(next);
+        if let Some(link) = self.links.last() {
+            self.sender = Sender::Link(link.token());
+        }
+        Ok(Some(Heard::Message { tcp: true, bytes }))
     }
 
     /// Whether something may be there that no event tells again.
@@ -194,8 +275,14 @@ impl Sockets {
         self.udp_ready || self.may_accept() || self.links.iter().any(|link| link.is_pending())
     }
 
+    /// Notes the events that are there, and waits for none.
+    fn look(&mut self) -> io::Result<()> {
+        self.wait(Some(Duration::from_millis(0)))
+    }
+
     /// Waits for events, at most so long, and notes them.
     fn wait(&mut self, time: Option<Duration>) -> io::Result<()> {
+        self.taken = 0;
         self.poll.poll(&mut self.events, time)?;
         for event in self.events.iter() {
             let token = event.token().0;
@@ -252,14 +339,35 @@ fn open_both<R: Net>(rt: &R, port: u16) -> io::Result<(Poll, UdpSocket, TcpListe
     let poll = Poll::new(rt)?;
     let mut udp = UdpSocket::bind(rt, at)?;
     let mut tcp = TcpListener::bind(rt, at)?;
+    widen(&udp);
     let registry = poll.registry();
     registry.register(&mut udp, Token(UDP), Interest::READABLE)?;
     registry.register(&mut tcp, Token(TCP), Interest::READABLE)?;
     Ok((poll, udp, tcp))
 }
 
+/// The first message of these connections, and where its connection stands.
+fn first_of(
+    alloc: Global,
+    links: &mut [Link],
+    buffer: &mut [u8],
+    now: u64,
+) -> Result<Option<(usize, Bytes)>, NoMemory> {
+    for (place, link) in links.iter_mut().enumerate() {
+        if let Some(bytes) = take_from(alloc, link, buffer, now)? {
+            return Ok(Some((place, bytes)));
+        }
+    }
+    Ok(None)
+}
+
 /// Takes a message of a connection, as soon as one has come whole.
-fn take_from(alloc: Global, link: &mut Link, buffer: &mut [u8]) -> Result<Option<Bytes>, NoMemory> {
+fn take_from(
+    alloc: Global,
+    link: &mut Link,
+    buffer: &mut [u8],
+    now: u64,
+) -> Result<Option<Bytes>, NoMemory> {
     for _ in 0..TRIES {
         if let Some(message) = link.take_message(alloc)? {
             return Ok(Some(message));
@@ -267,7 +375,7 @@ fn take_from(alloc: Global, link: &mut Link, buffer: &mut [u8]) -> Result<Option
         if !link.is_pending() {
             return Ok(None);
         }
-        link.read(buffer)?;
+        link.read(buffer, now)?;
     }
     Ok(None)
 }

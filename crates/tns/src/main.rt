@@ -2,8 +2,10 @@
 //! so many messages: `tns --port N --zone PATH --count N`.
 #![tactic(auto)]
 
+mod telling;
+
+use crate::telling::Telling;
 use sock_engine::{RealFiles, RealSink, Streams, texts_of, words_of};
-use sock_listener::RealListener;
 use std::process::ExitCode;
 use test_nameserver::{OUT_OF_MEMORY, run};
 
@@ -21,6 +23,6 @@ fn main(rt: HostRuntime) -> ExitCode {
         words.as_slice(),
         &mut RealFiles::make(rt),
         &mut RealSink::make(rt),
-        &mut RealListener::make(rt),
+        &mut Telling::make(rt),
     ))
 }
