@@ -44,7 +44,7 @@ pub fn resolve<W: World, K: Sink>(
     let status = tell(alloc, spec, &calls, end, sink);
     Ended {
         status,
-        journal: alone.close(),
+        journal: alone.close().into_journal(),
         calls,
     }
 }

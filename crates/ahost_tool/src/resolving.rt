@@ -53,7 +53,7 @@ pub(crate) fn resolve<B: Done + Drop, W: World, K: Sink>(
         calls,
         lost,
     } = caller;
-    let journal = alone.close();
+    let journal = alone.close().into_journal();
     let end = ending_of(loop_end, lost, &calls);
     let status = tell(alloc, report, journal.entries(), &calls, end, sink);
     Ended {

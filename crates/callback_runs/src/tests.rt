@@ -156,5 +156,5 @@ fn played(alloc: Global, script: Script, moves: &[Move]) -> Result<(Vec<u64>, St
     let _number = asked(&mut desk, query(alloc)?, script);
     let told = told_by(alloc, &mut desk, &mut hand, moves)?;
     let journal = desk.close();
-    Ok((told, journal_told(alloc, journal.entries())?))
+    Ok((told, journal_told(alloc, journal.entries.as_slice())?))
 }

@@ -177,7 +177,7 @@ fn closes_so(
     lines: &str,
 ) -> Result<bool, Fail> {
     let journal = desk.close();
-    Ok(was_so? && are_told(alloc, journal.entries(), lines)?)
+    Ok(was_so? && are_told(alloc, journal.entries.as_slice(), lines)?)
 }
 
 /// Whether the calls of the network that connect, close and wait are told by these lines.

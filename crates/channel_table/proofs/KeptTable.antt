@@ -32,42 +32,42 @@ use Rattle.channel_table.specs.declared.table.starting.Idle.{Idle}
 pub entry_added : {old room new : List Entry} (entry : Entry) → new ≡ room ++ entry ∷ [] → room ≡ old → new ≡ old ++ entry ∷ []
 entry_added entry put made = put ∙ ap (λ (es : List Entry). es ++ entry ∷ []) made
 
-module _ {T : Type 0} (plan : T → Script) (t : Inside T) (kept : IsKept plan t) where
+module _ {T J : Type 0} (plan : T → Script) (told : J → List Entry) (room_of : J → ℕ) (t : Inside T J) (kept : IsKept plan told room_of t) where
   -- a table has one to eight servers
   pub servers_some : 1 ≤ length t.list
-  servers_some = list_some (setting_of t) (past_of t.entries.items) t.list t.servers t.greatest_key t.greatest_link t.started kept.counted kept.limits kept.lawful.allowed
+  servers_some = list_some (setting_of t) (past_of (told t.journal)) t.list t.servers t.greatest_key t.greatest_link t.started kept.counted kept.limits kept.lawful.allowed
 
   pub servers_few : length t.list ≤ 8
-  servers_few = list_few (setting_of t) (past_of t.entries.items) t.list t.servers t.greatest_key t.greatest_link t.started kept.counted kept.limits kept.lawful.allowed
+  servers_few = list_few (setting_of t) (past_of (told t.journal)) t.list t.servers t.greatest_key t.greatest_link t.started kept.counted kept.limits kept.lawful.allowed
 
   -- a Start that found no memory had found a leg that waits and an identifier
-  pub start_failed : (word bits at : ℕ) (result : Result Begun NoMemory) (idle : Idle) (id : ℕ) → FindsAt t.rows idle → IsFree t.rows word (Some id) → IsErr result → Starts word bits at result (setting_of t) (past_of t.entries.items) None
+  pub start_failed : (word bits at : ℕ) (result : Result Begun NoMemory) (idle : Idle) (id : ℕ) → FindsAt t.rows idle → IsFree t.rows word (Some id) → IsErr result → Starts word bits at result (setting_of t) (past_of (told t.journal)) None
   start_failed word bits at result idle id found free failed =
-      starts_failed word bits at result (setting_of t) (past_of t.entries.items) failed
-      (some_wait plan (setting_of t) (past_of t.entries.items) t.rows t.ready.items kept.stands (leg_of idle.number idle.leg_number) found.firsts)
-      (some_free plan (setting_of t) (past_of t.entries.items) t.rows t.ready.items kept.stands word id free)
+      starts_failed word bits at result (setting_of t) (past_of (told t.journal)) failed
+      (some_wait plan (setting_of t) (past_of (told t.journal)) t.rows t.ready.items kept.stands (leg_of idle.number idle.leg_number) found.firsts)
+      (some_free plan (setting_of t) (past_of (told t.journal)) t.rows t.ready.items kept.stands word id free)
 
   -- a Fault of this server's link, where a leg may spend so many attempts
   module _ (server link moment : ℕ) {most : ℕ} (value : most ≡ attempts_with t.options t.list) (few : most ≤ 80) where
     -- a leg may spend so many
-    may : attempts (setting_of t) (past_of t.entries.items) ≡ most
-    may = attempts_are (setting_of t) (past_of t.entries.items) t.list t.servers t.greatest_key t.greatest_link t.started kept.counted kept.limits kept.lawful.allowed ∙ sym value
+    may : attempts (setting_of t) (past_of (told t.journal)) ≡ most
+    may = attempts_are (setting_of t) (past_of (told t.journal)) t.list t.servers t.greatest_key t.greatest_link t.started kept.counted kept.limits kept.lawful.allowed ∙ sym value
 
     -- rows and tickets stand behind it
-    pub fault_stands : {rows : List (Row T)} {tickets : List (Ticket T)} → FailsOver t.options server link most t.rows t.ready.items rows tickets → TableStands plan (setting_of t) (Fault server link moment ∷ past_of t.entries.items) rows tickets
-    fault_stands fails = rw (fails.kept, fails.made) (table_failed plan (setting_of t) (past_of t.entries.items) server link moment most may few t.rows t.ready.items kept.stands)
+    pub fault_stands : {rows : List (Row T)} {tickets : List (Ticket T)} → FailsOver t.options server link most t.rows t.ready.items rows tickets → TableStands plan (setting_of t) (Fault server link moment ∷ past_of (told t.journal)) rows tickets
+    fault_stands fails = rw (fails.kept, fails.made) (table_failed plan (setting_of t) (past_of (told t.journal)) server link moment most may few t.rows t.ready.items kept.stands)
 
     -- so many attempts fail by it
-    pub fault_told : (count : ℕ) → count ≡ sum_by (over_in server link) t.rows → Fails server link moment (Ok count) (setting_of t) (past_of t.entries.items) (Some (Fault server link moment))
-    fault_told count is = (refl, is ∙ sym (failed_count plan (setting_of t) (past_of t.entries.items) server link moment most may few t.rows t.ready.items kept.stands))
+    pub fault_told : (count : ℕ) → count ≡ sum_by (over_in server link) t.rows → Fails server link moment (Ok count) (setting_of t) (past_of (told t.journal)) (Some (Fault server link moment))
+    fault_told count is = (refl, is ∙ sym (failed_count plan (setting_of t) (past_of (told t.journal)) server link moment most may few t.rows t.ready.items kept.stands))
 
     -- where some do, the server has a count of failures
     pub fault_there : sum_by (over_in server link) t.rows ≢ 0 → list_any (λ (item : Failing). item.server == server) t.servers ≡ true
     fault_there some =
-        counted_over plan (setting_of t) (past_of t.entries.items) server link moment most may few t.rows t.ready.items t.list t.servers t.greatest_key t.greatest_link t.started kept.stands kept.counted kept.limits kept.lawful.allowed some
+        counted_over plan (setting_of t) (past_of (told t.journal)) server link moment most may few t.rows t.ready.items t.list t.servers t.greatest_key t.greatest_link t.started kept.stands kept.counted kept.limits kept.lawful.allowed some
 
     -- and this is the count behind it
-    pub fault_counted : (count : ℕ) → length (past_of t.entries.items) + 1 < 2 ^ 64 → count ≡ sum_by (over_in server link) t.rows
-        → AreCounted (setting_of t) (Fault server link moment ∷ past_of t.entries.items) t.list (if count == 0 then t.servers else recounted server one_more t.servers) t.greatest_key t.greatest_link t.started
+    pub fault_counted : (count : ℕ) → length (past_of (told t.journal)) + 1 < 2 ^ 64 → count ≡ sum_by (over_in server link) t.rows
+        → AreCounted (setting_of t) (Fault server link moment ∷ past_of (told t.journal)) t.list (if count == 0 then t.servers else recounted server one_more t.servers) t.greatest_key t.greatest_link t.started
     fault_counted count small is =
-        counted_faulted plan (setting_of t) (past_of t.entries.items) server link moment most may few t.rows t.ready.items t.list t.servers t.greatest_key t.greatest_link t.started count kept.stands kept.counted small is
+        counted_faulted plan (setting_of t) (past_of (told t.journal)) server link moment most may few t.rows t.ready.items t.list t.servers t.greatest_key t.greatest_link t.started count kept.stands kept.counted small is

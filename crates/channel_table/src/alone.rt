@@ -4,7 +4,8 @@ ghost use Rattle.std.specs.Prelude.{◌≡◌, [], IfOk};
 ghost use Rattle.channel_table.specs.Calling.{known_by_owner};
 
 use crate::table::Table;
-use chan_types::{Journal, NoMemory, Spec, Ticket, Token};
+use chan_types::{NoMemory, Spec, Ticket, Token};
+use channel_journal::{ChannelJournal, KeptJournal};
 use channel_model::{Begun, Counts, Desk, Landed, Lapse, Refused, SetFault};
 use hosts_file::Hosts;
 use net_addr::ServerAddr;
@@ -14,12 +15,12 @@ use std::marker::Model;
 
 /// A channel with one owner, who has seat 0. Contracts see its setting, and the whole journal, which he made alone.
 #[derive(Drop)]
-pub struct Alone<T: Token> {
-    table: Table<T>,
+pub struct Alone<T: Token, J: ChannelJournal = KeptJournal> {
+    table: Table<T, J>,
     voice: u64,
 }
 
-impl<T: Token> Model for Alone<T> {
+impl<T: Token, J: ChannelJournal> Model for Alone<T, J> {
     ghost use Rattle.std.specs.Coded.{codes};
     ghost use Rattle.chan_types.specs.PlanCode.{moves_code};
     ghost use Rattle.channel_table.specs.Calling.{Owned, owned};
@@ -31,9 +32,9 @@ impl<T: Token> Model for Alone<T> {
     ghost view = { λ alone. owned alone.voice alone.table };
 }
 
-impl<T: Token> Alone<T> {
+impl<T: Token, J: ChannelJournal> Alone<T, J> {
     /// A channel without a request.
-    pub fn make(alloc: Global, options: Options, hosts: Hosts) -> Result<Alone<T>, NoMemory>
+    pub fn make(alloc: Global, options: Options, hosts: Hosts) -> Result<Alone<T, J>, NoMemory>
         ensures { IfOk result (λ alone. alone
             ≡ record { setting = record { options = options; hosts = hosts }; voice = 0; seen = [] }) }
     {
@@ -51,14 +52,14 @@ impl<T: Token> Alone<T> {
     }
 
     /// The journal.
-    pub fn close(self) -> Journal
-        ensures { result ≡ self.seen }
+    pub fn close(self) -> J
+        ensures { J.told result ≡ self.seen }
     {
         self.table.close()
     }
 }
 
-impl<T: Token> Desk for Alone<T> {
+impl<T: Token, J: ChannelJournal> Desk for Alone<T, J> {
     type Token = T;
 
     ghost known = { known_by_owner };

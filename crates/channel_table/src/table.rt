@@ -22,7 +22,8 @@ mod starting;
 mod taking;
 
 use self::rows::Rows;
-use chan_types::{Entry, Journal, KeyList, NoMemory, ServerKey, Ticket, Token};
+use chan_types::{KeyList, NoMemory, ServerKey, Ticket, Token};
+use channel_journal::{ChannelJournal, KeptJournal};
 use hosts_file::Hosts;
 use net_addr::ServerAddr;
 use query_machine::Servers;
@@ -31,10 +32,10 @@ use std::alloc::Global;
 use std::collections::VecDeque;
 use std::marker::Model;
 
-/// What the requests of a channel have come to, and its journal. Contracts see its setting and its journal: what its
-/// calls answer is what the journal means.
+/// What the requests of a channel have come to, and its journal, which is kept or which only proofs see. Contracts see its
+/// setting and its journal: what its calls answer is what the journal means. No call reads the journal.
 #[derive(Drop)]
-pub struct Table<T: Token> {
+pub struct Table<T: Token, J: ChannelJournal = KeptJournal> {
     alloc: Global,
     options: Options,
     hosts: Hosts,
@@ -43,7 +44,7 @@ pub struct Table<T: Token> {
     rows: Rows<T>,
     /// The completed requests that weren't taken, in the order of their completion.
     ready: VecDeque<Ticket<T>>,
-    entries: Vec<Entry>,
+    journal: J,
     /// The servers with their keys, in the order of the list.
     list: KeyList,
     /// The counts of their failures.
@@ -60,7 +61,7 @@ pub struct Table<T: Token> {
     closed: bool,
 }
 
-impl<T: Token> Model for Table<T> {
+impl<T: Token, J: ChannelJournal> Model for Table<T, J> {
     ghost use Rattle.std.specs.Coded.{codes};
     ghost use Rattle.chan_types.specs.PlanCode.{moves_code};
     ghost use Rattle.channel_model.specs.Seen.{Seen};
@@ -71,27 +72,29 @@ impl<T: Token> Model for Table<T> {
 
     ghost use Rattle.channel_table.specs.Kept.{seen_of, IsKept};
 
-    ghost view = { seen_of };
+    ghost view = { seen_of J.told };
 
-    ghost invariant = { IsKept T.plan };
+    ghost invariant = { IsKept T.plan J.told J.room };
 }
 
-impl<T: Token> Table<T> {
+impl<T: Token, J: ChannelJournal> Table<T, J> {
     /// A table without a request. It has the room for its Destroy.
-    pub fn make(alloc: Global, options: Options, hosts: Hosts) -> Result<Table<T>, NoMemory>
+    pub fn make(alloc: Global, options: Options, hosts: Hosts) -> Result<Table<T, J>, NoMemory>
         ensures { IfOk result (λ table. table
             ≡ record { setting = record { options = options; hosts = hosts }; journal = [] }) }
     {
         let count = options.servers().len() as u32;
         let list = opening_list(alloc, options.servers().as_slice())?;
         let servers = Servers::make(alloc, count)?;
+        let mut journal = J::begin(alloc)?;
+        journal.reserve(1)?;
         Ok(Table {
             alloc,
             options,
             hosts,
-            entries: Vec::with_capacity(alloc, 1)?,
             rows: Rows::make(alloc)?,
             ready: VecDeque::new(alloc),
+            journal,
             list,
             servers,
             greatest_key: count - 1,
@@ -103,11 +106,11 @@ impl<T: Token> Table<T> {
     }
 
     /// The journal.
-    pub fn close(self) -> Journal
-        ensures { result ≡ self.journal }
+    pub fn close(self) -> J
+        ensures { J.told result ≡ self.journal }
     {
-        let Table { entries, .. } = self;
-        Journal::from_vec(entries)
+        let Table { journal, .. } = self;
+        journal
     }
 }
 

@@ -1,6 +1,7 @@
 //! A channel with one owner, whose requests are answered in the order in which they were asked.
 
 use chan_types::{Quiet, Spec, Status};
+use channel_journal::ChannelJournal;
 use channel_model::{Begun, Desk};
 use channel_table::Alone;
 use dns_message::numbers::{CLASS_IN, KIND_A};
@@ -45,7 +46,7 @@ impl Attempts {
     }
 
     /// Begins an attempt of the first request that waits.
-    fn begin(&mut self, desk: &mut Alone<Quiet>) -> Result<(), Failed> {
+    fn begin<J: ChannelJournal>(&mut self, desk: &mut Alone<Quiet, J>) -> Result<(), Failed> {
         self.word = self.word.wrapping_mul(25_173).wrapping_add(13_849);
         if let Begun::Started { id, .. } = desk.start(self.word, 0, 0)? {
             self.ids.push_back(id).map_err(|_| Failed)?;
@@ -54,7 +55,7 @@ impl Attempts {
     }
 
     /// The reply to the oldest attempt comes. Answers whether a request was answered by it.
-    fn reply(&mut self, desk: &mut Alone<Quiet>) -> Result<bool, Failed> {
+    fn reply<J: ChannelJournal>(&mut self, desk: &mut Alone<Quiet, J>) -> Result<bool, Failed> {
         let Some(id) = self.ids.pop_front() else {
             return Ok(false);
         };
@@ -73,7 +74,7 @@ fn reply_to(id: u16) -> [u8; 45] {
 }
 
 /// Takes a request, if one is ready, and answers whether it was answered.
-fn succeeds(desk: &mut Alone<Quiet>) -> bool {
+fn succeeds<J: ChannelJournal>(desk: &mut Alone<Quiet, J>) -> bool {
     match desk.take() {
         Some(ticket) => ticket.answer().status == Status::Success,
         None => false,
@@ -81,7 +82,7 @@ fn succeeds(desk: &mut Alone<Quiet>) -> bool {
 }
 
 /// A channel that was asked nothing.
-fn channel(alloc: Global) -> Result<Alone<Quiet>, Failed> {
+fn channel<J: ChannelJournal>(alloc: Global) -> Result<Alone<Quiet, J>, Failed> {
     let options = read_resolv(alloc, RESOLV).map_err(|_| Failed)?;
     Ok(Alone::make(alloc, options, Hosts::empty(alloc))?)
 }
@@ -96,7 +97,7 @@ fn query(alloc: Global) -> Result<Spec, NoMemory> {
 }
 
 /// Asks for the addresses of example.com.
-fn ask(desk: &mut Alone<Quiet>, alloc: Global) -> Result<(), Failed> {
+fn ask<J: ChannelJournal>(desk: &mut Alone<Quiet, J>, alloc: Global) -> Result<(), Failed> {
     let spec = query(alloc)?;
     match desk.accept(spec, Quiet::new(alloc)) {
         Ok(_) => Ok(()),
@@ -105,7 +106,11 @@ fn ask(desk: &mut Alone<Quiet>, alloc: Global) -> Result<(), Failed> {
 }
 
 /// Asks for them so many times.
-fn ask_all(desk: &mut Alone<Quiet>, alloc: Global, window: u64) -> Result<(), Failed> {
+fn ask_all<J: ChannelJournal>(
+    desk: &mut Alone<Quiet, J>,
+    alloc: Global,
+    window: u64,
+) -> Result<(), Failed> {
     for _ in 0..window {
         ask(desk, alloc)?;
     }
@@ -113,8 +118,8 @@ fn ask_all(desk: &mut Alone<Quiet>, alloc: Global, window: u64) -> Result<(), Fa
 }
 
 /// Asks for them so many times, and begins an attempt each time.
-fn begin_all(
-    desk: &mut Alone<Quiet>,
+fn begin_all<J: ChannelJournal>(
+    desk: &mut Alone<Quiet, J>,
     attempts: &mut Attempts,
     alloc: Global,
     window: u64,
@@ -127,8 +132,8 @@ fn begin_all(
 }
 
 /// So many replies come, each with a new request behind it. Answers how many requests were answered.
-fn reply_all(
-    desk: &mut Alone<Quiet>,
+fn reply_all<J: ChannelJournal>(
+    desk: &mut Alone<Quiet, J>,
     attempts: &mut Attempts,
     alloc: Global,
     replies: u64,
@@ -143,26 +148,34 @@ fn reply_all(
 }
 
 /// So many requests are asked for, and nothing comes. Answers how many were answered, and how many wait.
-pub fn pending(alloc: Global, window: u64) -> Result<(u64, u64), Failed> {
-    pending_at(&mut channel(alloc)?, alloc, window)
+pub fn pending<J: ChannelJournal>(alloc: Global, window: u64) -> Result<(u64, u64), Failed> {
+    pending_at(&mut channel::<J>(alloc)?, alloc, window)
 }
 
 /// The same of this channel.
-fn pending_at(desk: &mut Alone<Quiet>, alloc: Global, window: u64) -> Result<(u64, u64), Failed> {
+fn pending_at<J: ChannelJournal>(
+    desk: &mut Alone<Quiet, J>,
+    alloc: Global,
+    window: u64,
+) -> Result<(u64, u64), Failed> {
     ask_all(desk, alloc, window)?;
     Ok((0, desk.counts().waiting))
 }
 
 /// So many requests are in flight, and so many replies come, each to the oldest attempt, with a new request behind it.
 /// Answers how many requests were answered, and how many wait.
-pub fn answered(alloc: Global, window: u64, replies: u64) -> Result<(u64, u64), Failed> {
-    let desk = &mut channel(alloc)?;
+pub fn answered<J: ChannelJournal>(
+    alloc: Global,
+    window: u64,
+    replies: u64,
+) -> Result<(u64, u64), Failed> {
+    let desk = &mut channel::<J>(alloc)?;
     answered_at(desk, &mut Attempts::new(alloc), alloc, window, replies)
 }
 
 /// The same of this channel.
-fn answered_at(
-    desk: &mut Alone<Quiet>,
+fn answered_at<J: ChannelJournal>(
+    desk: &mut Alone<Quiet, J>,
     attempts: &mut Attempts,
     alloc: Global,
     window: u64,

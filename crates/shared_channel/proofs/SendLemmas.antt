@@ -46,6 +46,8 @@ use Rattle.chan_types.proofs.script.Script.TheLaws.TheKnot as script
 use Rattle.chan_types.proofs.runs.Runs.TheLaws.TheKnot as runs
 use Rattle.chan_types.specs.contracts.calls.Calls as Calls
 use Rattle.chan_types.specs.declared.token.Token.{Ghosts}
+use Rattle.channel_journal.specs.contracts.kept.KeptJournal as KeptJournal
+use Rattle.channel_journal.specs.declared.journal.ChannelJournal.{Ghosts as JournalGhosts}
 use Rattle.completion_ticket.specs.contracts.hand.Hand as Hand
 use Rattle.completion_ticket.specs.contracts.callback.Callback as Callback
 use Rattle.completion_ticket.specs.contracts.scripted.Scripted as Scripted
@@ -94,6 +96,13 @@ callback_send = search (crosses, script.crosses, sendable) depth 60 fits 20000
 abbrev pub Told : RattleType
 Told = Callback.the_row Scripted.the_row Impl.ghosts
 
+-- the journal of a shared channel
+abbrev pub Journal : RattleType
+Journal = KeptJournal.the_row
+
+pub journal_send : IsSend Journal
+journal_send = search (entry_send, owners, crosses, script.crosses, sendable) depth 60 fits 20000
+
 -- and so may what a table keeps of its requests, and the table
 pub ticket_send : IsSend (Ticket.the_row Told)
 ticket_send = search (callback_send, call_send, plain, owners, crosses, script.crosses, sendable) depth 60 fits 20000
@@ -111,8 +120,8 @@ list_send g = deque.the_send _ _ _ (held_send g) global.the_send allocator.the_f
 pub rows_send : (g : Ghosts Told.Denot) → IsSend (Rows.the_row Told g)
 rows_send g = search (list_send, waiting.the_send, flown.the_field_send, owners, crosses, script.crosses, sendable) depth 60 fits 20000
 
-pub table_send : (g : Ghosts Told.Denot) → IsSend (Table.the_row Told g)
-table_send g = search (rows_send, ticket_send, entry_send, plain, owners, crosses, script.crosses, sendable) depth 60 fits 20000
+pub table_send : (g : Ghosts Told.Denot) (k : JournalGhosts Journal.Denot) → IsSend (Table.the_row Told Journal g k)
+table_send g k = search (rows_send, ticket_send, journal_send, plain, owners, crosses, script.crosses, sendable) depth 60 fits 20000
 
 pub state_send : IsSend (SharedTable.the_row Scripted.the_row Impl.ghosts)
 state_send = search (table_send, crosses, sendable) depth 60 fits 20000

@@ -48,7 +48,7 @@ pub fn finish<B: Done + Drop, R: Wait>(
     let Pass { account, .. } = place.leave();
     let Account { seat, calls, lost } = account;
     let SharedTable { table } = lock.close(seat);
-    let journal = Box::into_inner(table).close();
+    let journal = Box::into_inner(table).close().into_journal();
     let accepted = accepted_count(journal.entries());
     Finished {
         accepted,

@@ -45,7 +45,7 @@ fn failures_in(calls: &[WorldCall]) -> u64 {
 /// How many faults the journal of a channel has.
 fn faults_of(desk: Alone<Quiet>) -> u64 {
     let journal = desk.close();
-    faults_in(journal.entries())
+    faults_in(journal.entries.as_slice())
 }
 
 /// How many faults the journal has, and how many calls failed, in a run whose call of this number fails: its first

@@ -66,7 +66,7 @@ fn begun_and_answered(alloc: Global, desk: &mut Alone<Quiet>) -> Result<(u64, bo
 
 /// How many entries the journal of a channel has.
 fn entries_of(desk: Alone<Quiet>) -> usize {
-    desk.close().entries().len()
+    desk.close().entries.len()
 }
 
 /// How many attempts begin, whether the channel then answers so, and how many entries its journal has.

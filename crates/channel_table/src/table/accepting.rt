@@ -1,7 +1,7 @@
 //! Accepting a request: what it comes to, and the room that its later entries need.
 
 ghost use Rattle.std.specs.List.{AllByRecursion};
-ghost use Rattle.std.specs.Prelude.{◌≡◌, ◌≢◌, ◌+◌, ◌*◌, ◌<◌, ◌≤◌, [], ◌∷◌, IfErr, IfOk, OnErr, OnOk, Ok, length, map, option_map, vec_len, vec_capacity};
+ghost use Rattle.std.specs.Prelude.{◌≡◌, ◌≢◌, ◌+◌, ◌*◌, ◌<◌, ◌≤◌, [], ◌∷◌, IfErr, IfOk, OnErr, OnOk, Ok, ◌^◌, length, map, option_map};
 ghost use Rattle.std.specs.VecDeque.{deque_capacity, deque_len};
 ghost use Rattle.channel_model.specs.Meanings.{Accepts};
 ghost use Rattle.channel_table.specs.Opening.{AreAsked, Opens, OpensHost, OpensName, OpensText, itself, searched, with_second};
@@ -12,6 +12,7 @@ ghost use Rattle.addr_lookup.specs.Channels.{set_to};
 ghost use Rattle.channel_model.specs.Seen.{Happens};
 
 use super::Table;
+use super::moving::make_room;
 use super::rows::Rows;
 use crate::aim::Aim;
 use crate::held_side::HeldSide;
@@ -21,6 +22,7 @@ use addr_lookup::at_once;
 use chan_types::{
     Answer, Bytes, Call, Entry, NoMemory, Refusal, Script, Spec, Status, Ticket, Token, What,
 };
+use channel_journal::ChannelJournal;
 use channel_model::Refused;
 use dns_message::numbers::{CLASS_IN, KIND_A, KIND_AAAA, KIND_PTR};
 use dns_message::{Name, NameFault, NameList, NameText, Question};
@@ -51,7 +53,7 @@ struct Prepared {
     call: Call,
 }
 
-impl<T: Token> Table<T> {
+impl<T: Token, J: ChannelJournal> Table<T, J> {
     /// Accepts a request, and answers its number. A text that can't be asked is accepted too, and completes at once.
     pub fn accept(&mut self, seat: u64, by: u64, spec: Spec, token: T) -> Result<u64, Refused<T>>
         ensures { Happens (Accepts T.plan spec token result) seat by self.old self.new }
@@ -69,7 +71,7 @@ impl<T: Token> Table<T> {
         match prepare(
             self.alloc,
             opening,
-            &mut self.entries,
+            &mut self.journal,
             self.rows.len(),
             &mut self.ready,
             &token,
@@ -92,7 +94,7 @@ impl<T: Token> Table<T> {
                     call,
                 ) {
                     Ok(()) => {
-                        self.entries.push_reserved(Entry {
+                        self.journal.add(Entry {
                             seat,
                             by,
                             what: What::Accept {
@@ -122,30 +124,31 @@ impl<T: Token> Table<T> {
 
 /// What an accept of a request that comes to this needs beside so many rows, if memory was found for it: room for its
 /// entry, for those that its request may need, and for its ticket.
-fn prepare<T: Token>(
+fn prepare<T: Token, J: ChannelJournal>(
     alloc: Global,
     opening: Result<Opening, NoMemory>,
-    entries: &mut Vec<Entry>,
+    journal: &mut J,
     rows: usize,
     ready: &mut VecDeque<Ticket<T>>,
     token: &T,
 ) -> Result<Prepared, NoMemory>
-    requires room { 2 * rows + deque_len ready.old ≤ vec_capacity entries.old }
+    requires room { 2 * rows + deque_len ready.old ≤ 2 ^ 63 }
     ensures opening { IfOk result (λ prepared. opening ≡ Ok prepared.opening) }
     ensures script { IfOk result (λ prepared. prepared.script ≡ T.plan token.now) }
-    ensures room { OnOk result
-        (vec_len entries.new + 2 * rows + deque_len ready.new + 4 ≤ vec_capacity entries.new) }
+    ensures room { OnOk result (2 * rows + deque_len ready.new + 4 ≤ J.room journal.new) }
+    ensures fits { OnOk result
+        (length (J.told journal.old) + (2 * rows + deque_len ready.new + 4) ≤ 2 ^ 63) }
     ensures room_ready { OnOk result (rows + deque_len ready.new + 1 ≤ deque_capacity ready.new) }
-    ensures same { (entries.new.items ≡ entries.old.items) × (ready.new.items ≡ ready.old.items) }
-    ensures lens { (vec_len entries.new ≡ vec_len entries.old) × (deque_len ready.new ≡ deque_len ready.old) }
-    ensures capacities { (vec_capacity entries.old ≤ vec_capacity entries.new)
+    ensures same { (J.told journal.new ≡ J.told journal.old) × (ready.new.items ≡ ready.old.items) }
+    ensures len { deque_len ready.new ≡ deque_len ready.old }
+    ensures capacities { (J.room journal.old ≤ J.room journal.new)
         × (deque_capacity ready.old ≤ deque_capacity ready.new) }
 {
     let opening = opening?;
     let script = token.script().copy(alloc)?;
     let call = Call::make(alloc)?;
     ready.reserve(rows + 1)?;
-    entries.reserve(2 * rows + ready.len() + 4)?;
+    make_room(journal, rows + 1, ready.len())?;
     Ok(Prepared {
         opening,
         script,

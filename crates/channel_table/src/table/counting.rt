@@ -15,11 +15,12 @@ use crate::held::{Held, row_at};
 use crate::row::Row;
 use crate::side::Side;
 use chan_types::{ServerKey, Token};
+use channel_journal::ChannelJournal;
 use channel_model::Counts;
 use query_machine::Phase;
 use std::collections::VecDeque;
 
-impl<T: Token> Table<T> {
+impl<T: Token, J: ChannelJournal> Table<T, J> {
     /// How much is pending, ready, waiting and in flight.
     pub fn counts(&self) -> Counts
         ensures { Happens (TellsCounts result) 0 0 self.now self.now }

@@ -12,6 +12,7 @@ use crate::held::{Held, row_at, take_at};
 use crate::row::{Row, ticket_of};
 use crate::side::Hits;
 use chan_types::{Answer, Bytes, Entry, Status, Ticket, Token, What};
+use channel_journal::ChannelJournal;
 use channel_model::Judged;
 use query_machine::Leg;
 use resolv_options::Options;
@@ -19,7 +20,7 @@ use std::alloc::Global;
 use std::collections::VecDeque;
 use std::mem;
 
-impl<T: Token> Table<T> {
+impl<T: Token, J: ChannelJournal> Table<T, J> {
     /// Completes every pending request as cancelled, and answers how many there were. It takes no memory.
     pub fn cancel(&mut self, seat: u64, by: u64) -> u64
         ensures { Happens (Cancels result) seat by self.old self.new }
@@ -28,7 +29,7 @@ impl<T: Token> Table<T> {
         if count == 0 {
             return 0;
         }
-        self.entries.push_reserved(Entry {
+        self.journal.add(Entry {
             seat,
             by,
             what: What::Cancel,
@@ -47,7 +48,7 @@ impl<T: Token> Table<T> {
             return false;
         }
         self.closed = true;
-        self.entries.push_reserved(Entry {
+        self.journal.add(Entry {
             seat,
             by,
             what: What::Destroy,

@@ -12,6 +12,7 @@ use super::moving::make_room;
 use crate::held::Held;
 use crate::row::Row;
 use chan_types::{Entry, KeyList, NoMemory, ServerKey, Token, What};
+use channel_journal::ChannelJournal;
 use channel_model::SetFault;
 use net_addr::{Addr, ServerAddr};
 use query_machine::{Leg, Phase};
@@ -21,7 +22,7 @@ use std::collections::VecDeque;
 /// The greatest key behind which a list of 8 servers has its keys: keys have 32 bits.
 const KEY_MOST: u32 = 0xffff_fff7;
 
-impl<T: Token> Table<T> {
+impl<T: Token, J: ChannelJournal> Table<T, J> {
     /// Makes these servers the channel's list, and answers how many attempts that closed: those on servers that left
     /// it. A server that stays keeps its key and the count of its failures.
     pub fn set_servers(&mut self, seat: u64, servers: &[ServerAddr]) -> Result<u64, SetFault>
@@ -38,9 +39,9 @@ impl<T: Token> Table<T> {
         let list = rekey(self.alloc, servers, self.list.as_slice(), self.greatest_key)?;
         let kept = KeyList::of(self.alloc, list.as_slice())?;
         let count = self.rows.count_left(list.as_slice());
-        make_room(&mut self.entries, self.rows.len(), self.ready.len())?;
+        make_room(&mut self.journal, self.rows.len(), self.ready.len())?;
         self.servers.renew(&list)?;
-        self.entries.push_reserved(Entry {
+        self.journal.add(Entry {
             seat,
             by: 0,
             what: What::Servers { list: kept },

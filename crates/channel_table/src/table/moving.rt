@@ -1,8 +1,7 @@
 //! What arrives, expires or fails: the calls that end attempts.
 
 ghost use Rattle.std.specs.List.{list_any};
-ghost use Rattle.std.specs.Prelude.{◌≡◌, ◌≤◌, ◌+◌, ◌*◌, ◌==◌, IfOk, IsTrue, None, OnOk, length, vec_len, vec_capacity};
-ghost use Rattle.chan_types.specs.declared.journal.What.TheVariants.{Arrive};
+ghost use Rattle.std.specs.Prelude.{◌≡◌, ◌≤◌, ◌+◌, ◌*◌, ◌==◌, ◌<◌, ◌^◌, IfOk, IsTrue, None, OnOk, length};
 ghost use Rattle.channel_model.specs.Meanings.{Arrives, Expires, Fails};
 ghost use Rattle.channel_model.specs.Seen.{Happens};
 ghost use Rattle.query_machine.specs.Servers.{recounted};
@@ -13,12 +12,13 @@ use super::Table;
 use super::failing::count_fault;
 use crate::side::Hits;
 use chan_types::{Answer, Bytes, Entry, KeyList, NoMemory, Status, Token, What};
+use channel_journal::ChannelJournal;
 use channel_model::{Judged, Landed, Lapse};
 use query_machine::{Leg, Phase, Servers, attempts};
 use resolv_options::Options;
 use std::alloc::Global;
 
-impl<T: Token> Table<T> {
+impl<T: Token, J: ChannelJournal> Table<T, J> {
     /// Takes in a message that came from this server over this link.
     pub fn arrive(
         &mut self,
@@ -32,13 +32,12 @@ impl<T: Token> Table<T> {
         let found = self
             .rows
             .find_landing(self.alloc, self.options.flags(), server, link, bytes)?;
-        let kept = Bytes::of(self.alloc, bytes)?;
-        make_room(&mut self.entries, self.rows.len(), self.ready.len())?;
+        let copy = J::copy(self.alloc, bytes)?;
+        make_room(&mut self.journal, self.rows.len(), self.ready.len())?;
         match found {
             None => {
                 self.rows.index_flights();
-                self.entries
-                    .push_reserved(arrival(seat, server, link, kept));
+                self.journal.arrive(seat, server, link, bytes, copy);
                 Ok(Landed::Stray)
             }
             Some(landing) => {
@@ -63,8 +62,7 @@ impl<T: Token> Table<T> {
                     most,
                     answer,
                 )?;
-                self.entries
-                    .push_reserved(arrival(seat, server, link, kept));
+                self.journal.arrive(seat, server, link, bytes, copy);
                 count_end(&mut self.servers, server, landing.judged);
                 Ok(Landed::Matched {
                     number: landing.number,
@@ -85,7 +83,7 @@ impl<T: Token> Table<T> {
             Some(first) if first.at <= at => {
                 let most = most_attempts(&self.options, &self.list);
                 let server = server_of(&self.rows.row(first.index).side(first.is_second).leg);
-                make_room(&mut self.entries, self.rows.len(), self.ready.len())?;
+                make_room(&mut self.journal, self.rows.len(), self.ready.len())?;
                 let answer = self.rows.row(first.index).answer_behind(
                     self.alloc,
                     &self.options,
@@ -105,7 +103,7 @@ impl<T: Token> Table<T> {
                     most,
                     answer,
                 )?;
-                self.entries.push_reserved(Entry {
+                self.journal.add(Entry {
                     seat,
                     by: 0,
                     what: What::Expire {
@@ -130,7 +128,7 @@ impl<T: Token> Table<T> {
         ensures { Happens (Fails server link at result) seat 0 self.old self.new }
     {
         let most = most_attempts(&self.options, &self.list);
-        make_room(&mut self.entries, self.rows.len(), self.ready.len())?;
+        make_room(&mut self.journal, self.rows.len(), self.ready.len())?;
         let count = self.rows.fail_all(
             self.alloc,
             &self.options,
@@ -139,7 +137,7 @@ impl<T: Token> Table<T> {
             link,
             most,
         )?;
-        self.entries.push_reserved(Entry {
+        self.journal.add(Entry {
             seat,
             by: 0,
             what: What::Fault {
@@ -162,21 +160,6 @@ fn kept_reply(alloc: Global, answer: &Option<Answer>, bytes: &[u8]) -> Result<By
         None => Bytes::of(alloc, bytes)?,
         Some(_) => Bytes::new(alloc),
     })
-}
-
-/// The entry of a message that came.
-fn arrival(seat: u64, server: u32, link: u64, bytes: Bytes) -> Entry
-    ensures { result ≡ record { seat = seat; by = 0; what = Arrive server link bytes } }
-{
-    Entry {
-        seat,
-        by: 0,
-        what: What::Arrive {
-            server,
-            link,
-            bytes,
-        },
-    }
 }
 
 /// The server of a leg's attempt, or 0 where it has none.
@@ -216,13 +199,16 @@ fn most_attempts(options: &Options, list: &KeyList) -> u32
 }
 
 /// Room for one entry more, beside those that these rows and tickets may need.
-pub fn make_room(entries: &mut Vec<Entry>, rows: usize, ready: usize) -> Result<(), NoMemory>
-    requires { 2 * rows + ready ≤ vec_capacity entries.old }
-    ensures room { OnOk result (vec_len entries.new + 2 * rows + ready + 2 ≤ vec_capacity entries.new) }
-    ensures items { entries.new.items ≡ entries.old.items }
-    ensures len { vec_len entries.new ≡ vec_len entries.old }
-    ensures capacity { vec_capacity entries.old ≤ vec_capacity entries.new }
+pub fn make_room<J: ChannelJournal>(
+    journal: &mut J,
+    rows: usize,
+    ready: usize,
+) -> Result<(), NoMemory>
+    requires { 2 * rows + ready + 2 < 2 ^ 64 }
+    ensures room { OnOk result (2 * rows + ready + 2 ≤ J.room journal.new) }
+    ensures fits { OnOk result (length (J.told journal.old) + (2 * rows + ready + 2) ≤ 2 ^ 63) }
+    ensures told { J.told journal.new ≡ J.told journal.old }
+    ensures kept { J.room journal.old ≤ J.room journal.new }
 {
-    entries.reserve(2 * rows + ready + 2)?;
-    Ok(())
+    journal.reserve(2 * rows + ready + 2)
 }

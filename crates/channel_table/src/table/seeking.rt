@@ -11,11 +11,12 @@ use crate::held::{Held, row_at};
 use crate::row::Row;
 use crate::side::Side;
 use chan_types::Token;
+use channel_journal::ChannelJournal;
 use query_machine::Phase;
 use std::collections::VecDeque;
 use timeout_queue::Key;
 
-impl<T: Token> Table<T> {
+impl<T: Token, J: ChannelJournal> Table<T, J> {
     /// Whether an attempt is in flight on this server over this link.
     pub fn link_busy(&self, server: u32, link: u64) -> bool
         ensures { Happens (TellsBusy server link result) 0 0 self.now self.now }

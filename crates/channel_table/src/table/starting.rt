@@ -20,6 +20,7 @@ use crate::held::{Held, row_at};
 use crate::row::Row;
 use crate::side::Side;
 use chan_types::{Bytes, Entry, KeyList, NoMemory, ServerKey, Token, What};
+use channel_journal::ChannelJournal;
 use channel_model::Begun;
 use dns_message::Question;
 use net_addr::ServerAddr;
@@ -39,7 +40,7 @@ pub struct Idle {
     pub begun: bool,
 }
 
-impl<T: Token> Table<T> {
+impl<T: Token, J: ChannelJournal> Table<T, J> {
     /// Begins an attempt of the first waiting leg at this moment, with an identifier from this word upwards, and its
     /// letters in the case of the bits of `mix`, where the channel is set so and the query goes over UDP.
     pub fn start(&mut self, seat: u64, word: u16, mix: u16, at: u64) -> Result<Begun, NoMemory>
@@ -66,9 +67,9 @@ impl<T: Token> Table<T> {
             bits,
             idle.leg.has_opt,
         )?;
-        make_room(&mut self.entries, self.rows.len(), self.ready.len())?;
+        make_room(&mut self.journal, self.rows.len(), self.ready.len())?;
         self.rows.begin(idle.index, idle.is_second, server, link, id, bits, at, wait)?;
-        self.entries.push_reserved(Entry {
+        self.journal.add(Entry {
             seat,
             by: 0,
             what: What::Start {

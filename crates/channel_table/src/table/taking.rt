@@ -7,9 +7,10 @@ ghost use Rattle.channel_model.specs.Seen.{Happens};
 
 use super::Table;
 use chan_types::{Entry, Ticket, Token, What};
+use channel_journal::ChannelJournal;
 use std::collections::VecDeque;
 
-impl<T: Token> Table<T> {
+impl<T: Token, J: ChannelJournal> Table<T, J> {
     /// Moves out the first ready request. It takes no memory.
     pub fn take(&mut self, seat: u64) -> Option<Ticket<T>>
         ensures { Happens (Takes T.plan result) seat 0 self.old self.new }
@@ -18,7 +19,7 @@ impl<T: Token> Table<T> {
             return None;
         }
         let ticket = pop_first(&mut self.ready);
-        self.entries.push_reserved(Entry {
+        self.journal.add(Entry {
             seat,
             by: 0,
             what: What::Take {

@@ -11,7 +11,7 @@ close-requires g c = record {
 -- the channel was made
 pub returns-clause-promise : goal.returns-clause-promise
 returns-clause-promise g c =
-    rw c.close-2.ensures
+    rw (c.into_journal.ensures ∙ c.close-2.ensures)
     (promise_of _ _ _ _ _ _ _ _ _ _ _ (ap (λ alone. alone.setting) c.in-Ok.ensures.1) c.session-loop_end.ensures.session c.close.ensures
     (subst (λ options. 1 ≤ length options.servers) (c.told.view_is ∙ c.in-Ok.ensures.0) c.told.invariant.some_server)
     (subst (λ options. 1 ≤ options.tries) (c.told.view_is ∙ c.in-Ok.ensures.0) c.told.invariant.some_try) _ _ _ _ _ _

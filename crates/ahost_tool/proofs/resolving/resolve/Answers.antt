@@ -9,11 +9,11 @@ close-requires g c = record { idle = c.session-loop_end.ensures.session.kept.0 }
 -- the channel was made
 pub returns-clause-promise : goal.returns-clause-promise
 returns-clause-promise g c =
-    rw c.close-journal.ensures
+    rw (c.into_journal-journal.ensures ∙ c.close-2.ensures)
     (promise_of _ _ _ _ _ _ _ _ _ (ap (λ caller. caller.alone.setting) c.in-Ok.ensures.1) (ap (λ caller. caller.hand.orders) c.in-Ok.ensures.1) c.session-loop_end.ensures.session c.close.ensures
     (subst (λ options. 1 ≤ length options.servers) (c.known.view_is ∙ c.in-Ok.ensures.0) c.known.invariant.some_server)
     (subst (λ options. 1 ≤ options.tries) (c.known.view_is ∙ c.in-Ok.ensures.0) c.known.invariant.some_try) _ _ _ _ _ _
-    c.ending_of-end.ensures c.session-loop_end.ensures.wait_fault (rw (c.entries.ensures, c.close-journal.ensures) at c.tell-status.ensures))
+    c.ending_of-end.ensures c.session-loop_end.ensures.wait_fault (rw (c.entries.ensures, c.into_journal-journal.ensures ∙ c.close-2.ensures) at c.tell-status.ensures))
 
 -- memory was wanting for it
 pub returns-in_default-clause-promise : goal.returns-in_default-clause-promise

@@ -4,7 +4,7 @@ use Rattle.chan_types.specs.declared.journal.Entry.{Entry}
 use Rattle.chan_types.specs.declared.journal.What.TheVariants.{Accept}
 use Rattle.channel_model.specs.Journal.{Past, accepted, past_of}
 use Rattle.channel_table.proofs.Counting.{counted_kept}
-use Rattle.channel_table.proofs.Keeping.{happens_one, kept_more, one_more_accepted}
+use Rattle.channel_table.proofs.Keeping.{few_closed, happens_one, kept_more, one_more_accepted}
 use Rattle.channel_table.proofs.Newest.{all_older}
 use Rattle.channel_table.proofs.Opening.{placed}
 use Rattle.channel_table.specs.Kept.{setting_of}
@@ -16,33 +16,33 @@ use Rattle.channel_table.proofs.table.Table.accept.Goals as goal
 
 pub place-requires-clause-newer : goal.place-requires-clause-newer
 place-requires-clause-newer g c =
-    all_older g.T.Token.plan (setting_of c.self.inside) (past_of c.self.inside.entries.items) c.self.invariant.lawful.allowed (c.self.inside.accepted + 1) (omega (arith, c.self.invariant.accepts)) c.self.inside.rows c.self.inside.ready.items c.self.invariant.stands
+    all_older g.T.Token.plan (setting_of c.self.inside) (past_of (g.J.ChannelJournal.told c.self.inside.journal)) c.self.invariant.lawful.allowed (c.self.inside.accepted + 1) (omega (arith, c.self.invariant.accepts)) c.self.inside.rows c.self.inside.ready.items c.self.invariant.stands
 
 pub invariant_of-self : goal.invariant_of-self
 invariant_of-self g c =
-    let past : Past = past_of c.self.inside.entries.items in
+    let past : Past = past_of (g.J.ChannelJournal.told c.self.inside.journal) in
     let next : c.self.inside.accepted + 1 ≡ length (accepted past) + 1 = omega (arith, c.self.invariant.accepts) in
     let p = c.in-Ok.ensures in
     let opens : Opens (setting_of c.self.inside) (c.self.inside.accepted + 1) c.args.spec c.in-Ok.prepared.opening =
     subst (λ (r : Result Opening NoMemory). IfOk r (Opens (setting_of c.self.inside) (c.self.inside.accepted + 1) c.args.spec)) p.opening c.opening_of-opening.ensures in
     let entry : Entry = record { seat = c.args.seat; by = c.args.by; what = Accept (c.self.inside.accepted + 1) c.args.spec (g.T.Token.plan c.args.token) } in
-    kept_more g.T.Token.plan c.self.inside _ entry refl (rw (c.push_reserved.ensures.items, p.same.0, p.script) refl) c.self.invariant (c.self.invariant.destroyed ∙ c.if-self.false, next)
+    kept_more g.T.Token.plan g.J.ChannelJournal.told g.J.ChannelJournal.room c.self.inside _ entry refl (rw (c.add.ensures.told, p.same.0, p.script) refl) c.self.invariant (c.self.invariant.destroyed ∙ c.if-self.false, next)
     (placed g.T.Token.plan (setting_of c.self.inside) past c.args.spec c.args.token (c.self.inside.accepted + 1) c.self.invariant.limits c.self.invariant.lawful.allowed next c.self.inside.rows c.self.inside.ready.items c.in-Ok.prepared.opening
     c.place.new.rows c.place.new.ready.items opens (rw (c.of-aim.ensures, p.same.1) at c.in-Ok-place.ensures.places) c.self.invariant.stands)
     (counted_kept (setting_of c.self.inside) (Accept (c.self.inside.accepted + 1) c.args.spec (g.T.Token.plan c.args.token)) past c.self.inside.list c.self.inside.servers c.self.inside.greatest_key c.self.inside.greatest_link c.self.inside.started c.self.invariant.counted refl refl (λ a flies. refl))
     (one_more_accepted (c.self.inside.accepted + 1) c.args.spec (g.T.Token.plan c.args.token) past ∙ sym next)
     c.self.invariant.destroyed
-    (omega (arith, c.self.invariant.few, c.push_reserved.ensures.len, p.lens.0)) (omega (arith, c.self.invariant.few_links, c.push_reserved.ensures.len, p.lens.0)) (omega (arith, c.self.invariant.few_starts, c.push_reserved.ensures.len, p.lens.0))
-    (rw c.if-self.false (omega (arith, p.room, c.push_reserved.ensures.len, c.push_reserved.ensures.capacity, c.in-Ok-place.ensures.most, c.in-Ok-place.ensures.len, c.len.ensures)))
+    (omega arith) (omega arith) (omega arith)
+    _ _ p.room p.fits c.add.ensures.room (omega (arith, c.in-Ok-place.ensures.most, c.in-Ok-place.ensures.len, c.len.ensures, few_closed c.self.inside.closed))
     (omega (arith, p.room_ready, c.in-Ok-place.ensures.len, c.place.ensures.capacity, c.len.ensures))
 
 pub returns-in-Ok-place : goal.returns-in-Ok-place
 returns-in-Ok-place g c =
-    let past : Past = past_of c.self.inside.entries.items in
+    let past : Past = past_of (g.J.ChannelJournal.told c.self.inside.journal) in
     let next : c.self.inside.accepted + 1 ≡ length (accepted past) + 1 = omega (arith, c.self.invariant.accepts) in
     let p = c.in-Ok.ensures in
-    let added : c.push_reserved.new.self.items ≡ c.self.inside.entries.items ++ record { seat = c.args.seat; by = c.args.by; what = Accept (c.self.inside.accepted + 1) c.args.spec (g.T.Token.plan c.args.token) } ∷ [] =
-    rw (c.push_reserved.ensures.items, p.same.0, p.script) refl in
-    rw (← c.self.view_is) (happens_one g.T.Token.plan (Accepts g.T.Token.plan c.args.spec c.args.token (Ok (c.self.inside.accepted + 1))) c.self.inside _ c.args.seat c.args.by
+    let added : (g.J.ChannelJournal.told c.add.new.self) ≡ (g.J.ChannelJournal.told c.self.inside.journal) ++ record { seat = c.args.seat; by = c.args.by; what = Accept (c.self.inside.accepted + 1) c.args.spec (g.T.Token.plan c.args.token) } ∷ [] =
+    rw (c.add.ensures.told, p.same.0, p.script) refl in
+    rw (← c.self.view_is) (happens_one g.T.Token.plan g.J.ChannelJournal.told g.J.ChannelJournal.room (Accepts g.T.Token.plan c.args.spec c.args.token (Ok (c.self.inside.accepted + 1))) c.self.inside _ c.args.seat c.args.by
     (Accept (c.self.inside.accepted + 1) c.args.spec (g.T.Token.plan c.args.token)) refl added (invariant_of-self g c)
     (refl, c.self.invariant.destroyed ∙ c.if-self.false, next))

@@ -31,64 +31,64 @@ use Rattle.channel_table.proofs.table.Table.arrive.Goals as goal
 
 pub find_landing-requires : goal.find_landing-requires
 find_landing-requires g c =
-    rows_numbered g.T.Token.plan (setting_of c.self.inside) (past_of c.self.inside.entries.items) c.self.inside.rows c.self.inside.ready.items c.self.invariant.stands
+    rows_numbered g.T.Token.plan (setting_of c.self.inside) (past_of (g.J.ChannelJournal.told c.self.inside.journal)) c.self.inside.rows c.self.inside.ready.items c.self.invariant.stands
 
 pub most_attempts-most-requires-clause-some : goal.most_attempts-most-requires-clause-some
 most_attempts-most-requires-clause-some g c =
-    list_some (setting_of c.self.inside) (past_of c.self.inside.entries.items) c.self.inside.list c.self.inside.servers c.self.inside.greatest_key c.self.inside.greatest_link c.self.inside.started c.self.invariant.counted c.self.invariant.limits c.self.invariant.lawful.allowed
+    list_some (setting_of c.self.inside) (past_of (g.J.ChannelJournal.told c.self.inside.journal)) c.self.inside.list c.self.inside.servers c.self.inside.greatest_key c.self.inside.greatest_link c.self.inside.started c.self.invariant.counted c.self.invariant.limits c.self.invariant.lawful.allowed
 
 pub most_attempts-most-requires-clause-few : goal.most_attempts-most-requires-clause-few
 most_attempts-most-requires-clause-few g c =
-    list_few (setting_of c.self.inside) (past_of c.self.inside.entries.items) c.self.inside.list c.self.inside.servers c.self.inside.greatest_key c.self.inside.greatest_link c.self.inside.started c.self.invariant.counted c.self.invariant.limits c.self.invariant.lawful.allowed
+    list_few (setting_of c.self.inside) (past_of (g.J.ChannelJournal.told c.self.inside.journal)) c.self.inside.list c.self.inside.servers c.self.inside.greatest_key c.self.inside.greatest_link c.self.inside.started c.self.invariant.counted c.self.invariant.limits c.self.invariant.lawful.allowed
 
 pub returns-in_err-make_room : goal.returns-in_err-make_room
 returns-in_err-make_room g c =
-    rw (← c.self.view_is) (happens_same g.T.Token.plan (Arrives c.args.server c.args.link c.args.bytes.now c.from_residual-in_err-make_room.result) c.self.inside c.make_room.new.entries.items c.args.seat 0 c.make_room.ensures.items c.self.invariant
-    (arrives_failed c.args.server c.args.link c.args.bytes.now c.from_residual-in_err-make_room.result (setting_of c.self.inside) (past_of c.self.inside.entries.items) c.from_residual-in_err-make_room.ensures.0))
+    rw (← c.self.view_is) (happens_same g.T.Token.plan g.J.ChannelJournal.told g.J.ChannelJournal.room (Arrives c.args.server c.args.link c.args.bytes.now c.from_residual-in_err-make_room.result) c.self.inside (g.J.ChannelJournal.told c.make_room.new.journal) c.args.seat 0 c.make_room.ensures.told c.self.invariant
+    (arrives_failed c.args.server c.args.link c.args.bytes.now c.from_residual-in_err-make_room.result (setting_of c.self.inside) (past_of (g.J.ChannelJournal.told c.self.inside.journal)) c.from_residual-in_err-make_room.ensures.0))
 
 pub returns-in_err-reply-in-Some : goal.returns-in_err-reply-in-Some
 returns-in_err-reply-in-Some g c =
-    rw (← c.self.view_is) (happens_same g.T.Token.plan (Arrives c.args.server c.args.link c.args.bytes.now c.from_residual-in_err-reply-in-Some.result) c.self.inside c.make_room.new.entries.items c.args.seat 0 c.make_room.ensures.items c.self.invariant
-    (arrives_failed c.args.server c.args.link c.args.bytes.now c.from_residual-in_err-reply-in-Some.result (setting_of c.self.inside) (past_of c.self.inside.entries.items) c.from_residual-in_err-reply-in-Some.ensures.0))
+    rw (← c.self.view_is) (happens_same g.T.Token.plan g.J.ChannelJournal.told g.J.ChannelJournal.room (Arrives c.args.server c.args.link c.args.bytes.now c.from_residual-in_err-reply-in-Some.result) c.self.inside (g.J.ChannelJournal.told c.make_room.new.journal) c.args.seat 0 c.make_room.ensures.told c.self.invariant
+    (arrives_failed c.args.server c.args.link c.args.bytes.now c.from_residual-in_err-reply-in-Some.result (setting_of c.self.inside) (past_of (g.J.ChannelJournal.told c.self.inside.journal)) c.from_residual-in_err-reply-in-Some.ensures.0))
 
 pub returns-in_err-answer-in-Some : goal.returns-in_err-answer-in-Some
 returns-in_err-answer-in-Some g c =
-    rw (← c.self.view_is) (happens_same g.T.Token.plan (Arrives c.args.server c.args.link c.args.bytes.now c.from_residual-in_err-answer-in-Some.result) c.self.inside c.make_room.new.entries.items c.args.seat 0 c.make_room.ensures.items c.self.invariant
-    (arrives_failed c.args.server c.args.link c.args.bytes.now c.from_residual-in_err-answer-in-Some.result (setting_of c.self.inside) (past_of c.self.inside.entries.items) c.from_residual-in_err-answer-in-Some.ensures.0))
+    rw (← c.self.view_is) (happens_same g.T.Token.plan g.J.ChannelJournal.told g.J.ChannelJournal.room (Arrives c.args.server c.args.link c.args.bytes.now c.from_residual-in_err-answer-in-Some.result) c.self.inside (g.J.ChannelJournal.told c.make_room.new.journal) c.args.seat 0 c.make_room.ensures.told c.self.invariant
+    (arrives_failed c.args.server c.args.link c.args.bytes.now c.from_residual-in_err-answer-in-Some.result (setting_of c.self.inside) (past_of (g.J.ChannelJournal.told c.self.inside.journal)) c.from_residual-in_err-answer-in-Some.ensures.0))
 
 pub invariant_of-self-in-None : goal.invariant_of-self-in-None
 invariant_of-self-in-None g c =
-    let past : Past = past_of c.self.inside.entries.items in
+    let past : Past = past_of (g.J.ChannelJournal.told c.self.inside.journal) in
     let setting : Setting = setting_of c.self.inside in
     let none : list_any (row_lands setting.options.flags c.args.server c.args.link c.args.bytes.now) c.self.inside.rows ≡ false = rw (c.flags.ensures.value, c.in-None.is) at c.in_ok-found.ensures in
     let closes_none = stray_closes_none g.T.Token.plan setting past c.args.server c.args.link c.args.bytes.now c.self.inside.rows c.self.inside.ready.items none c.self.invariant.stands in
     let what : What = Arrive c.args.server c.args.link c.args.bytes.now in
     let entry : Entry = record { seat = c.args.seat; by = 0; what = what } in
-    let added : c.push_reserved.new.self.items ≡ c.self.inside.entries.items ++ entry ∷ [] = rw (c.push_reserved.ensures.items, c.arrival.ensures, c.make_room.ensures.items, c.in_ok-kept.ensures) refl in
+    let added : (g.J.ChannelJournal.told c.arrive.new.self) ≡ (g.J.ChannelJournal.told c.self.inside.journal) ++ entry ∷ [] = rw (c.arrive.ensures.told, c.make_room.ensures.told) refl in
     let room = c.in_ok-make_room.ensures in
-    rw c.index_flights.ensures (kept_more g.T.Token.plan c.self.inside _ entry refl added c.self.invariant tt
+    rw c.index_flights.ensures (kept_more g.T.Token.plan g.J.ChannelJournal.told g.J.ChannelJournal.room c.self.inside _ entry refl added c.self.invariant tt
     (table_stray g.T.Token.plan setting past c.args.server c.args.link c.args.bytes.now c.self.inside.rows c.self.inside.ready.items none c.self.invariant.stands)
     (counted_kept setting what past c.self.inside.list c.self.inside.servers c.self.inside.greatest_key c.self.inside.greatest_link c.self.inside.started c.self.invariant.counted refl refl (λ a flies. in_flight-none setting (λ b. closes setting b (Arrive c.args.server c.args.link c.args.bytes.now) past) a.leg past a flies closes_none))
     (no_more (Arrive c.args.server c.args.link c.args.bytes.now) past refl ∙ c.self.invariant.accepts) c.self.invariant.destroyed
-    (omega (arith, c.self.invariant.few, c.push_reserved.ensures.len, c.make_room.ensures.len)) (omega (arith, c.self.invariant.few_links, c.push_reserved.ensures.len, c.make_room.ensures.len)) (omega (arith, c.self.invariant.few_starts, c.push_reserved.ensures.len, c.make_room.ensures.len))
-    (omega (arith, room.room, c.len.ensures, c.len-2.ensures, c.make_room.ensures.len, c.push_reserved.ensures.len, c.push_reserved.ensures.capacity, few_closed c.self.inside.closed))
+    (omega arith) (omega arith) (omega arith)
+    _ _ room.room room.fits c.arrive.ensures.room (omega (arith, c.len.ensures, c.len-2.ensures, few_closed c.self.inside.closed))
     c.self.invariant.room_ready)
 
 pub returns-in-None : goal.returns-in-None
 returns-in-None g c =
-    let past : Past = past_of c.self.inside.entries.items in
+    let past : Past = past_of (g.J.ChannelJournal.told c.self.inside.journal) in
     let setting : Setting = setting_of c.self.inside in
     let none : list_any (row_lands setting.options.flags c.args.server c.args.link c.args.bytes.now) c.self.inside.rows ≡ false = rw (c.flags.ensures.value, c.in-None.is) at c.in_ok-found.ensures in
     let closes_none = stray_closes_none g.T.Token.plan setting past c.args.server c.args.link c.args.bytes.now c.self.inside.rows c.self.inside.ready.items none c.self.invariant.stands in
     let what : What = Arrive c.args.server c.args.link c.args.bytes.now in
     let entry : Entry = record { seat = c.args.seat; by = 0; what = what } in
-    let added : c.push_reserved.new.self.items ≡ c.self.inside.entries.items ++ entry ∷ [] = rw (c.push_reserved.ensures.items, c.arrival.ensures, c.make_room.ensures.items, c.in_ok-kept.ensures) refl in
+    let added : (g.J.ChannelJournal.told c.arrive.new.self) ≡ (g.J.ChannelJournal.told c.self.inside.journal) ++ entry ∷ [] = rw (c.arrive.ensures.told, c.make_room.ensures.told) refl in
     let means : Arrives c.args.server c.args.link c.args.bytes.now (Ok Stray) setting past (Some what) = (refl, closes_none) in
-    rw (← c.self.view_is) (happens_one g.T.Token.plan (Arrives c.args.server c.args.link c.args.bytes.now (Ok Stray)) c.self.inside _ c.args.seat 0 what refl added (invariant_of-self-in-None g c) means)
+    rw (← c.self.view_is) (happens_one g.T.Token.plan g.J.ChannelJournal.told g.J.ChannelJournal.room (Arrives c.args.server c.args.link c.args.bytes.now (Ok Stray)) c.self.inside _ c.args.seat 0 what refl added (invariant_of-self-in-None g c) means)
 
 pub count_end-requires : goal.count_end-requires
 count_end-requires g c =
-    let past : Past = past_of c.self.inside.entries.items in
+    let past : Past = past_of (g.J.ChannelJournal.told c.self.inside.journal) in
     let setting : Setting = setting_of c.self.inside in
     let found = rw (c.flags.ensures.value, c.in-Some.is) at c.in_ok-found.ensures in
     let s = lands_at g.T.Token.plan setting past c.args.server c.args.link c.args.bytes.now c.self.inside.rows c.self.inside.ready.items c.self.invariant.stands c.in-Some.landing found in
@@ -98,13 +98,13 @@ count_end-requires g c =
 
 pub invariant_of-self-in-Some : goal.invariant_of-self-in-Some
 invariant_of-self-in-Some g c =
-    let past : Past = past_of c.self.inside.entries.items in
+    let past : Past = past_of (g.J.ChannelJournal.told c.self.inside.journal) in
     let setting : Setting = setting_of c.self.inside in
     let found = rw (c.flags.ensures.value, c.in-Some.is) at c.in_ok-found.ensures in
     let s = lands_at g.T.Token.plan setting past c.args.server c.args.link c.args.bytes.now c.self.inside.rows c.self.inside.ready.items c.self.invariant.stands c.in-Some.landing found in
     let what : What = Arrive c.args.server c.args.link c.args.bytes.now in
     let entry : Entry = record { seat = c.args.seat; by = 0; what = what } in
-    let added : c.push_reserved-in-Some.new.self.items ≡ c.self.inside.entries.items ++ entry ∷ [] = rw (c.push_reserved-in-Some.ensures.items, c.arrival-in-Some.ensures, c.make_room.ensures.items, c.in_ok-kept.ensures) refl in
+    let added : (g.J.ChannelJournal.told c.arrive-in-Some.new.self) ≡ (g.J.ChannelJournal.told c.self.inside.journal) ++ entry ∷ [] = rw (c.arrive-in-Some.ensures.told, c.make_room.ensures.told) refl in
     let room = c.in_ok-make_room.ensures in
     let ends = ends_keeping setting.options.flags (at_side c.in-Some.landing.is_second) c.in-Some.landing.judged c.in_ok-reply-in-Some.reply c.args.bytes.now c.most_attempts-most.result c.in_ok-answer-in-Some.answer c.in-Some.landing.index
     c.self.inside.rows c.self.inside.ready.items c.end_row.new.self c.end_row.new.ready.items c.in_ok-reply-in-Some.ensures (rw c.at-in-Some.ensures at c.in_ok-end_row-in-Some.ensures.ends) in
@@ -112,39 +112,39 @@ invariant_of-self-in-Some g c =
     let same : ends.row ≡ s.row = sym (ends.is s.row) ∙ s.at_index s.row in
     let there = ap (side_at c.in-Some.landing.is_second) same ∙ s.at in
     let judged = ap (λ (r : Row g.row.T.Denot). judged_of setting.options.flags c.args.server c.args.link c.args.bytes.now r.aim s.side) same ∙ s.judged in
-    let small : length past + 1 < 2 ^ 64 = omega (arith, past_of-length c.self.inside.entries.items, c.push_reserved-in-Some.ensures.len, c.make_room.ensures.len) in
+    let small : length past + 1 < 2 ^ 64 = omega (arith, past_of-length (g.J.ChannelJournal.told c.self.inside.journal), c.self.invariant.fits) in
     let counted = counted_landed g.T.Token.plan setting past c.args.server c.args.link c.args.bytes.now c.self.invariant.lawful.allowed s.row c.in-Some.landing.judged s.stands c.in-Some.landing.is_second s.side s.at s.landed
     c.self.inside.list c.self.inside.servers c.self.inside.greatest_key c.self.inside.greatest_link c.self.inside.started (recount_by c.in-Some.landing.judged) (λ n few. recount_is c.in-Some.landing.judged n (length past) few small) c.self.invariant.counted in
     let may_spend = attempts_are setting past c.self.inside.list c.self.inside.servers c.self.inside.greatest_key c.self.inside.greatest_link c.self.inside.started c.self.invariant.counted c.self.invariant.limits c.self.invariant.lawful.allowed ∙ sym c.most_attempts-most.ensures.value in
-    kept_more g.T.Token.plan c.self.inside _ entry refl added c.self.invariant tt
+    kept_more g.T.Token.plan g.J.ChannelJournal.told g.J.ChannelJournal.room c.self.inside _ entry refl added c.self.invariant tt
     (table_landed g.T.Token.plan setting past c.args.server c.args.link c.args.bytes.now c.in-Some.landing.judged c.in_ok-answer-in-Some.answer c.most_attempts-most.result c.in-Some.landing.index c.in-Some.landing.is_second c.self.inside.rows c.end_row.new.self c.self.inside.ready.items c.end_row.new.ready.items
     c.self.invariant.lawful.allowed ends s.side there judged may_spend c.most_attempts-most.ensures.few answers c.self.invariant.stands)
     (subst (λ (s : List Failing). AreCounted setting (Arrive c.args.server c.args.link c.args.bytes.now ∷ past) c.self.inside.list s c.self.inside.greatest_key c.self.inside.greatest_link c.self.inside.started) (sym c.count_end.ensures) counted)
     (no_more (Arrive c.args.server c.args.link c.args.bytes.now) past refl ∙ c.self.invariant.accepts) c.self.invariant.destroyed
-    (omega (arith, c.self.invariant.few, c.push_reserved-in-Some.ensures.len, c.make_room.ensures.len)) (omega (arith, c.self.invariant.few_links, c.push_reserved-in-Some.ensures.len, c.make_room.ensures.len)) (omega (arith, c.self.invariant.few_starts, c.push_reserved-in-Some.ensures.len, c.make_room.ensures.len))
-    (omega (arith, room.room, c.len.ensures, c.len-2.ensures, c.make_room.ensures.len, c.push_reserved-in-Some.ensures.len, c.push_reserved-in-Some.ensures.capacity, c.end_row.ensures.fewer, c.end_row.ensures.len, few_closed c.self.inside.closed))
+    (omega arith) (omega arith) (omega arith)
+    _ _ room.room room.fits c.arrive-in-Some.ensures.room (omega (arith, c.len.ensures, c.len-2.ensures, c.end_row.ensures.fewer, c.end_row.ensures.len, few_closed c.self.inside.closed))
     (omega (arith, c.self.invariant.room_ready, c.end_row.ensures.len, c.end_row.ensures.capacity))
 
 pub returns-in_ok-end_row-in-Some : goal.returns-in_ok-end_row-in-Some
 returns-in_ok-end_row-in-Some g c =
-    let past : Past = past_of c.self.inside.entries.items in
+    let past : Past = past_of (g.J.ChannelJournal.told c.self.inside.journal) in
     let setting : Setting = setting_of c.self.inside in
     let found = rw (c.flags.ensures.value, c.in-Some.is) at c.in_ok-found.ensures in
     let s = lands_at g.T.Token.plan setting past c.args.server c.args.link c.args.bytes.now c.self.inside.rows c.self.inside.ready.items c.self.invariant.stands c.in-Some.landing found in
     let what : What = Arrive c.args.server c.args.link c.args.bytes.now in
     let entry : Entry = record { seat = c.args.seat; by = 0; what = what } in
-    let added : c.push_reserved-in-Some.new.self.items ≡ c.self.inside.entries.items ++ entry ∷ [] = rw (c.push_reserved-in-Some.ensures.items, c.arrival-in-Some.ensures, c.make_room.ensures.items, c.in_ok-kept.ensures) refl in
+    let added : (g.J.ChannelJournal.told c.arrive-in-Some.new.self) ≡ (g.J.ChannelJournal.told c.self.inside.journal) ++ entry ∷ [] = rw (c.arrive-in-Some.ensures.told, c.make_room.ensures.told) refl in
     let means : Arrives c.args.server c.args.link c.args.bytes.now (Ok (Matched c.in-Some.landing.number c.in-Some.landing.leg_number)) setting past (Some what) = (
       refl,
       matched_closes g.T.Token.plan setting past c.args.server c.args.link c.args.bytes.now c.self.invariant.lawful.allowed s.row c.in-Some.landing.judged s.stands c.in-Some.landing.is_second s.side s.at s.landed (leg_of c.in-Some.landing.number c.in-Some.landing.leg_number) s.own,
     ) in
-    rw (← c.self.view_is) (happens_one g.T.Token.plan (Arrives c.args.server c.args.link c.args.bytes.now (Ok (Matched c.in-Some.landing.number c.in-Some.landing.leg_number))) c.self.inside _ c.args.seat 0 what refl added (invariant_of-self-in-Some g c) means)
+    rw (← c.self.view_is) (happens_one g.T.Token.plan g.J.ChannelJournal.told g.J.ChannelJournal.room (Arrives c.args.server c.args.link c.args.bytes.now (Ok (Matched c.in-Some.landing.number c.in-Some.landing.leg_number))) c.self.inside _ c.args.seat 0 what refl added (invariant_of-self-in-Some g c) means)
 
 pub invariant_of-self-in_err-end_row-in-Some : goal.invariant_of-self-in_err-end_row-in-Some
 invariant_of-self-in_err-end_row-in-Some g c =
-    kept_grown g.T.Token.plan c.self.inside _ (rw (c.in_err-end_row-in-Some.ensures.err.0, c.in_err-end_row-in-Some.ensures.err.1) refl) c.make_room.ensures.items c.make_room.ensures.len c.make_room.ensures.capacity c.self.invariant
+    kept_grown g.T.Token.plan g.J.ChannelJournal.told g.J.ChannelJournal.room c.self.inside _ (rw (c.in_err-end_row-in-Some.ensures.err.0, c.in_err-end_row-in-Some.ensures.err.1) refl) c.make_room.ensures.told c.make_room.ensures.kept c.self.invariant
 
 pub returns-in_err-end_row-in-Some : goal.returns-in_err-end_row-in-Some
 returns-in_err-end_row-in-Some g c =
-    rw (← c.self.view_is) (happens_same g.T.Token.plan (Arrives c.args.server c.args.link c.args.bytes.now c.from_residual-in_err-end_row-in-Some.result) c.self.inside c.make_room.new.entries.items c.args.seat 0 c.make_room.ensures.items c.self.invariant
-    (arrives_failed c.args.server c.args.link c.args.bytes.now c.from_residual-in_err-end_row-in-Some.result (setting_of c.self.inside) (past_of c.self.inside.entries.items) c.from_residual-in_err-end_row-in-Some.ensures.0))
+    rw (← c.self.view_is) (happens_same g.T.Token.plan g.J.ChannelJournal.told g.J.ChannelJournal.room (Arrives c.args.server c.args.link c.args.bytes.now c.from_residual-in_err-end_row-in-Some.result) c.self.inside (g.J.ChannelJournal.told c.make_room.new.journal) c.args.seat 0 c.make_room.ensures.told c.self.invariant
+    (arrives_failed c.args.server c.args.link c.args.bytes.now c.from_residual-in_err-end_row-in-Some.result (setting_of c.self.inside) (past_of (g.J.ChannelJournal.told c.self.inside.journal)) c.from_residual-in_err-end_row-in-Some.ensures.0))

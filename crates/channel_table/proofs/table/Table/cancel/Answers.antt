@@ -14,22 +14,22 @@ use Rattle.channel_table.proofs.table.Table.cancel.Goals as goal
 
 pub invariant_of-self : goal.invariant_of-self
 invariant_of-self g c =
-    let past : Past = past_of c.self.inside.entries.items in
+    let past : Past = past_of (g.J.ChannelJournal.told c.self.inside.journal) in
     let some : length c.self.inside.rows ≢ 0 = omega (arith, c.if-count-eq0.false, c.len-count.ensures) in
     let ended = table_ended g.T.Token.plan (setting_of c.self.inside) Cancel past Cancelled refl refl refl (λ n. refl) (λ a. refl) c.self.inside.rows c.self.inside.ready.items c.self.invariant.stands in
-    kept_more g.T.Token.plan c.self.inside _ _ refl c.push_reserved.ensures.items c.self.invariant
+    kept_more g.T.Token.plan g.J.ChannelJournal.told g.J.ChannelJournal.room c.self.inside _ _ refl c.add.ensures.told c.self.invariant
     (some_pending number_of (pending (setting_of c.self.inside) past) c.self.inside.rows c.self.invariant.stands.stand.pending_are some)
     (rw (c.complete_all.ensures.none, c.complete_all.ensures.tickets) ended)
     (counted_unjudged (setting_of c.self.inside) Cancel past c.self.inside.list c.self.inside.servers c.self.inside.greatest_key c.self.inside.greatest_link c.self.inside.started c.self.invariant.counted refl refl (λ a earlier. refl))
     (no_more Cancel past refl ∙ c.self.invariant.accepts) c.self.invariant.destroyed
-    (omega (arith, c.self.invariant.few, c.push_reserved.ensures.len)) (omega (arith, c.self.invariant.few_links, c.push_reserved.ensures.len)) (omega (arith, c.self.invariant.few_starts, c.push_reserved.ensures.len))
-    (omega (arith, c.self.invariant.room, c.if-count-eq0.false, c.len-count.ensures, c.push_reserved.ensures.len, c.push_reserved.ensures.capacity, c.complete_all.ensures.ready_len, ap length c.complete_all.ensures.none))
+    (omega arith) (omega arith) (omega arith)
+    _ _ c.self.invariant.room c.self.invariant.fits c.add.ensures.room (omega (arith, c.if-count-eq0.false, c.len-count.ensures, c.complete_all.ensures.ready_len, ap length c.complete_all.ensures.none))
     (omega (arith, c.self.invariant.room_ready, c.complete_all.ensures.ready_len, ap length c.complete_all.ensures.none, c.complete_all.ensures.capacity))
 
 pub returns : goal.returns
 returns g c =
-    let past : Past = past_of c.self.inside.entries.items in
+    let past : Past = past_of (g.J.ChannelJournal.told c.self.inside.journal) in
     let count : c.len-count.result ≡ length (pending (setting_of c.self.inside) past) =
     omega (arith, c.len-count.ensures, pending_count number_of (pending (setting_of c.self.inside) past) c.self.inside.rows c.self.invariant.stands.stand.pending_are) in
-    rw (← c.self.view_is) (happens_one g.T.Token.plan (Cancels c.len-count.result) c.self.inside _ c.args.seat c.args.by Cancel refl c.push_reserved.ensures.items (invariant_of-self g c)
+    rw (← c.self.view_is) (happens_one g.T.Token.plan g.J.ChannelJournal.told g.J.ChannelJournal.room (Cancels c.len-count.result) c.self.inside _ c.args.seat c.args.by Cancel refl c.add.ensures.told (invariant_of-self g c)
     (record { all_pending = count; entry = rw (ne_eqb c.len-count.result 0 c.if-count-eq0.false) refl }))

@@ -1,4 +1,4 @@
-use Rattle.std.proofs.Common.{refl, ap, arith, ◌∙◌, ◌+◌, ◌≤◌, ◌*◌, length, vec_len, vec_capacity, deque_len}
+use Rattle.std.proofs.Common.{refl, ap, arith, cond, ◌∙◌, ◌≤◌, length}
 use Rattle.chan_types.specs.declared.journal.What.TheVariants.{Destroy}
 use Rattle.chan_types.specs.declared.status.Status.TheVariants.{Destruction}
 use Rattle.channel_model.specs.Journal.{Past, past_of}
@@ -11,18 +11,18 @@ use Rattle.channel_table.proofs.table.Table.destroy.Goals as goal
 
 pub invariant_of-self : goal.invariant_of-self
 invariant_of-self g c =
-    let past : Past = past_of c.self.inside.entries.items in
+    let past : Past = past_of (g.J.ChannelJournal.told c.self.inside.journal) in
     let ended = table_ended g.T.Token.plan (setting_of c.self.inside) Destroy past Destruction refl refl refl (λ n. refl) (λ a. refl) c.self.inside.rows c.self.inside.ready.items c.self.invariant.stands in
-    let room : vec_len c.self.inside.entries + 2 * length c.self.inside.rows + deque_len c.self.inside.ready + 1 ≤ vec_capacity c.self.inside.entries = rw c.if-self.false at c.self.invariant.room in
-    kept_more g.T.Token.plan c.self.inside _ _ refl c.push_reserved.ensures.items c.self.invariant (c.self.invariant.destroyed ∙ c.if-self.false)
+    let open_ : 1 ≤ cond c.self.inside.closed 0 1 = rw c.if-self.false (omega arith) in
+    kept_more g.T.Token.plan g.J.ChannelJournal.told g.J.ChannelJournal.room c.self.inside _ _ refl c.add.ensures.told c.self.invariant (c.self.invariant.destroyed ∙ c.if-self.false)
     (rw (c.complete_all.ensures.none, c.complete_all.ensures.tickets) ended)
     (counted_unjudged (setting_of c.self.inside) Destroy past c.self.inside.list c.self.inside.servers c.self.inside.greatest_key c.self.inside.greatest_link c.self.inside.started c.self.invariant.counted refl refl (λ a earlier. refl))
     (no_more Destroy past refl ∙ c.self.invariant.accepts) refl
-    (omega (arith, c.self.invariant.few, c.push_reserved.ensures.len)) (omega (arith, c.self.invariant.few_links, c.push_reserved.ensures.len)) (omega (arith, c.self.invariant.few_starts, c.push_reserved.ensures.len))
-    (omega (arith, room, c.push_reserved.ensures.len, c.push_reserved.ensures.capacity, c.complete_all.ensures.ready_len, ap length c.complete_all.ensures.none))
+    (omega arith) (omega arith) (omega arith)
+    _ _ c.self.invariant.room c.self.invariant.fits c.add.ensures.room (omega (arith, open_, c.complete_all.ensures.ready_len, ap length c.complete_all.ensures.none))
     (omega (arith, c.self.invariant.room_ready, c.complete_all.ensures.ready_len, ap length c.complete_all.ensures.none, c.complete_all.ensures.capacity))
 
 pub returns : goal.returns
 returns g c =
-    rw (← c.self.view_is) (happens_one g.T.Token.plan (Destroys _) c.self.inside _ c.args.seat c.args.by Destroy refl c.push_reserved.ensures.items (invariant_of-self g c)
+    rw (← c.self.view_is) (happens_one g.T.Token.plan g.J.ChannelJournal.told g.J.ChannelJournal.room (Destroys _) c.self.inside _ c.args.seat c.args.by Destroy refl c.add.ensures.told (invariant_of-self g c)
     (record { answer = rw (c.self.invariant.destroyed, c.if-self.false) refl; entry = refl }))

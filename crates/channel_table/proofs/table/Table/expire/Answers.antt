@@ -37,30 +37,30 @@ use Rattle.channel_table.proofs.table.Table.expire.Goals as goal
 
 pub returns-then-not-is_due : goal.returns-then-not-is_due
 returns-then-not-is_due g c =
-    let past : Past = past_of c.self.inside.entries.items in
+    let past : Past = past_of (g.J.ChannelJournal.told c.self.inside.journal) in
     let told = first_due_rows g.T.Token.plan (setting_of c.self.inside) past c.self.inside.rows c.self.inside.ready.items c.self.invariant.stands in
     let later = due_later c.args.at (least (dues c.self.inside.rows)) (sym c.is_due.ensures ∙ c.if-not-is_due.true) in
     let means : Expires c.args.at (Ok NotDue) (setting_of c.self.inside) past None = (refl, rw told later) in
-    rw (← c.self.view_is) (happens_nothing g.T.Token.plan (Expires c.args.at (Ok NotDue)) c.self.inside c.args.seat 0 c.self.invariant means)
+    rw (← c.self.view_is) (happens_nothing g.T.Token.plan g.J.ChannelJournal.told g.J.ChannelJournal.room (Expires c.args.at (Ok NotDue)) c.self.inside c.args.seat 0 c.self.invariant means)
 
 pub most_attempts-most-requires-clause-some : goal.most_attempts-most-requires-clause-some
 most_attempts-most-requires-clause-some g c =
-    list_some (setting_of c.self.inside) (past_of c.self.inside.entries.items) c.self.inside.list c.self.inside.servers c.self.inside.greatest_key c.self.inside.greatest_link c.self.inside.started c.self.invariant.counted c.self.invariant.limits c.self.invariant.lawful.allowed
+    list_some (setting_of c.self.inside) (past_of (g.J.ChannelJournal.told c.self.inside.journal)) c.self.inside.list c.self.inside.servers c.self.inside.greatest_key c.self.inside.greatest_link c.self.inside.started c.self.invariant.counted c.self.invariant.limits c.self.invariant.lawful.allowed
 
 pub most_attempts-most-requires-clause-few : goal.most_attempts-most-requires-clause-few
 most_attempts-most-requires-clause-few g c =
-    list_few (setting_of c.self.inside) (past_of c.self.inside.entries.items) c.self.inside.list c.self.inside.servers c.self.inside.greatest_key c.self.inside.greatest_link c.self.inside.started c.self.invariant.counted c.self.invariant.limits c.self.invariant.lawful.allowed
+    list_few (setting_of c.self.inside) (past_of (g.J.ChannelJournal.told c.self.inside.journal)) c.self.inside.list c.self.inside.servers c.self.inside.greatest_key c.self.inside.greatest_link c.self.inside.started c.self.invariant.counted c.self.invariant.limits c.self.invariant.lawful.allowed
 
 pub returns-in_err-make_room-in-Some : goal.returns-in_err-make_room-in-Some
 returns-in_err-make_room-in-Some g c =
-    let told = first_due_rows g.T.Token.plan (setting_of c.self.inside) (past_of c.self.inside.entries.items) c.self.inside.rows c.self.inside.ready.items c.self.invariant.stands in
+    let told = first_due_rows g.T.Token.plan (setting_of c.self.inside) (past_of (g.J.ChannelJournal.told c.self.inside.journal)) c.self.inside.rows c.self.inside.ready.items c.self.invariant.stands in
     let is = told ∙ c.in-Some.ensures.1 in
-    rw (← c.self.view_is) (happens_same g.T.Token.plan (Expires c.args.at c.from_residual.result) c.self.inside c.make_room.new.entries.items c.args.seat 0 c.make_room.ensures.items c.self.invariant
-    (expires_failed c.args.at c.from_residual.result (setting_of c.self.inside) (past_of c.self.inside.entries.items) c.from_residual.ensures.0 (rw is c.if-first-at.true)))
+    rw (← c.self.view_is) (happens_same g.T.Token.plan g.J.ChannelJournal.told g.J.ChannelJournal.room (Expires c.args.at c.from_residual.result) c.self.inside (g.J.ChannelJournal.told c.make_room.new.journal) c.args.seat 0 c.make_room.ensures.told c.self.invariant
+    (expires_failed c.args.at c.from_residual.result (setting_of c.self.inside) (past_of (g.J.ChannelJournal.told c.self.inside.journal)) c.from_residual.ensures.0 (rw is c.if-first-at.true)))
 
 pub failed-requires : goal.failed-requires
 failed-requires g c =
-    let past : Past = past_of c.self.inside.entries.items in
+    let past : Past = past_of (g.J.ChannelJournal.told c.self.inside.journal) in
     let setting : Setting = setting_of c.self.inside in
     let found = c.in-Some.ensures in
     let row : Row g.row.T.Denot = c.row.result.now in
@@ -74,7 +74,7 @@ failed-requires g c =
 
 pub invariant_of-self-then-first-at : goal.invariant_of-self-then-first-at
 invariant_of-self-then-first-at g c =
-    let past : Past = past_of c.self.inside.entries.items in
+    let past : Past = past_of (g.J.ChannelJournal.told c.self.inside.journal) in
     let setting : Setting = setting_of c.self.inside in
     let found = c.in-Some.ensures in
     let row : Row g.row.T.Denot = c.row.result.now in
@@ -90,60 +90,60 @@ invariant_of-self-then-first-at g c =
     let room = c.in_ok-make_room-in-Some.ensures in
     let entry : Entry = record { seat = c.args.seat; by = 0; what = Expire c.in-Some.first.number c.in-Some.first.leg_number c.args.at } in
     let flies = flight_at g.T.Token.plan setting past c.self.inside.rows c.self.inside.ready.items c.self.invariant.stands c.in-Some.first.index row found.0.inside same c.in-Some.first.is_second is.side is.at is.flying is.flies in
-    let small : length past + 1 < 2 ^ 64 = omega (arith, past_of-length c.self.inside.entries.items, c.push_reserved.ensures.len, c.make_room.ensures.len) in
+    let small : length past + 1 < 2 ^ 64 = omega (arith, past_of-length (g.J.ChannelJournal.told c.self.inside.journal), c.self.invariant.fits) in
     let counted = counted_expired setting past c.in-Some.first.number c.in-Some.first.leg_number c.args.at c.self.inside.list c.self.inside.servers c.self.inside.greatest_key c.self.inside.greatest_link c.self.inside.started (attempt_of (leg_of_side is.side) is.flying) small
     (ap (λ (l : Leg). flight setting l past) is.own ∙ flies) (sym is.own) c.self.invariant.counted in
     let may_spend = attempts_are setting past c.self.inside.list c.self.inside.servers c.self.inside.greatest_key c.self.inside.greatest_link c.self.inside.started c.self.invariant.counted c.self.invariant.limits c.self.invariant.lawful.allowed ∙ sym c.most_attempts-most.ensures.value in
-    kept_more g.T.Token.plan c.self.inside _ entry refl (c.push_reserved.ensures.items ∙ ap (λ es. es ++ entry ∷ []) c.make_room.ensures.items) c.self.invariant may
+    kept_more g.T.Token.plan g.J.ChannelJournal.told g.J.ChannelJournal.room c.self.inside _ entry refl (c.add.ensures.told ∙ ap (λ es. es ++ entry ∷ []) c.make_room.ensures.told) c.self.invariant may
     (table_expired g.T.Token.plan setting past c.in-Some.first c.args.at c.most_attempts-most.result c.in_ok-answer-in-Some.answer c.self.inside.rows c.end_row.new.self c.self.inside.ready.items c.end_row.new.ready.items
     c.self.invariant.lawful.allowed ends due may_spend c.most_attempts-most.ensures.few answers c.self.invariant.stands)
     (subst (λ (s : List Failing). AreCounted setting (Expire c.in-Some.first.number c.in-Some.first.leg_number c.args.at ∷ past) c.self.inside.list s c.self.inside.greatest_key c.self.inside.greatest_link c.self.inside.started)
     (sym (c.failed.ensures ∙ ap (λ (k : ℕ). recounted k one_more c.self.inside.servers) server)) counted)
     (no_more (Expire c.in-Some.first.number c.in-Some.first.leg_number c.args.at) past refl ∙ c.self.invariant.accepts) c.self.invariant.destroyed
-    (omega (arith, c.self.invariant.few, c.push_reserved.ensures.len, c.make_room.ensures.len)) (omega (arith, c.self.invariant.few_links, c.push_reserved.ensures.len, c.make_room.ensures.len)) (omega (arith, c.self.invariant.few_starts, c.push_reserved.ensures.len, c.make_room.ensures.len))
-    (omega (arith, room.room, c.len.ensures, c.len-in-Some.ensures, c.make_room.ensures.len, c.push_reserved.ensures.len, c.push_reserved.ensures.capacity, c.end_row.ensures.fewer, c.end_row.ensures.len, few_closed c.self.inside.closed))
+    (omega arith) (omega arith) (omega arith)
+    _ _ room.room room.fits c.add.ensures.room (omega (arith, c.len.ensures, c.len-in-Some.ensures, c.end_row.ensures.fewer, c.end_row.ensures.len, few_closed c.self.inside.closed))
     (omega (arith, c.self.invariant.room_ready, c.end_row.ensures.len, c.end_row.ensures.capacity))
 
 pub returns-in_err-answer-in-Some : goal.returns-in_err-answer-in-Some
 returns-in_err-answer-in-Some g c =
-    let told = first_due_rows g.T.Token.plan (setting_of c.self.inside) (past_of c.self.inside.entries.items) c.self.inside.rows c.self.inside.ready.items c.self.invariant.stands in
+    let told = first_due_rows g.T.Token.plan (setting_of c.self.inside) (past_of (g.J.ChannelJournal.told c.self.inside.journal)) c.self.inside.rows c.self.inside.ready.items c.self.invariant.stands in
     let is = told ∙ c.in-Some.ensures.1 in
-    rw (← c.self.view_is) (happens_same g.T.Token.plan (Expires c.args.at c.from_residual-in_err-answer-in-Some.result) c.self.inside c.make_room.new.entries.items c.args.seat 0 c.make_room.ensures.items c.self.invariant
-    (expires_failed c.args.at c.from_residual-in_err-answer-in-Some.result (setting_of c.self.inside) (past_of c.self.inside.entries.items) c.from_residual-in_err-answer-in-Some.ensures.0 (rw is c.if-first-at.true)))
+    rw (← c.self.view_is) (happens_same g.T.Token.plan g.J.ChannelJournal.told g.J.ChannelJournal.room (Expires c.args.at c.from_residual-in_err-answer-in-Some.result) c.self.inside (g.J.ChannelJournal.told c.make_room.new.journal) c.args.seat 0 c.make_room.ensures.told c.self.invariant
+    (expires_failed c.args.at c.from_residual-in_err-answer-in-Some.result (setting_of c.self.inside) (past_of (g.J.ChannelJournal.told c.self.inside.journal)) c.from_residual-in_err-answer-in-Some.ensures.0 (rw is c.if-first-at.true)))
 
 pub returns-in_ok-end_row-in-Some : goal.returns-in_ok-end_row-in-Some
 returns-in_ok-end_row-in-Some g c =
-    let past : Past = past_of c.self.inside.entries.items in
+    let past : Past = past_of (g.J.ChannelJournal.told c.self.inside.journal) in
     let setting : Setting = setting_of c.self.inside in
     let found = c.in-Some.ensures in
     let told = first_due_rows g.T.Token.plan setting past c.self.inside.rows c.self.inside.ready.items c.self.invariant.stands in
     let may : MayExpire setting past (leg_of c.in-Some.first.number c.in-Some.first.leg_number) c.args.at = record { due_at = c.in-Some.first.at; first = told ∙ found.1; due = c.if-first-at.true } in
-    rw (← c.self.view_is) (happens_one g.T.Token.plan (Expires c.args.at (Ok (Expired c.in-Some.first.number c.in-Some.first.leg_number))) c.self.inside _ c.args.seat 0 (Expire c.in-Some.first.number c.in-Some.first.leg_number c.args.at) refl
-    (c.push_reserved.ensures.items ∙ ap (λ es. es ++ record { seat = c.args.seat; by = 0; what = Expire c.in-Some.first.number c.in-Some.first.leg_number c.args.at } ∷ []) c.make_room.ensures.items) (invariant_of-self-then-first-at g c) (refl, may))
+    rw (← c.self.view_is) (happens_one g.T.Token.plan g.J.ChannelJournal.told g.J.ChannelJournal.room (Expires c.args.at (Ok (Expired c.in-Some.first.number c.in-Some.first.leg_number))) c.self.inside _ c.args.seat 0 (Expire c.in-Some.first.number c.in-Some.first.leg_number c.args.at) refl
+    (c.add.ensures.told ∙ ap (λ es. es ++ record { seat = c.args.seat; by = 0; what = Expire c.in-Some.first.number c.in-Some.first.leg_number c.args.at } ∷ []) c.make_room.ensures.told) (invariant_of-self-then-first-at g c) (refl, may))
 
 pub returns-in-Some-2 : goal.returns-in-Some-2
 returns-in-Some-2 g c =
-    let past : Past = past_of c.self.inside.entries.items in
+    let past : Past = past_of (g.J.ChannelJournal.told c.self.inside.journal) in
     let told = first_due_rows g.T.Token.plan (setting_of c.self.inside) past c.self.inside.rows c.self.inside.ready.items c.self.invariant.stands in
     let is = told ∙ c.in-Some.ensures.1 in
     let means : Expires c.args.at (Ok NotDue) (setting_of c.self.inside) past None = (refl, rw is c.if-first-at.false) in
-    rw (← c.self.view_is) (happens_nothing g.T.Token.plan (Expires c.args.at (Ok NotDue)) c.self.inside c.args.seat 0 c.self.invariant means)
+    rw (← c.self.view_is) (happens_nothing g.T.Token.plan g.J.ChannelJournal.told g.J.ChannelJournal.room (Expires c.args.at (Ok NotDue)) c.self.inside c.args.seat 0 c.self.invariant means)
 
 pub returns-in-None : goal.returns-in-None
 returns-in-None g c =
-    let past : Past = past_of c.self.inside.entries.items in
+    let past : Past = past_of (g.J.ChannelJournal.told c.self.inside.journal) in
     let told = first_due_rows g.T.Token.plan (setting_of c.self.inside) past c.self.inside.rows c.self.inside.ready.items c.self.invariant.stands in
     let none = told ∙ ap least c.in-None.ensures in
     let means : Expires c.args.at (Ok NotDue) (setting_of c.self.inside) past None = (refl, rw none tt) in
-    rw (← c.self.view_is) (happens_nothing g.T.Token.plan (Expires c.args.at (Ok NotDue)) c.self.inside c.args.seat 0 c.self.invariant means)
+    rw (← c.self.view_is) (happens_nothing g.T.Token.plan g.J.ChannelJournal.told g.J.ChannelJournal.room (Expires c.args.at (Ok NotDue)) c.self.inside c.args.seat 0 c.self.invariant means)
 
 pub invariant_of-self-in_err-end_row-in-Some : goal.invariant_of-self-in_err-end_row-in-Some
 invariant_of-self-in_err-end_row-in-Some g c =
-    kept_grown g.T.Token.plan c.self.inside _ (rw (c.in_err-end_row-in-Some.ensures.err.0, c.in_err-end_row-in-Some.ensures.err.1) refl) c.make_room.ensures.items c.make_room.ensures.len c.make_room.ensures.capacity c.self.invariant
+    kept_grown g.T.Token.plan g.J.ChannelJournal.told g.J.ChannelJournal.room c.self.inside _ (rw (c.in_err-end_row-in-Some.ensures.err.0, c.in_err-end_row-in-Some.ensures.err.1) refl) c.make_room.ensures.told c.make_room.ensures.kept c.self.invariant
 
 pub returns-in_err-end_row-in-Some : goal.returns-in_err-end_row-in-Some
 returns-in_err-end_row-in-Some g c =
-    let told = first_due_rows g.T.Token.plan (setting_of c.self.inside) (past_of c.self.inside.entries.items) c.self.inside.rows c.self.inside.ready.items c.self.invariant.stands in
+    let told = first_due_rows g.T.Token.plan (setting_of c.self.inside) (past_of (g.J.ChannelJournal.told c.self.inside.journal)) c.self.inside.rows c.self.inside.ready.items c.self.invariant.stands in
     let is = told ∙ c.in-Some.ensures.1 in
-    rw (← c.self.view_is) (happens_same g.T.Token.plan (Expires c.args.at c.from_residual-in_err-end_row-in-Some.result) c.self.inside c.make_room.new.entries.items c.args.seat 0 c.make_room.ensures.items c.self.invariant
-    (expires_failed c.args.at c.from_residual-in_err-end_row-in-Some.result (setting_of c.self.inside) (past_of c.self.inside.entries.items) c.from_residual-in_err-end_row-in-Some.ensures.0 (rw is c.if-first-at.true)))
+    rw (← c.self.view_is) (happens_same g.T.Token.plan g.J.ChannelJournal.told g.J.ChannelJournal.room (Expires c.args.at c.from_residual-in_err-end_row-in-Some.result) c.self.inside (g.J.ChannelJournal.told c.make_room.new.journal) c.args.seat 0 c.make_room.ensures.told c.self.invariant
+    (expires_failed c.args.at c.from_residual-in_err-end_row-in-Some.result (setting_of c.self.inside) (past_of (g.J.ChannelJournal.told c.self.inside.journal)) c.from_residual-in_err-end_row-in-Some.ensures.0 (rw is c.if-first-at.true)))

@@ -16,43 +16,43 @@ use Rattle.channel_table.specs.Rows.{RowStands}
 use Rattle.channel_table.proofs.table.Table.fault.Goals as goal
 
 pub most_attempts-most-requires-clause-some : goal.most_attempts-most-requires-clause-some
-most_attempts-most-requires-clause-some g c = servers_some g.T.Token.plan c.self.inside c.self.invariant
+most_attempts-most-requires-clause-some g c = servers_some g.T.Token.plan g.J.ChannelJournal.told g.J.ChannelJournal.room c.self.inside c.self.invariant
 
 pub most_attempts-most-requires-clause-few : goal.most_attempts-most-requires-clause-few
-most_attempts-most-requires-clause-few g c = servers_few g.T.Token.plan c.self.inside c.self.invariant
+most_attempts-most-requires-clause-few g c = servers_few g.T.Token.plan g.J.ChannelJournal.told g.J.ChannelJournal.room c.self.inside c.self.invariant
 
 pub fail_all-requires-clause-unanswered : goal.fail_all-requires-clause-unanswered
 fail_all-requires-clause-unanswered g c =
-    each-then (RowStands g.T.Token.plan (setting_of c.self.inside) (past_of c.self.inside.entries.items)) (IsUnanswered c.self.inside.options) c.self.inside.rows (λ row stands. stands.unanswered) c.self.invariant.stands.each_row
+    each-then (RowStands g.T.Token.plan (setting_of c.self.inside) (past_of (g.J.ChannelJournal.told c.self.inside.journal))) (IsUnanswered c.self.inside.options) c.self.inside.rows (λ row stands. stands.unanswered) c.self.invariant.stands.each_row
 
 pub count_fault-requires : goal.count_fault-requires
 count_fault-requires g c = record {
-  there = λ some. fault_there g.T.Token.plan c.self.inside c.self.invariant c.args.server c.args.link c.args.at c.most_attempts-most.ensures.value c.most_attempts-most.ensures.few (λ none. some (c.in_ok-count.ensures.count ∙ none));
+  there = λ some. fault_there g.T.Token.plan g.J.ChannelJournal.told g.J.ChannelJournal.room c.self.inside c.self.invariant c.args.server c.args.link c.args.at c.most_attempts-most.ensures.value c.most_attempts-most.ensures.few (λ none. some (c.in_ok-count.ensures.count ∙ none));
 }
 
 pub invariant_of-self-2 : goal.invariant_of-self-2
 invariant_of-self-2 g c =
-    let past : Past = past_of c.self.inside.entries.items in
+    let past : Past = past_of (g.J.ChannelJournal.told c.self.inside.journal) in
     let what : What = Fault c.args.server c.args.link c.args.at in
     let entry : Entry = record { seat = c.args.seat; by = 0; what = what } in
     let room = c.in_ok-make_room.ensures in
-    let small : length past + 1 < 2 ^ 64 = omega (arith, past_of-length c.self.inside.entries.items, c.push_reserved.ensures.len, c.make_room.ensures.len) in
-    let counted = fault_counted g.T.Token.plan c.self.inside c.self.invariant c.args.server c.args.link c.args.at c.most_attempts-most.ensures.value c.most_attempts-most.ensures.few c.in_ok-count.count small c.in_ok-count.ensures.count in
-    kept_more g.T.Token.plan c.self.inside _ entry refl (entry_added entry c.push_reserved.ensures.items c.make_room.ensures.items) c.self.invariant tt
-    (fault_stands g.T.Token.plan c.self.inside c.self.invariant c.args.server c.args.link c.args.at c.most_attempts-most.ensures.value c.most_attempts-most.ensures.few c.in_ok-count.ensures.fails)
+    let small : length past + 1 < 2 ^ 64 = omega (arith, past_of-length (g.J.ChannelJournal.told c.self.inside.journal), c.self.invariant.fits) in
+    let counted = fault_counted g.T.Token.plan g.J.ChannelJournal.told g.J.ChannelJournal.room c.self.inside c.self.invariant c.args.server c.args.link c.args.at c.most_attempts-most.ensures.value c.most_attempts-most.ensures.few c.in_ok-count.count small c.in_ok-count.ensures.count in
+    kept_more g.T.Token.plan g.J.ChannelJournal.told g.J.ChannelJournal.room c.self.inside _ entry refl (entry_added entry c.add.ensures.told c.make_room.ensures.told) c.self.invariant tt
+    (fault_stands g.T.Token.plan g.J.ChannelJournal.told g.J.ChannelJournal.room c.self.inside c.self.invariant c.args.server c.args.link c.args.at c.most_attempts-most.ensures.value c.most_attempts-most.ensures.few c.in_ok-count.ensures.fails)
     (subst (λ (s : List Failing). AreCounted (setting_of c.self.inside) (what ∷ past) c.self.inside.list s c.self.inside.greatest_key c.self.inside.greatest_link c.self.inside.started) (sym c.count_fault.ensures) counted)
     (no_more what past refl ∙ c.self.invariant.accepts) c.self.invariant.destroyed
-    (omega (arith, c.self.invariant.few, c.push_reserved.ensures.len, c.make_room.ensures.len)) (omega (arith, c.self.invariant.few_links, c.push_reserved.ensures.len, c.make_room.ensures.len)) (omega (arith, c.self.invariant.few_starts, c.push_reserved.ensures.len, c.make_room.ensures.len))
-    (omega (arith, room.room, c.len.ensures, c.len-2.ensures, c.make_room.ensures.len, c.push_reserved.ensures.len, c.push_reserved.ensures.capacity, c.fail_all.ensures.fewer, c.fail_all.ensures.len, few_closed c.self.inside.closed))
+    (omega arith) (omega arith) (omega arith)
+    _ _ room.room room.fits c.add.ensures.room (omega (arith, c.len.ensures, c.len-2.ensures, c.fail_all.ensures.fewer, c.fail_all.ensures.len, few_closed c.self.inside.closed))
     (omega (arith, c.self.invariant.room_ready, c.fail_all.ensures.len, c.fail_all.ensures.capacity))
 
 pub returns : goal.returns
 returns g c =
     let what : What = Fault c.args.server c.args.link c.args.at in
     let entry : Entry = record { seat = c.args.seat; by = 0; what = what } in
-    rw (← c.self.view_is) (happens_by g.T.Token.plan (Fails c.args.server c.args.link c.args.at (Ok c.in_ok-count.count)) c.self.inside c.push_reserved.new.self.items c.args.seat 0 what (entry_added entry c.push_reserved.ensures.items c.make_room.ensures.items) c.self.invariant tt
-    (fault_told g.T.Token.plan c.self.inside c.self.invariant c.args.server c.args.link c.args.at c.most_attempts-most.ensures.value c.most_attempts-most.ensures.few c.in_ok-count.count c.in_ok-count.ensures.count))
+    rw (← c.self.view_is) (happens_by g.T.Token.plan g.J.ChannelJournal.told g.J.ChannelJournal.room (Fails c.args.server c.args.link c.args.at (Ok c.in_ok-count.count)) c.self.inside (g.J.ChannelJournal.told c.add.new.self) c.args.seat 0 what (entry_added entry c.add.ensures.told c.make_room.ensures.told) c.self.invariant tt
+    (fault_told g.T.Token.plan g.J.ChannelJournal.told g.J.ChannelJournal.room c.self.inside c.self.invariant c.args.server c.args.link c.args.at c.most_attempts-most.ensures.value c.most_attempts-most.ensures.few c.in_ok-count.count c.in_ok-count.ensures.count))
 
 pub invariant_of-self-in_err-count : goal.invariant_of-self-in_err-count
 invariant_of-self-in_err-count g c =
-    kept_grown g.T.Token.plan c.self.inside _ (rw (c.in_err-count.ensures.err.0, c.in_err-count.ensures.err.1) refl) c.make_room.ensures.items c.make_room.ensures.len c.make_room.ensures.capacity c.self.invariant
+    kept_grown g.T.Token.plan g.J.ChannelJournal.told g.J.ChannelJournal.room c.self.inside _ (rw (c.in_err-count.ensures.err.0, c.in_err-count.ensures.err.1) refl) c.make_room.ensures.told c.make_room.ensures.kept c.self.invariant

@@ -6,7 +6,8 @@ use Rattle.channel_table.proofs.table.Table.make.Goals as goal
 
 pub invariant_of-result-3 : goal.invariant_of-result-3
 invariant_of-result-3 g c =
-    let none : c.in_ok-with_capacity.field-0.items ≡ [] = c.in_ok-with_capacity.ensures.items in
+    let told = g.J.ChannelJournal.told in
+    let none : told c.reserve.new.self ≡ [] = c.reserve.ensures.told ∙ c.in_ok-journal.ensures in
     let same = ap (λ (o : OptionValues). o.servers) (sym c.options.view_is) in
     let count = c.len-count.ensures ∙ ap length (c.servers.ensures.value ∙ same) in
     record {
@@ -20,6 +21,7 @@ invariant_of-result-3 g c =
       few = omega arith;
       few_links = omega arith;
       few_starts = omega arith;
-      room = omega (arith, c.in_ok-with_capacity.ensures.len, c.in_ok-with_capacity.ensures.capacity, ap length c.in_ok-make.ensures, c.new.ensures.len);
+      room = omega (arith, c.in_ok-reserve.ensures.room, ap length c.in_ok-make.ensures, c.new.ensures.len);
+      fits = omega (arith, ap length none, ap length c.in_ok-make.ensures, c.new.ensures.len);
       room_ready = omega (arith, ap length c.in_ok-make.ensures, c.new.ensures.len);
     }

@@ -20,21 +20,21 @@ use Rattle.channel_table.proofs.table.Table.set_servers.Goals as goal
 pub renew-requires-clause-some : goal.renew-requires-clause-some
 renew-requires-clause-some g c =
     let is = keys_are c.args.servers.now c.self.invariant.counted (rw c.as_slice.ensures at c.in_ok-list.ensures) in
-    omega (arith, set_length (setting_of c.self.inside) (past_of c.self.inside.entries.items) c.args.servers.now c.in_ok-list.list is, c.requires.some)
+    omega (arith, set_length (setting_of c.self.inside) (past_of (g.J.ChannelJournal.told c.self.inside.journal)) c.args.servers.now c.in_ok-list.list is, c.requires.some)
 
 pub renew-requires-clause-few : goal.renew-requires-clause-few
 renew-requires-clause-few g c =
     let is = keys_are c.args.servers.now c.self.invariant.counted (rw c.as_slice.ensures at c.in_ok-list.ensures) in
-    omega (arith, set_length (setting_of c.self.inside) (past_of c.self.inside.entries.items) c.args.servers.now c.in_ok-list.list is, c.requires.few)
+    omega (arith, set_length (setting_of c.self.inside) (past_of (g.J.ChannelJournal.told c.self.inside.journal)) c.args.servers.now c.in_ok-list.list is, c.requires.few)
 
 pub renew-requires-clause-apart : goal.renew-requires-clause-apart
 renew-requires-clause-apart g c =
     let is = keys_are c.args.servers.now c.self.invariant.counted (rw c.as_slice.ensures at c.in_ok-list.ensures) in
-    keys_apart (setting_of c.self.inside) (past_of c.self.inside.entries.items) c.args.servers.now c.in_ok-list.list is
+    keys_apart (setting_of c.self.inside) (past_of (g.J.ChannelJournal.told c.self.inside.journal)) c.args.servers.now c.in_ok-list.list is
 
 pub invariant_of-self-in_err-renew : goal.invariant_of-self-in_err-renew
 invariant_of-self-in_err-renew g c =
-    let items = c.make_room.ensures.items in
+    let items = c.make_room.ensures.told in
     record {
       limits = c.self.invariant.limits;
       lawful = rw items c.self.invariant.lawful;
@@ -42,25 +42,26 @@ invariant_of-self-in_err-renew g c =
       counted = rw (items, c.in_err-renew.ensures.err) c.self.invariant.counted;
       accepts = rw items c.self.invariant.accepts;
       destroyed = rw items c.self.invariant.destroyed;
-      few = omega (arith, c.self.invariant.few, c.make_room.ensures.len);
-      few_links = omega (arith, c.self.invariant.few_links, c.make_room.ensures.len);
-      few_starts = omega (arith, c.self.invariant.few_starts, c.make_room.ensures.len);
-      room = omega (arith, c.self.invariant.room, c.make_room.ensures.len, c.make_room.ensures.capacity);
+      few = rw items c.self.invariant.few;
+      few_links = rw items c.self.invariant.few_links;
+      few_starts = rw items c.self.invariant.few_starts;
+      room = omega (arith, c.self.invariant.room, c.make_room.ensures.kept);
+      fits = rw items c.self.invariant.fits;
       room_ready = c.self.invariant.room_ready;
     }
 
 pub returns-in_err-renew : goal.returns-in_err-renew
 returns-in_err-renew g c =
-    let past : Past = past_of c.self.inside.entries.items in
+    let past : Past = past_of (g.J.ChannelJournal.told c.self.inside.journal) in
     let setting : Setting = setting_of c.self.inside in
     let open_ : is_destroyed past ≡ false = c.self.invariant.destroyed ∙ c.if-self.false in
     let few : greatest_key setting past ≤ 2 ^ 32 - 9 = omega (arith, c.self.invariant.counted.keyed, c.if-self-gt-KEY_MOST.false) in
-    rw (← c.self.view_is) (happens_same g.T.Token.plan (SetsServers c.args.servers.now c.from_residual-in_err-renew.result) c.self.inside c.make_room.new.entries.items c.args.seat 0 c.make_room.ensures.items c.self.invariant
+    rw (← c.self.view_is) (happens_same g.T.Token.plan g.J.ChannelJournal.told g.J.ChannelJournal.room (SetsServers c.args.servers.now c.from_residual-in_err-renew.result) c.self.inside (g.J.ChannelJournal.told c.make_room.new.journal) c.args.seat 0 c.make_room.ensures.told c.self.invariant
     (sets_failed c.args.servers.now c.from_residual-in_err-renew.result setting past c.from_residual-in_err-renew.ensures.1 open_ few))
 
 pub invariant_of-self-2 : goal.invariant_of-self-2
 invariant_of-self-2 g c =
-    let past : Past = past_of c.self.inside.entries.items in
+    let past : Past = past_of (g.J.ChannelJournal.told c.self.inside.journal) in
     let setting : Setting = setting_of c.self.inside in
     let addresses = c.args.servers.now in
     let list : List ServerKey = c.in_ok-list.list in
@@ -69,24 +70,22 @@ invariant_of-self-2 g c =
     let may = may_become setting past addresses list is open_ c.requires.some c.requires.few in
     let what : What = Servers list in
     let entry : Entry = record { seat = c.args.seat; by = 0; what = what } in
-    let added : c.push_reserved.new.self.items ≡ c.self.inside.entries.items ++ entry ∷ [] = rw (c.push_reserved.ensures.items, c.make_room.ensures.items, c.in_ok-kept.ensures, c.as_slice-2.ensures) refl in
+    let added : (g.J.ChannelJournal.told c.add.new.self) ≡ (g.J.ChannelJournal.told c.self.inside.journal) ++ entry ∷ [] = rw (c.add.ensures.told, c.make_room.ensures.told, c.in_ok-kept.ensures, c.as_slice-2.ensures) refl in
     let room = c.in_ok-make_room.ensures in
     let rows : c.set_list.new.self ≡ map (row_set list) c.self.inside.rows = c.set_list.ensures.rows ∙ ap (λ (l : List ServerKey). map (row_set l) c.self.inside.rows) c.as_slice-4.ensures in
     let greatest : c.greatest_of-self-inside.result ≡ greatest_of c.self.inside.greatest_key list = c.greatest_of-self-inside.ensures ∙ ap (greatest_of c.self.inside.greatest_key) c.as_slice-5.ensures in
     let counted = counted_set setting past list c.self.inside.list c.self.inside.servers c.self.inside.greatest_key c.self.inside.greatest_link c.self.inside.started c.self.invariant.counted in
-    kept_more g.T.Token.plan c.self.inside _ entry refl added c.self.invariant may
+    kept_more g.T.Token.plan g.J.ChannelJournal.told g.J.ChannelJournal.room c.self.inside _ entry refl added c.self.invariant may
     (rw rows (table_set g.T.Token.plan setting past list c.self.inside.rows c.self.inside.ready.items c.self.invariant.stands))
     (rw (c.in_ok-renew.ensures.ok, greatest) counted)
     (no_more what past refl ∙ c.self.invariant.accepts) c.self.invariant.destroyed
-    (omega (arith, c.self.invariant.few, c.push_reserved.ensures.len, c.make_room.ensures.len))
-    (omega (arith, c.self.invariant.few_links, c.push_reserved.ensures.len, c.make_room.ensures.len))
-    (omega (arith, c.self.invariant.few_starts, c.push_reserved.ensures.len, c.make_room.ensures.len))
-    (omega (arith, room.room, c.len.ensures, c.len-2.ensures, c.make_room.ensures.len, c.push_reserved.ensures.len, c.push_reserved.ensures.capacity, c.set_list.ensures.len, few_closed c.self.inside.closed))
+    (omega arith) (omega arith) (omega arith)
+    _ _ room.room room.fits c.add.ensures.room (omega (arith, c.len.ensures, c.len-2.ensures, c.set_list.ensures.len, few_closed c.self.inside.closed))
     (omega (arith, c.self.invariant.room_ready, c.set_list.ensures.len))
 
 pub returns : goal.returns
 returns g c =
-    let past : Past = past_of c.self.inside.entries.items in
+    let past : Past = past_of (g.J.ChannelJournal.told c.self.inside.journal) in
     let setting : Setting = setting_of c.self.inside in
     let addresses = c.args.servers.now in
     let list : List ServerKey = c.in_ok-list.list in
@@ -95,10 +94,10 @@ returns g c =
     let may = may_become setting past addresses list is open_ c.requires.some c.requires.few in
     let what : What = Servers list in
     let entry : Entry = record { seat = c.args.seat; by = 0; what = what } in
-    let added : c.push_reserved.new.self.items ≡ c.self.inside.entries.items ++ entry ∷ [] = rw (c.push_reserved.ensures.items, c.make_room.ensures.items, c.in_ok-kept.ensures, c.as_slice-2.ensures) refl in
+    let added : (g.J.ChannelJournal.told c.add.new.self) ≡ (g.J.ChannelJournal.told c.self.inside.journal) ++ entry ∷ [] = rw (c.add.ensures.told, c.make_room.ensures.told, c.in_ok-kept.ensures, c.as_slice-2.ensures) refl in
     let count : c.count_left-count.result ≡ sum_by (left_in list) c.self.inside.rows = c.count_left-count.ensures ∙ ap (λ (l : List ServerKey). sum_by (left_in l) c.self.inside.rows) c.as_slice-3.ensures in
     let few : greatest_key setting past ≤ 2 ^ 32 - 9 = omega (arith, c.self.invariant.counted.keyed, c.if-self-gt-KEY_MOST.false) in
     let told = count ∙ sym (set_count g.T.Token.plan setting past list c.self.inside.rows c.self.inside.ready.items c.self.invariant.stands) in
     let means : SetsServers addresses (Ok c.count_left-count.result) setting past (Some what) = subst (λ (l : List ServerKey). SetsServers addresses (Ok c.count_left-count.result) setting past (Some (Servers l))) (sym is)
     (refl, subst (MaySet setting past) is may, subst (λ (l : List ServerKey). c.count_left-count.result ≡ length (filter (λ (a : Attempt). not (has_key a.server l)) (in_flight setting past))) is told, λ full. omega (arith, few, full)) in
-    rw (← c.self.view_is) (happens_by g.T.Token.plan (SetsServers addresses (Ok c.count_left-count.result)) c.self.inside c.push_reserved.new.self.items c.args.seat 0 what added c.self.invariant may means)
+    rw (← c.self.view_is) (happens_by g.T.Token.plan g.J.ChannelJournal.told g.J.ChannelJournal.room (SetsServers addresses (Ok c.count_left-count.result)) c.self.inside (g.J.ChannelJournal.told c.add.new.self) c.args.seat 0 what added c.self.invariant may means)

@@ -40,18 +40,18 @@ use Rattle.channel_table.proofs.table.Table.start.Goals as goal
 
 pub returns-in_default : goal.returns-in_default
 returns-in_default g c =
-    let past : Past = past_of c.self.inside.entries.items in
+    let past : Past = past_of (g.J.ChannelJournal.told c.self.inside.journal) in
     let setting : Setting = setting_of c.self.inside in
     let rows : List (Row g.row.T.Denot) = c.self.inside.rows in
     let tickets : List (Ticket g.row.T.Denot) = c.self.inside.ready.items in
     let told = waiting_rows g.T.Token.plan setting past rows tickets c.self.invariant.stands in
     let none = c.in_default.ensures.found in
     let means : Starts c.args.word c.args.mix c.args.at (Ok Idle) setting past None = (refl, told ∙ none) in
-    rw (← c.self.view_is) (happens_nothing g.T.Token.plan (Starts c.args.word c.args.mix c.args.at (Ok Idle)) c.self.inside c.args.seat 0 c.self.invariant means)
+    rw (← c.self.view_is) (happens_nothing g.T.Token.plan g.J.ChannelJournal.told g.J.ChannelJournal.room (Starts c.args.word c.args.mix c.args.at (Ok Idle)) c.self.inside c.args.seat 0 c.self.invariant means)
 
 pub returns-in_default-free_id : goal.returns-in_default-free_id
 returns-in_default-free_id g c =
-    let past : Past = past_of c.self.inside.entries.items in
+    let past : Past = past_of (g.J.ChannelJournal.told c.self.inside.journal) in
     let setting : Setting = setting_of c.self.inside in
     let rows : List (Row g.row.T.Denot) = c.self.inside.rows in
     let tickets : List (Ticket g.row.T.Denot) = c.self.inside.ready.items in
@@ -62,28 +62,28 @@ returns-in_default-free_id g c =
       some_wait g.T.Token.plan setting past rows tickets c.self.invariant.stands (leg_of c.in-Some.idle.number c.in-Some.idle.leg_number) found.firsts,
       all_used g.T.Token.plan setting past rows tickets c.self.invariant.stands c.args.word none,
     ) in
-    rw (← c.self.view_is) (happens_nothing g.T.Token.plan (Starts c.args.word c.args.mix c.args.at (Ok NoId)) c.self.inside c.args.seat 0 c.self.invariant means)
+    rw (← c.self.view_is) (happens_nothing g.T.Token.plan g.J.ChannelJournal.told g.J.ChannelJournal.room (Starts c.args.word c.args.mix c.args.at (Ok NoId)) c.self.inside c.args.seat 0 c.self.invariant means)
 
 pub in_use-used-requires-clause-some : goal.in_use-used-requires-clause-some
 in_use-used-requires-clause-some g c =
-    list_some (setting_of c.self.inside) (past_of c.self.inside.entries.items) c.self.inside.list c.self.inside.servers c.self.inside.greatest_key c.self.inside.greatest_link c.self.inside.started c.self.invariant.counted c.self.invariant.limits c.self.invariant.lawful.allowed
+    list_some (setting_of c.self.inside) (past_of (g.J.ChannelJournal.told c.self.inside.journal)) c.self.inside.list c.self.inside.servers c.self.inside.greatest_key c.self.inside.greatest_link c.self.inside.started c.self.invariant.counted c.self.invariant.limits c.self.invariant.lawful.allowed
 
 pub in_use-used-requires-clause-few : goal.in_use-used-requires-clause-few
 in_use-used-requires-clause-few g c =
-    list_few (setting_of c.self.inside) (past_of c.self.inside.entries.items) c.self.inside.list c.self.inside.servers c.self.inside.greatest_key c.self.inside.greatest_link c.self.inside.started c.self.invariant.counted c.self.invariant.limits c.self.invariant.lawful.allowed
+    list_few (setting_of c.self.inside) (past_of (g.J.ChannelJournal.told c.self.inside.journal)) c.self.inside.list c.self.inside.servers c.self.inside.greatest_key c.self.inside.greatest_link c.self.inside.started c.self.invariant.counted c.self.invariant.limits c.self.invariant.lawful.allowed
 
 pub choose_server-server-requires-clause-there : goal.choose_server-server-requires-clause-there
 choose_server-server-requires-clause-there g c =
-    omega (arith, c.in_use-used.ensures.few, counts_length (setting_of c.self.inside) (past_of c.self.inside.entries.items) c.self.inside.list c.self.inside.servers c.self.inside.greatest_key c.self.inside.greatest_link c.self.inside.started c.self.invariant.counted)
+    omega (arith, c.in_use-used.ensures.few, counts_length (setting_of c.self.inside) (past_of (g.J.ChannelJournal.told c.self.inside.journal)) c.self.inside.list c.self.inside.servers c.self.inside.greatest_key c.self.inside.greatest_link c.self.inside.started c.self.invariant.counted)
 
 pub choose_link-link-requires-clause-one : goal.choose_link-link-requires-clause-one
 choose_link-link-requires-clause-one g c =
     let rows : List (Row g.row.T.Denot) = c.self.inside.rows in
-    rw c.find_idle.ensures.same (λ link tcp any. one_first g.T.Token.plan (setting_of c.self.inside) (past_of c.self.inside.entries.items) rows c.self.inside.ready.items c.self.invariant.stands c.self.invariant.lawful.allowed c.choose_server-server.result link tcp any)
+    rw c.find_idle.ensures.same (λ link tcp any. one_first g.T.Token.plan (setting_of c.self.inside) (past_of (g.J.ChannelJournal.told c.self.inside.journal)) rows c.self.inside.ready.items c.self.invariant.stands c.self.invariant.lawful.allowed c.choose_server-server.result link tcp any)
 
 pub address_of-address-requires : goal.address_of-address-requires
 address_of-address-requires g c =
-    let past : Past = past_of c.self.inside.entries.items in
+    let past : Past = past_of (g.J.ChannelJournal.told c.self.inside.journal) in
     let setting : Setting = setting_of c.self.inside in
     let rows : List (Row g.row.T.Denot) = c.self.inside.rows in
     let tickets : List (Ticket g.row.T.Denot) = c.self.inside.ready.items in
@@ -97,26 +97,26 @@ address_of-address-requires g c =
 
 pub returns-in_err-message : goal.returns-in_err-message
 returns-in_err-message g c =
-    let past : Past = past_of c.self.inside.entries.items in
+    let past : Past = past_of (g.J.ChannelJournal.told c.self.inside.journal) in
     let setting : Setting = setting_of c.self.inside in
     let rows : List (Row g.row.T.Denot) = c.self.inside.rows in
     let tickets : List (Ticket g.row.T.Denot) = c.self.inside.ready.items in
     let found = c.in-Some.ensures.found in
     let free = rw c.find_idle.ensures.same at c.in-Some-free_id.ensures in
-    rw (← c.self.view_is) (happens_nothing g.T.Token.plan (Starts c.args.word c.args.mix c.args.at c.from_residual.result) c.self.inside c.args.seat 0 c.self.invariant
+    rw (← c.self.view_is) (happens_nothing g.T.Token.plan g.J.ChannelJournal.told g.J.ChannelJournal.room (Starts c.args.word c.args.mix c.args.at c.from_residual.result) c.self.inside c.args.seat 0 c.self.invariant
     (starts_failed c.args.word c.args.mix c.args.at c.from_residual.result setting past c.from_residual.ensures.0
     (some_wait g.T.Token.plan setting past rows tickets c.self.invariant.stands (leg_of c.in-Some.idle.number c.in-Some.idle.leg_number) found.firsts)
     (some_free g.T.Token.plan setting past rows tickets c.self.invariant.stands c.args.word c.in-Some-free_id.id free)))
 
 pub returns-in_err-make_room : goal.returns-in_err-make_room
 returns-in_err-make_room g c =
-    let past : Past = past_of c.self.inside.entries.items in
+    let past : Past = past_of (g.J.ChannelJournal.told c.self.inside.journal) in
     let setting : Setting = setting_of c.self.inside in
     let rows : List (Row g.row.T.Denot) = c.self.inside.rows in
     let tickets : List (Ticket g.row.T.Denot) = c.self.inside.ready.items in
     let found = c.in-Some.ensures.found in
     let free = rw c.find_idle.ensures.same at c.in-Some-free_id.ensures in
-    rw (← c.self.view_is) (happens_same g.T.Token.plan (Starts c.args.word c.args.mix c.args.at c.from_residual-in_err-make_room.result) c.self.inside c.make_room.new.entries.items c.args.seat 0 c.make_room.ensures.items c.self.invariant
+    rw (← c.self.view_is) (happens_same g.T.Token.plan g.J.ChannelJournal.told g.J.ChannelJournal.room (Starts c.args.word c.args.mix c.args.at c.from_residual-in_err-make_room.result) c.self.inside (g.J.ChannelJournal.told c.make_room.new.journal) c.args.seat 0 c.make_room.ensures.told c.self.invariant
     (starts_failed c.args.word c.args.mix c.args.at c.from_residual-in_err-make_room.result setting past c.from_residual-in_err-make_room.ensures.0
     (some_wait g.T.Token.plan setting past rows tickets c.self.invariant.stands (leg_of c.in-Some.idle.number c.in-Some.idle.leg_number) found.firsts)
     (some_free g.T.Token.plan setting past rows tickets c.self.invariant.stands c.args.word c.in-Some-free_id.id free)))
@@ -130,7 +130,7 @@ begin-requires-clause-waits g c = rw c.find_idle.ensures.same (λ d.
 
 pub begin-requires-clause-apart : goal.begin-requires-clause-apart
 begin-requires-clause-apart g c =
-    let past : Past = past_of c.self.inside.entries.items in
+    let past : Past = past_of (g.J.ChannelJournal.told c.self.inside.journal) in
     let setting : Setting = setting_of c.self.inside in
     let rows : List (Row g.row.T.Denot) = c.self.inside.rows in
     let tickets : List (Ticket g.row.T.Denot) = c.self.inside.ready.items in
@@ -144,7 +144,7 @@ begin-requires-clause-free g c = c.in-Some-free_id.ensures.3
 
 pub invariant_of-self-2 : goal.invariant_of-self-2
 invariant_of-self-2 g c =
-    let past : Past = past_of c.self.inside.entries.items in
+    let past : Past = past_of (g.J.ChannelJournal.told c.self.inside.journal) in
     let setting : Setting = setting_of c.self.inside in
     let rows : List (Row g.row.T.Denot) = c.self.inside.rows in
     let tickets : List (Ticket g.row.T.Denot) = c.self.inside.ready.items in
@@ -157,7 +157,7 @@ invariant_of-self-2 g c =
     let may = may_begin g.T.Token.plan setting past rows tickets c.self.invariant.stands c.in-Some.idle s c.args.mix c.self.inside.greatest_link c.self.invariant.lawful.allowed c.self.invariant.counted.linked server link free.3 c.bits_for-bits.ensures in
     let what : What = Start c.in-Some.idle.number c.in-Some.idle.leg_number c.choose_server-server.result c.choose_link-link.result c.in-Some-free_id.id c.bits_for-bits.result c.args.at in
     let entry : Entry = record { seat = c.args.seat; by = 0; what = what } in
-    let added : c.push_reserved.new.self.items ≡ c.self.inside.entries.items ++ entry ∷ [] = c.push_reserved.ensures.items ∙ ap (λ es. es ++ entry ∷ []) c.make_room.ensures.items in
+    let added : (g.J.ChannelJournal.told c.add.new.self) ≡ (g.J.ChannelJournal.told c.self.inside.journal) ++ entry ∷ [] = c.add.ensures.told ∙ ap (λ es. es ++ entry ∷ []) c.make_room.ensures.told in
     let room = c.in_ok-make_room.ensures in
     let begins = rw c.find_idle.ensures.same at c.in_ok-begin.ensures.begins in
     let same : begins.row ≡ s.row = sym (begins.is s.row) ∙ s.at_index s.row in
@@ -171,20 +171,20 @@ invariant_of-self-2 g c =
     let few_link = link_few g.T.Token.plan setting past rows tickets c.self.invariant.stands c.in-Some.idle.leg.over_tcp c.choose_server-server.result c.self.inside.greatest_link c.self.invariant.counted.linked in
     let counted = counted_begun setting past c.self.inside.list c.self.inside.servers c.self.inside.greatest_key c.self.inside.greatest_link c.self.inside.started c.self.invariant.counted (leg_of c.in-Some.idle.number c.in-Some.idle.leg_number) flying c.in-Some.idle.begun
     (ap (λ (l : Leg). has_leg l (started past)) (sym s.own) ∙ s.started_so) in
-    kept_more g.T.Token.plan c.self.inside _ entry refl added c.self.invariant may
+    kept_more g.T.Token.plan g.J.ChannelJournal.told g.J.ChannelJournal.room c.self.inside _ entry refl added c.self.invariant may
     (subst (λ (l : Leg). TableStands g.T.Token.plan setting (Start l.request l.number c.choose_server-server.result c.choose_link-link.result c.in-Some-free_id.id c.bits_for-bits.result c.args.at ∷ past) c.begin.new.self tickets)
     s.own begun)
     (rw (c.max-self-inside.ensures, c.starts_with-self-inside.ensures) counted)
     (no_more what past refl ∙ c.self.invariant.accepts) c.self.invariant.destroyed
-    (omega (arith, c.self.invariant.few, c.push_reserved.ensures.len, c.make_room.ensures.len))
-    (omega (arith, c.self.invariant.few_links, c.push_reserved.ensures.len, c.make_room.ensures.len, c.max-self-inside.ensures, link, few_link))
-    (started_few c.in-Some.idle.begun c.self.inside.started _ c.starts_with-self-inside.result c.starts_with-self-inside.ensures (omega (arith, c.self.invariant.few_starts, c.push_reserved.ensures.len, c.make_room.ensures.len)))
-    (omega (arith, room.room, c.len.ensures, c.len-2.ensures, c.make_room.ensures.len, c.push_reserved.ensures.len, c.push_reserved.ensures.capacity, c.begin.ensures.len, ap length c.find_idle.ensures.same, few_closed c.self.inside.closed))
+    (omega arith)
+    (omega (arith, c.max-self-inside.ensures, link, few_link))
+    (started_few c.in-Some.idle.begun c.self.inside.started _ c.starts_with-self-inside.result c.starts_with-self-inside.ensures (omega arith))
+    _ _ room.room room.fits c.add.ensures.room (omega (arith, c.len.ensures, c.len-2.ensures, c.begin.ensures.len, ap length c.find_idle.ensures.same, few_closed c.self.inside.closed))
     (omega (arith, c.self.invariant.room_ready, c.begin.ensures.len, ap length c.find_idle.ensures.same))
 
 pub returns : goal.returns
 returns g c =
-    let past : Past = past_of c.self.inside.entries.items in
+    let past : Past = past_of (g.J.ChannelJournal.told c.self.inside.journal) in
     let setting : Setting = setting_of c.self.inside in
     let rows : List (Row g.row.T.Denot) = c.self.inside.rows in
     let tickets : List (Ticket g.row.T.Denot) = c.self.inside.ready.items in
@@ -197,7 +197,7 @@ returns g c =
     let may = may_begin g.T.Token.plan setting past rows tickets c.self.invariant.stands c.in-Some.idle s c.args.mix c.self.inside.greatest_link c.self.invariant.lawful.allowed c.self.invariant.counted.linked server link free.3 c.bits_for-bits.ensures in
     let what : What = Start c.in-Some.idle.number c.in-Some.idle.leg_number c.choose_server-server.result c.choose_link-link.result c.in-Some-free_id.id c.bits_for-bits.result c.args.at in
     let entry : Entry = record { seat = c.args.seat; by = 0; what = what } in
-    let added : c.push_reserved.new.self.items ≡ c.self.inside.entries.items ++ entry ∷ [] = c.push_reserved.ensures.items ∙ ap (λ es. es ++ entry ∷ []) c.make_room.ensures.items in
+    let added : (g.J.ChannelJournal.told c.add.new.self) ≡ (g.J.ChannelJournal.told c.self.inside.journal) ++ entry ∷ [] = c.add.ensures.told ∙ ap (λ es. es ++ entry ∷ []) c.make_room.ensures.told in
     let same = get_or_read rows c.in-Some.idle.index c.row.result.now found.inside (rw c.find_idle.ensures.same at c.row.ensures) s.row ∙ s.at_index s.row in
     let side_is : c.side.result.now ≡ s.side = subst (λ (o : Option Side). IfSome o (λ (one : Side). c.side.result.now ≡ one)) (ap (side_at c.in-Some.idle.is_second) same ∙ s.at) c.side.ensures in
     let address : address_of c.choose_server-server.result (servers_at setting past) ≡ Some c.address_of-address.result =
@@ -214,8 +214,8 @@ returns g c =
       address,
       subst (λ (m : Option ℕ). option_map message_bytes (leg_query setting (leg_of c.in-Some.idle.number c.in-Some.idle.leg_number) c.in-Some-free_id.id m past) ≡ Some c.in_ok-message.message) c.bits_for-bits.ensures query,
     ) in
-    rw (← c.self.view_is) (happens_by g.T.Token.plan (Starts c.args.word c.args.mix c.args.at (Ok (Started c.in-Some.idle.number c.in-Some.idle.leg_number c.choose_server-server.result c.address_of-address.result c.choose_link-link.result c.in-Some-free_id.id c.in_ok-message.message)))
-    c.self.inside c.push_reserved.new.self.items c.args.seat 0 what added c.self.invariant may means)
+    rw (← c.self.view_is) (happens_by g.T.Token.plan g.J.ChannelJournal.told g.J.ChannelJournal.room (Starts c.args.word c.args.mix c.args.at (Ok (Started c.in-Some.idle.number c.in-Some.idle.leg_number c.choose_server-server.result c.address_of-address.result c.choose_link-link.result c.in-Some-free_id.id c.in_ok-message.message)))
+    c.self.inside (g.J.ChannelJournal.told c.add.new.self) c.args.seat 0 what added c.self.invariant may means)
 
 pub invariant_of-self : goal.invariant_of-self
 invariant_of-self g c = rw c.find_idle.ensures.same c.self.invariant
@@ -228,21 +228,21 @@ invariant_of-self-in_err-message g c = rw c.find_idle.ensures.same c.self.invari
 
 pub invariant_of-self-in_err-make_room : goal.invariant_of-self-in_err-make_room
 invariant_of-self-in_err-make_room g c =
-    kept_grown g.T.Token.plan c.self.inside _ (rw c.find_idle.ensures.same refl) c.make_room.ensures.items c.make_room.ensures.len c.make_room.ensures.capacity c.self.invariant
+    kept_grown g.T.Token.plan g.J.ChannelJournal.told g.J.ChannelJournal.room c.self.inside _ (rw c.find_idle.ensures.same refl) c.make_room.ensures.told c.make_room.ensures.kept c.self.invariant
 
 pub invariant_of-self-in_err-begin : goal.invariant_of-self-in_err-begin
 invariant_of-self-in_err-begin g c =
-    kept_grown g.T.Token.plan c.self.inside _ (rw (c.in_err-begin.ensures.err, c.find_idle.ensures.same) refl) c.make_room.ensures.items c.make_room.ensures.len c.make_room.ensures.capacity c.self.invariant
+    kept_grown g.T.Token.plan g.J.ChannelJournal.told g.J.ChannelJournal.room c.self.inside _ (rw (c.in_err-begin.ensures.err, c.find_idle.ensures.same) refl) c.make_room.ensures.told c.make_room.ensures.kept c.self.invariant
 
 pub returns-in_err-begin : goal.returns-in_err-begin
 returns-in_err-begin g c =
-    let past : Past = past_of c.self.inside.entries.items in
+    let past : Past = past_of (g.J.ChannelJournal.told c.self.inside.journal) in
     let setting : Setting = setting_of c.self.inside in
     let rows : List (Row g.row.T.Denot) = c.self.inside.rows in
     let tickets : List (Ticket g.row.T.Denot) = c.self.inside.ready.items in
     let found = c.in-Some.ensures.found in
     let free = rw c.find_idle.ensures.same at c.in-Some-free_id.ensures in
-    rw (← c.self.view_is) (happens_same g.T.Token.plan (Starts c.args.word c.args.mix c.args.at c.from_residual-in_err-begin.result) c.self.inside c.make_room.new.entries.items c.args.seat 0 c.make_room.ensures.items c.self.invariant
+    rw (← c.self.view_is) (happens_same g.T.Token.plan g.J.ChannelJournal.told g.J.ChannelJournal.room (Starts c.args.word c.args.mix c.args.at c.from_residual-in_err-begin.result) c.self.inside (g.J.ChannelJournal.told c.make_room.new.journal) c.args.seat 0 c.make_room.ensures.told c.self.invariant
     (starts_failed c.args.word c.args.mix c.args.at c.from_residual-in_err-begin.result setting past c.from_residual-in_err-begin.ensures.0
     (some_wait g.T.Token.plan setting past rows tickets c.self.invariant.stands (leg_of c.in-Some.idle.number c.in-Some.idle.leg_number) found.firsts)
     (some_free g.T.Token.plan setting past rows tickets c.self.invariant.stands c.args.word c.in-Some-free_id.id free)))

@@ -14,12 +14,12 @@ pub invariant_of-self : goal.invariant_of-self
 invariant_of-self g c =
     let parts : c.self.inside.ready.items ≡ c.pop_first-ticket.result ∷ c.pop_first-ticket.new.deque.items = c.pop_first-ticket.ensures.items in
     let waits = ap first (c.self.invariant.stands.stand.ready_are ∙ ap (map ticket_number) parts) in
-    kept_more g.T.Token.plan c.self.inside _ _ refl c.push_reserved.ensures.items c.self.invariant (waits ∙ ap Some (sym c.number.ensures))
+    kept_more g.T.Token.plan g.J.ChannelJournal.told g.J.ChannelJournal.room c.self.inside _ _ refl c.add.ensures.told c.self.invariant (waits ∙ ap Some (sym c.number.ensures))
     (rw c.number.ensures (table_taken g.T.Token.plan (setting_of c.self.inside) _ c.self.inside.rows c.pop_first-ticket.result c.pop_first-ticket.new.deque.items (rw parts at c.self.invariant.stands)))
-    (counted_kept (setting_of c.self.inside) (Take c.number.result) (past_of c.self.inside.entries.items) c.self.inside.list c.self.inside.servers c.self.inside.greatest_key c.self.inside.greatest_link c.self.inside.started c.self.invariant.counted refl refl (λ a flies. refl))
-    (no_more (Take c.number.result) (past_of c.self.inside.entries.items) refl ∙ c.self.invariant.accepts) c.self.invariant.destroyed
-    (omega (arith, c.self.invariant.few, c.push_reserved.ensures.len)) (omega (arith, c.self.invariant.few_links, c.push_reserved.ensures.len)) (omega (arith, c.self.invariant.few_starts, c.push_reserved.ensures.len))
-    (omega (arith, c.self.invariant.room, c.push_reserved.ensures.len, c.push_reserved.ensures.capacity, c.pop_first-ticket.ensures.len))
+    (counted_kept (setting_of c.self.inside) (Take c.number.result) (past_of (g.J.ChannelJournal.told c.self.inside.journal)) c.self.inside.list c.self.inside.servers c.self.inside.greatest_key c.self.inside.greatest_link c.self.inside.started c.self.invariant.counted refl refl (λ a flies. refl))
+    (no_more (Take c.number.result) (past_of (g.J.ChannelJournal.told c.self.inside.journal)) refl ∙ c.self.invariant.accepts) c.self.invariant.destroyed
+    (omega arith) (omega arith) (omega arith)
+    _ _ c.self.invariant.room c.self.invariant.fits c.add.ensures.room (omega (arith, c.pop_first-ticket.ensures.len))
     (omega (arith, c.self.invariant.room_ready, c.pop_first-ticket.ensures.len, c.pop_first-ticket.ensures.capacity))
 
 pub returns : goal.returns
@@ -27,5 +27,5 @@ returns g c =
     let parts : c.self.inside.ready.items ≡ c.pop_first-ticket.result ∷ c.pop_first-ticket.new.deque.items = c.pop_first-ticket.ensures.items in
     let waits = ap first (c.self.invariant.stands.stand.ready_are ∙ ap (map ticket_number) parts) in
     let ticket = (rw parts at c.self.invariant.stands.each_ticket).0 in
-    rw (← c.self.view_is) (happens_one g.T.Token.plan (Takes g.T.Token.plan (Some c.pop_first-ticket.result)) c.self.inside _ c.args.seat 0 (Take c.number.result) refl c.push_reserved.ensures.items (invariant_of-self g c)
+    rw (← c.self.view_is) (happens_one g.T.Token.plan g.J.ChannelJournal.told g.J.ChannelJournal.room (Takes g.T.Token.plan (Some c.pop_first-ticket.result)) c.self.inside _ c.args.seat 0 (Take c.number.result) refl c.add.ensures.told (invariant_of-self g c)
     (ap (λ n. Some (Take n)) c.number.ensures, waits, ticket.completes, ticket.accepts))
