@@ -6,10 +6,11 @@ the library, proves or builds the tests, proves or builds the program, or tries 
 looked at five times a second, so that the last fifth of a second of each process is lost.
 
 What is kept from an earlier run isn't proved again and costs nothing, so a page of the whole gate wants a machine where
-nothing is kept. Where the gate was run in parts, --times FILE joins them: what an earlier part took stays where this one
-did not do it again. On SIGTERM the gate is ended, and what was measured is written all the same.
+nothing is kept. Where the gate was run in parts, --times FILE joins them, and --join joins this one with the page that
+stands: what an earlier part took stays where this one did not do it again. On SIGTERM the gate is ended, and what was
+measured is written all the same.
 
-Usage: python3 bench/gate.py [--into FILE] [--times FILE] [COMMAND ..]     (without a command: rt ci)
+Usage: python3 bench/gate.py [--into FILE] [--times FILE] [--join] [COMMAND ..]     (without a command: rt ci)
 """
 import json
 import os
@@ -114,6 +115,22 @@ def edits_of(crate):
     return len([it for it in os.listdir(folder) if it.endswith(".edit")]) if os.path.isdir(folder) else 0
 
 
+def cell(crate, row, kind):
+    """The seconds of a kind of work; a dash where the crate's edits were not measured."""
+    if kind == "edits" and kind not in row and edits_of(crate):
+        return "-"
+    return f"{row.get(kind, 0):.0f}"
+
+
+def times_of(text):
+    """The times that a page tells, by crate and kind."""
+    times = {}
+    for found in re.finditer(r"^\| `(\w+)` \|(.*)\|$", text, re.M):
+        seconds = [float(cell) if cell.strip() != "-" else None for cell in found[2].split("|")[: len(KINDS)]]
+        times[found[1]] = {kind: it for kind, it in zip(KINDS, seconds) if it}
+    return times
+
+
 def page(times, verdict, minutes):
     """The page, dearest crate first."""
     rows = sorted(times.items(), key=lambda row: -sum(row[1].values()))
@@ -123,7 +140,7 @@ def page(times, verdict, minutes):
         "# What the gate costs",
         "",
         "Written by `bench/gate.py`, which runs the gate and meters its processes; don't edit it by hand. Seconds are those of a processor, on the machine "
-        "where it ran: compare rows with each other, and not with another machine's.",
+        "where it ran: compare rows with each other, and not with another machine's. A dash stands where a crate's edits were not measured.",
         "",
         f"The gate's last words: {'; '.join(f'`{line}`' for line in verdict) or 'none, since it was ended'}. {minutes:.0f} minutes by the clock in the last run; "
         f"{whole / 60:.0f} processor minutes in all, {whole / 60 / max(code, 1) * 1000:.1f} for 1,000 of the {code:,} lines of code.",
@@ -132,21 +149,26 @@ def page(times, verdict, minutes):
         "|---|---|---|---|---|---|---|---|",
     ]
     for crate, row in rows:
-        text.append(f"| `{crate}` | " + " | ".join(f"{row.get(kind, 0):.0f}" for kind in KINDS) + f" | {edits_of(crate)} | {sum(row.values()):.0f} | {lines_of(crate)} |")
+        text.append(f"| `{crate}` | " + " | ".join(cell(crate, row, kind) for kind in KINDS) + f" | {edits_of(crate)} | {sum(row.values()):.0f} | {lines_of(crate)} |")
     sums = [sum(row.get(kind, 0) for row in times.values()) for kind in KINDS]
     text.append("| all | " + " | ".join(f"{it:.0f}" for it in sums) + f" | {sum(edits_of(it) for it in times)} | {whole:.0f} | {code} |")
     return "\n".join(text) + "\n"
 
 
 def main(words):
-    into, kept = os.path.join(ROOT, "docs", "GATE.md"), None
-    while words[:1] in (["--into"], ["--times"]):
+    into, kept, joins = os.path.join(ROOT, "docs", "GATE.md"), None, False
+    while words[:1] in (["--into"], ["--times"], ["--join"]):
+        if words[0] == "--join":
+            joins, words = True, words[1:]
+            continue
         if words[0] == "--into":
             into = words[1]
         else:
             kept = words[1]
         words = words[2:]
-    times = json.loads(read(kept) or "{}") if kept else {}
+    times = times_of(read(into)) if joins else {}
+    for crate, row in (json.loads(read(kept) or "{}") if kept else {}).items():
+        times.setdefault(crate, {}).update(row)
     begun = time.time()
     gate = subprocess.Popen(words or ["rt", "ci"], cwd=ROOT, stdout=subprocess.PIPE, stderr=subprocess.STDOUT, text=True, errors="replace")
     signal.signal(signal.SIGTERM, lambda *_: gate.terminate())
