@@ -1,0 +1,4 @@
+mod SendLemmas
+mod ClosureLemmas
+mod DeliveryLemmas
+pub mod Theorems
