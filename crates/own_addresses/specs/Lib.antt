@@ -1,0 +1,4 @@
+pub mod Choice
+pub mod Telling
+pub mod Machine
+pub mod Leaves
