@@ -1,0 +1,1 @@
+"""Runs that are made by chance, from fixed seeds, and what spoils them."""

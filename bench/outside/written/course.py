@@ -1,0 +1,125 @@
+"""How a run goes: channel_model/specs/Course.antt and Endings.antt, owner_laws/specs/Sessions.antt."""
+from values import Now, Serve, Wait
+from .turn import ENTRY_PARTS, MOST_ENTRIES, Turns
+from .traffic import Traffic
+
+
+def is_of_turn(entry):
+    return type(entry.what) in ENTRY_PARTS
+
+
+def has_no_turn(entries):
+    return not any(map(is_of_turn, entries))
+
+
+def serves_from(server, addresses):
+    return [Serve(server + k, address) for k, address in enumerate(addresses)]
+
+
+class Course:
+    def __init__(self, model, journal, seat, log, slice_):
+        self.model, self.seat, self.slice = model, seat, slice_
+        self.turns = Turns(Traffic(model, journal, seat, log))
+        self.journal, self.log, self.pasts = list(journal), list(log), self.turns.pasts
+        self.serves = serves_from(0, model.options.servers)
+
+    # ---- Course.antt
+
+    def skips(self, past):
+        return (len(self.model.pending(past)) == 0 or len(self.model.ready(past)) != 0
+                or len(self.model.waiting(past)) != 0 and len(self.model.in_flight(past)) < MOST_ENTRIES)
+
+    def wakes_at(self, reading, past):
+        latest, due = min(reading + self.slice, 2 ** 64 - 1), self.model.first_due(past)
+        return latest if due is None else min(due[0], latest)
+
+    def is_timely(self, reading, rest, i, k):
+        return rest is None or (
+            self.turns.somewhere(lambda past: not self.skips(past), i, k)
+            and self.turns.somewhere(lambda past: rest.until == self.wakes_at(reading, past), i, k))
+
+    def goes_on(self, rest, i, k):
+        return (self.turns.somewhere(lambda past: len(self.model.ready(past)) == 0, i, k)
+                and self.turns.somewhere(lambda past: len(self.model.pending(past)) != 0, i, k)
+                and (rest is not None or self.turns.somewhere(self.skips, i, k)))
+
+    def firsts(self):
+        """The standings at which the first turn may begin, with the turns made: none."""
+        if self.log[:len(self.serves)] != self.serves:
+            return set()
+        return {(i, len(self.serves)) for i in range(len(self.journal) + 1) if has_no_turn(self.journal[:i])}
+
+    def rounds(self, i, j):
+        """The rounds from a standing: where each may end, and whether the run goes on behind it."""
+        reading, ends = self.turns.turns(i, j)
+        for k, l in ends:
+            for m in range(k, len(self.journal) + 1):
+                if not has_no_turn(self.journal[k:m]):
+                    break
+                if self.is_timely(reading, None, k, m):
+                    yield (m, l), self.goes_on(None, k, m)
+                if l < len(self.log) and isinstance(self.log[l], Wait):
+                    if self.is_timely(reading, self.log[l], k, m):
+                        yield (m, l + 1), self.goes_on(self.log[l], k, m)
+
+    def reached(self, starts):
+        """The standings behind so many whole turns, each with whether the run goes on there: a list by turns."""
+        layers = [{(standing, True) for standing in starts}]
+        while layers[-1]:
+            layers.append({end for standing, on in layers[-1] if on for end in self.rounds(*standing)})
+        return layers[:-1]
+
+    def of_seat(self, journal):
+        return all(not is_of_turn(entry) or entry.seat == self.seat for entry in journal)
+
+    def is_course(self, starts=None):
+        """The numbers of turns into which journal and log fall, with no reading of the clock beside."""
+        if not self.of_seat(self.journal):
+            return set()
+        end = len(self.journal), len(self.log)
+        return {turns for turns, layer in enumerate(self.reached(self.firsts() if starts is None else starts))
+                if any(standing == end for standing, _ in layer)}
+
+    def is_cut_course(self):
+        found = set()
+        for turns, layer in enumerate(self.reached(self.firsts())):
+            for (i, j), on in layer:
+                if not on or not self.of_seat(self.journal[:i]):
+                    continue
+                for k in range(i, len(self.journal) + 1):
+                    if has_no_turn(self.journal[k:]) and self.turns.is_cut_turn(i, k, j, len(self.log)):
+                        found.add(turns + 1)
+        return found
+
+    def is_cut_serving(self):
+        return self.serves[:len(self.log)] == self.log and has_no_turn(self.journal)
+
+    def is_course_so_far(self):
+        return self.is_course() | self.is_cut_course() | ({0} if self.is_cut_serving() else set())
+
+    # ---- Endings.antt
+
+    def turns_in(self):
+        return sum(1 for call in self.log if isinstance(call, Now))
+
+    # ---- owner_laws/specs/Sessions.antt
+
+    def first_turns(self):
+        """The journals' beginnings that fall into one turn with a beginning of the log, each with where it began."""
+        found = set()
+        for start in self.firsts():
+            for k, l in {end for end, _ in self.rounds(*start)}:
+                if self.of_seat(self.journal[:k]):
+                    found.add((start[0], k))
+        return found
+
+    def begins_pending(self):
+        return any(self.model.pending(self.pasts[i]) != () and self.model.ready(self.pasts[i]) == []
+                   for i, _ in self.first_turns())
+
+    def ends_with_failed_wait(self):
+        return bool(self.log) and self.log[-1:] == [Wait(getattr(self.log[-1], "until", 0), False)] \
+            and self.no_wait_failed(self.log[:-1])
+
+    def no_wait_failed(self, log=None):
+        return not any(isinstance(call, Wait) and not call.woken for call in (self.log if log is None else log))
