@@ -2,6 +2,7 @@
 
 use crate::load::{Load, Spent};
 use chan_types::{Quiet, Spec, Status};
+use channel_journal::ChannelJournal;
 use channel_model::Desk;
 use channel_table::Alone;
 use event_runner::Runner;
@@ -31,9 +32,9 @@ struct Asked {
 }
 
 /// Asks the queries of the load, so many of them at once, each tried once. What is timed is the asking, as of the bare
-/// loop: the channel is made before, and dropped with its journal behind it, which is timed apart.
-pub fn ask(rt: HostRuntime, load: &Load) -> io::Result<Spent> {
-    let asked = ask_over_network(rt, load)?;
+/// loop: the channel is made before, and dropped with its journal, of this kind, behind it, which is timed apart.
+pub fn ask<J: ChannelJournal>(rt: HostRuntime, load: &Load) -> io::Result<Spent> {
+    let asked = ask_over_network::<J>(rt, load)?;
     let dropped = rt.thread_cpu_time()?;
     Ok(Spent {
         answered: asked.answered,
@@ -43,23 +44,23 @@ pub fn ask(rt: HostRuntime, load: &Load) -> io::Result<Spent> {
 }
 
 /// Asks them over the real network, which is dropped behind them.
-fn ask_over_network(rt: HostRuntime, load: &Load) -> io::Result<Asked> {
-    ask_by_runner(rt, &mut SockWorld::make(rt).map_err(no_memory)?, load)
+fn ask_over_network<J: ChannelJournal>(rt: HostRuntime, load: &Load) -> io::Result<Asked> {
+    ask_by_runner::<J>(rt, &mut SockWorld::make(rt).map_err(no_memory)?, load)
 }
 
 /// Asks them by a runner of this network.
-fn ask_by_runner(
+fn ask_by_runner<J: ChannelJournal>(
     rt: HostRuntime,
     world: &mut SockWorld<HostRuntime>,
     load: &Load,
 ) -> io::Result<Asked> {
     let options = options_for(rt.alloc(), load.port).map_err(no_memory)?;
     let runner = Runner::make(rt.alloc(), world, &options).map_err(no_memory);
-    ask_through_channel(rt, options, &mut runner?, world, load)
+    ask_through_channel::<J>(rt, options, &mut runner?, world, load)
 }
 
 /// Asks them through a channel with these options.
-fn ask_through_channel(
+fn ask_through_channel<J: ChannelJournal>(
     rt: HostRuntime,
     options: Options,
     runner: &mut Runner,
@@ -67,7 +68,7 @@ fn ask_through_channel(
     load: &Load,
 ) -> io::Result<Asked> {
     let alloc = rt.alloc();
-    let desk = Alone::make(alloc, options, Hosts::empty(alloc)).map_err(no_memory);
+    let desk = Alone::<Quiet, J>::make(alloc, options, Hosts::empty(alloc)).map_err(no_memory);
     time_asking(rt, &mut desk?, runner, world, load)
 }
 
@@ -94,9 +95,9 @@ fn options_for(alloc: Global, port: u16) -> Result<Options, NoMemory> {
 }
 
 /// Asks them all, and reads the clock before and behind.
-fn time_asking(
+fn time_asking<J: ChannelJournal>(
     rt: HostRuntime,
-    desk: &mut Alone<Quiet>,
+    desk: &mut Alone<Quiet, J>,
     runner: &mut Runner,
     world: &mut SockWorld<HostRuntime>,
     load: &Load,
@@ -111,8 +112,8 @@ fn time_asking(
 }
 
 /// Asks all, and goes on until the last one has ended. Answers how many were answered.
-fn ask_all(
-    desk: &mut Alone<Quiet>,
+fn ask_all<J: ChannelJournal>(
+    desk: &mut Alone<Quiet, J>,
     runner: &mut Runner,
     world: &mut SockWorld<HostRuntime>,
     alloc: Global,
@@ -136,8 +137,8 @@ fn ask_all(
 }
 
 /// Asks as many queries as are in flight at once.
-fn fill(
-    desk: &mut Alone<Quiet>,
+fn fill<J: ChannelJournal>(
+    desk: &mut Alone<Quiet, J>,
     alloc: Global,
     load: &Load,
     tally: &mut Tally,
@@ -149,8 +150,8 @@ fn fill(
 }
 
 /// A further query for each that has its answer, as of the bare loop.
-fn refill(
-    desk: &mut Alone<Quiet>,
+fn refill<J: ChannelJournal>(
+    desk: &mut Alone<Quiet, J>,
     alloc: Global,
     load: &Load,
     tally: &mut Tally,
@@ -165,8 +166,8 @@ fn refill(
 }
 
 /// Asks the next query, unless all were asked.
-fn ask_next(
-    desk: &mut Alone<Quiet>,
+fn ask_next<J: ChannelJournal>(
+    desk: &mut Alone<Quiet, J>,
     alloc: Global,
     load: &Load,
     tally: &mut Tally,
@@ -192,7 +193,7 @@ fn query(alloc: Global) -> Result<Spec, NoMemory> {
 }
 
 /// Takes a ticket, if one is ready, and answers whether one was.
-fn take_next(desk: &mut Alone<Quiet>, tally: &mut Tally) -> bool {
+fn take_next<J: ChannelJournal>(desk: &mut Alone<Quiet, J>, tally: &mut Tally) -> bool {
     let Some(ticket) = desk.take() else {
         return false;
     };

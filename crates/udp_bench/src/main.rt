@@ -1,6 +1,7 @@
 //! What a query over a UDP socket costs through a channel and its runner, beside a bare loop that sends and receives.
 //! `serve PORT` answers what comes to this port of 127.0.0.1 until nothing comes for some seconds. `ask PORT WINDOW COUNT`
-//! sends COUNT queries there, WINDOW of them at once, by the bare loop and then through the channel.
+//! sends COUNT queries there, WINDOW of them at once, by the bare loop and then through the channel, which keeps its journal;
+//! with one more word, as `untold`, it doesn't.
 #![tactic(auto)]
 
 mod bare;
@@ -9,6 +10,7 @@ mod load;
 mod room;
 mod served;
 
+use channel_journal::{ChannelJournal, KeptJournal, UntoldJournal};
 use load::{Load, number};
 use std::{env, io};
 
@@ -24,15 +26,18 @@ fn main(rt: HostRuntime) -> io::Result<()> {
     };
     match task {
         Some(task) if task.as_str() == "serve" => served::serve(&rt, port),
-        Some(task) if task.as_str() == "ask" => ask(rt, &load),
-        _ => println!(rt; "udp_bench serve PORT, udp_bench ask PORT WINDOW COUNT"),
+        Some(task) if task.as_str() == "ask" => match words.next() {
+            None => ask::<KeptJournal>(rt, &load),
+            Some(_) => ask::<UntoldJournal>(rt, &load),
+        },
+        _ => println!(rt; "udp_bench serve PORT, udp_bench ask PORT WINDOW COUNT [untold]"),
     }
 }
 
 /// Asks by the bare loop, then through the channel, and prints what a query cost.
-fn ask(rt: HostRuntime, load: &Load) -> io::Result<()> {
+fn ask<J: ChannelJournal>(rt: HostRuntime, load: &Load) -> io::Result<()> {
     let bare = bare::ask(&rt, load)?;
-    let channel = channel::ask(rt, load)?;
+    let channel = channel::ask::<J>(rt, load)?;
     println!(rt;
         "window {}: the loop {} ns a query, {} lost; the channel {} ns, {} lost; {} percent; {} ns at its end",
         load.window,
