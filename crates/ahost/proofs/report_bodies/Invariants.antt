@@ -1,6 +1,0 @@
-use Rattle.std.specs.Prelude.{All, None, ◌≡◌}
-use Rattle.ahost.proofs.report_bodies.Given as goal
-
--- the bodies so far were told nothing
-abbrev pub invariant-loop-tag : goal.invariant-loop-tag
-invariant-loop-tag l = All (λ body. body.told ≡ None) l.bodies.items
