@@ -1,0 +1,17 @@
+pub mod WordTextLemmas
+pub mod CutLemmas
+pub mod ByteLemmas
+pub mod DigitLemmas
+pub mod AtomLemmas
+pub mod RequestLemmas
+pub mod ScriptLemmas
+pub mod EntryLemmas
+pub mod DarkLemmas
+pub mod WordsLemmas
+pub mod LineLemmas
+pub mod DraftLemmas
+pub mod RunLemmas
+pub mod TextLemmas
+pub mod StepLemmas
+pub mod KeyLemmas
+pub mod PrintedLemmas
