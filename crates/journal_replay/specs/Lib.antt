@@ -1,0 +1,4 @@
+pub mod Checks
+pub mod Fates
+pub mod Kept
+pub mod Replays
