@@ -1,9 +1,21 @@
 //! What no clause says: that the calls succeed with ample memory, and what they answer on examples.
-use super::key;
 use leg_index::{Flights, Links, Waiting};
-use std::alloc::AllocError;
+use std::alloc::{AllocError, Global};
 use std::test::Fail;
 use timeout_queue::Key;
+
+// The letter is the request, and the digit its leg.
+const A0: Key = Key { number: 1, leg: 0 };
+
+const A1: Key = Key { number: 1, leg: 1 };
+
+const B0: Key = Key { number: 2, leg: 0 };
+
+const C0: Key = Key { number: 3, leg: 0 };
+
+const C1: Key = Key { number: 3, leg: 1 };
+
+const D0: Key = Key { number: 4, leg: 0 };
 
 /// A change to the legs in flight.
 #[derive(Clone, Copy)]
@@ -12,82 +24,50 @@ enum Turn {
     End(u16, Option<Key>),
 }
 
-#[test]
-fn identifiers_go_round_and_come_back(rt: HostRuntime) -> Result<(), Fail> {
-    use Turn::{Begin, End};
-    // A change, a random word, and the first free identifier from it upwards.
-    let steps = [
-        (End(7, None), 7, 7),
-        (Begin(7, key(1, 0)), 7, 8),
-        (Begin(8, key(1, 1)), 7, 9),
-        (Begin(65535, key(2, 0)), 65535, 0),
-        (Begin(0, key(3, 0)), 65535, 1),
-        (End(8, Some(key(1, 1))), 7, 8),
-        (End(8, None), 7, 8),
-        (End(7, Some(key(1, 0))), 7, 7),
-        (End(65535, Some(key(2, 0))), 65535, 65535),
-        (End(0, Some(key(3, 0))), 0, 0),
-    ];
-    let mut flights = Flights::make(rt.alloc())?;
-    for (i, (turn, word, first)) in steps.iter().enumerate() {
-        match *turn {
-            Begin(id, leg) => {
-                assert_eq!(rt; flights.leg(id), None, "step {i}");
-                flights.begin(id, leg)?;
-                assert_eq!(rt; flights.leg(id), Some(leg), "step {i}");
-            }
-            End(id, leg) => {
-                assert_eq!(rt; flights.leg(id), leg, "step {i}");
-                assert_eq!(rt; flights.end(id), leg, "step {i}");
-                assert_eq!(rt; flights.leg(id), None, "step {i}");
-            }
+use Turn::{Begin, End};
+
+// Begins or ends the attempt, and tells whether it answered as told.
+fn answers(flights: &mut Flights, turn: Turn) -> Result<bool, AllocError> {
+    match turn {
+        Begin(id, leg) => {
+            flights.begin(id, leg)?;
+            Ok(true)
         }
-        assert_eq!(rt; flights.first_free(*word), Some(*first), "step {i}");
+        End(id, leg) => Ok(flights.end(id) == leg),
     }
-    Ok(())
+}
+
+/// A change, a random word, and the first free identifier from it upwards.
+const ROUND: [(Turn, u16, u16); 10] = [
+    (End(7, None), 7, 7),
+    (Begin(7, A0), 7, 8),
+    (Begin(8, A1), 7, 9),
+    (Begin(65535, B0), 65535, 0),
+    (Begin(0, C0), 65535, 1),
+    (End(8, Some(A1)), 7, 8),
+    (End(8, None), 7, 8),
+    (End(7, Some(A0)), 7, 7),
+    (End(65535, Some(B0)), 65535, 65535),
+    (End(0, Some(C0)), 0, 0),
+];
+
+// Begins or ends the attempt, and tells whether it answered as told, and the identifier's leg ahead of it and behind it is
+// what it should be.
+fn changes(flights: &mut Flights, turn: Turn) -> Result<bool, AllocError> {
+    let (id, ahead, behind) = match turn {
+        Begin(id, leg) => (id, None, Some(leg)),
+        End(id, leg) => (id, leg, None),
+    };
+    Ok(flights.leg(id) == ahead && answers(flights, turn)? && flights.leg(id) == behind)
 }
 
 #[test]
-fn legs_end_in_order_and_out_of_order(rt: HostRuntime) -> Result<(), Fail> {
-    use Turn::{Begin, End};
-    // Four legs begin, of which the first ends first and the last second. Then two identifiers begin again behind their
-    // ends, and legs end out of the order in which they began. At the end one begins again while it is in use. Beside
-    // each change stand those in flight.
-    let (a, b, c, d, e) = (key(1, 0), key(2, 0), key(3, 0), key(3, 1), key(4, 0));
-    let steps: [(Turn, &[(u16, Key)]); 14] = [
-        (Begin(9, a), &[(9, a)]),
-        (Begin(4, b), &[(9, a), (4, b)]),
-        (Begin(6, c), &[(9, a), (4, b), (6, c)]),
-        (Begin(2, d), &[(9, a), (4, b), (6, c), (2, d)]),
-        (End(9, Some(a)), &[(4, b), (6, c), (2, d)]),
-        (End(2, Some(d)), &[(4, b), (6, c)]),
-        (Begin(9, e), &[(4, b), (6, c), (9, e)]),
-        (Begin(2, a), &[(4, b), (6, c), (9, e), (2, a)]),
-        (End(6, Some(c)), &[(4, b), (9, e), (2, a)]),
-        (Begin(6, d), &[(4, b), (9, e), (2, a), (6, d)]),
-        (End(6, Some(d)), &[(4, b), (9, e), (2, a)]),
-        (End(6, None), &[(4, b), (9, e), (2, a)]),
-        (End(2, Some(a)), &[(4, b), (9, e)]),
-        (End(4, Some(b)), &[(9, e)]),
-    ];
+fn identifiers_go_round_and_come_back(rt: HostRuntime) -> Result<(), Fail> {
     let mut flights = Flights::make(rt.alloc())?;
-    for (i, (turn, stand)) in steps.iter().enumerate() {
-        match *turn {
-            Begin(id, leg) => flights.begin(id, leg)?,
-            End(id, leg) => assert_eq!(rt; flights.end(id), leg, "step {i}"),
-        }
-        for id in 0..12 {
-            assert_eq!(rt;
-                flights.leg(id),
-                leg_at(stand, id),
-                "step {i}, identifier {id}"
-            );
-        }
+    for (turn, word, first) in ROUND.iter() {
+        assert!(rt; changes(&mut flights, *turn)?);
+        assert_eq!(rt; flights.first_free(*word), Some(*first));
     }
-    flights.begin(9, b)?;
-    assert_eq!(rt; flights.leg(9), Some(b));
-    assert_eq!(rt; flights.end(9), Some(b));
-    assert_eq!(rt; flights.leg(9), None);
     Ok(())
 }
 
@@ -101,126 +81,168 @@ fn leg_at(stand: &[(u16, Key)], id: u16) -> Option<Key> {
     None
 }
 
-// Begins or ends the attempt, and tells whether it answered as told.
-fn answers(flights: &mut Flights, turn: Turn) -> Result<bool, AllocError> {
-    match turn {
-        Turn::Begin(id, leg) => {
-            flights.begin(id, leg)?;
-            Ok(true)
-        }
-        Turn::End(id, leg) => Ok(flights.end(id) == leg),
-    }
-}
-
 // Whether each identifier below 12 has the leg that the table has.
 fn stands(flights: &Flights, stand: &[(u16, Key)]) -> bool {
     (0..12).all(|id: u16| flights.leg(id) == leg_at(stand, id))
 }
 
+/// Four legs begin, of which the first ends first and the last second. Then two identifiers begin again behind their ends,
+/// and legs end out of the order in which they began. Beside each change stand those in flight.
+const ORDERS: [(Turn, &[(u16, Key)]); 14] = [
+    (Begin(9, A0), &[(9, A0)]),
+    (Begin(4, B0), &[(9, A0), (4, B0)]),
+    (Begin(6, C0), &[(9, A0), (4, B0), (6, C0)]),
+    (Begin(2, C1), &[(9, A0), (4, B0), (6, C0), (2, C1)]),
+    (End(9, Some(A0)), &[(4, B0), (6, C0), (2, C1)]),
+    (End(2, Some(C1)), &[(4, B0), (6, C0)]),
+    (Begin(9, D0), &[(4, B0), (6, C0), (9, D0)]),
+    (Begin(2, A0), &[(4, B0), (6, C0), (9, D0), (2, A0)]),
+    (End(6, Some(C0)), &[(4, B0), (9, D0), (2, A0)]),
+    (Begin(6, C1), &[(4, B0), (9, D0), (2, A0), (6, C1)]),
+    (End(6, Some(C1)), &[(4, B0), (9, D0), (2, A0)]),
+    (End(6, None), &[(4, B0), (9, D0), (2, A0)]),
+    (End(2, Some(A0)), &[(4, B0), (9, D0)]),
+    (End(4, Some(B0)), &[(9, D0)]),
+];
+
+// At the end an identifier begins again while it is in use.
+#[test]
+fn legs_end_in_order_and_out_of_order(rt: HostRuntime) -> Result<(), Fail> {
+    let mut flights = Flights::make(rt.alloc())?;
+    for (turn, stand) in ORDERS.iter() {
+        assert!(rt; answers(&mut flights, *turn)?);
+        assert!(rt; stands(&flights, *stand));
+    }
+    flights.begin(9, B0)?;
+    assert_eq!(rt; flights.leg(9), Some(B0));
+    assert_eq!(rt; flights.end(9), Some(B0));
+    assert_eq!(rt; flights.leg(9), None);
+    Ok(())
+}
+
+/// Changes, and the legs in flight behind them. `index_all` is called behind each row, and leaves them as they are.
+const INDEXED: [(&[Turn], &[(u16, Key)]); 6] = [
+    (&[], &[]),
+    // Five begin, and two of them end in order.
+    (
+        &[
+            Begin(9, A0),
+            Begin(4, B0),
+            Begin(6, C0),
+            Begin(2, C1),
+            Begin(7, D0),
+            End(9, Some(A0)),
+            End(4, Some(B0)),
+        ],
+        &[(6, C0), (2, C1), (7, D0)],
+    ),
+    // Where all are in the map already, nothing is left to put there.
+    (&[], &[(6, C0), (2, C1), (7, D0)]),
+    // One of the map ends out of order, and two begin behind it, one with the identifier of an earlier attempt.
+    (
+        &[End(2, Some(C1)), End(2, None), Begin(9, B0), Begin(11, A0)],
+        &[(6, C0), (7, D0), (9, B0), (11, A0)],
+    ),
+    // A leg in the map gives its identifier to another, and one that isn't there yet does too.
+    (
+        &[
+            Begin(7, C1),
+            Begin(5, D0),
+            Begin(3, C0),
+            Begin(3, B0),
+            End(11, Some(A0)),
+        ],
+        &[(6, C0), (7, C1), (9, B0), (5, D0), (3, B0)],
+    ),
+    // All end, the last ones first.
+    (
+        &[
+            End(3, Some(B0)),
+            End(5, Some(D0)),
+            End(9, Some(B0)),
+            End(7, Some(C1)),
+            End(6, Some(C0)),
+            End(6, None),
+        ],
+        &[],
+    ),
+];
+
+// Whether each of these changes answers as told.
+fn all_answer(flights: &mut Flights, turns: &[Turn]) -> Result<bool, AllocError> {
+    for turn in turns.iter() {
+        if !answers(flights, *turn)? {
+            return Ok(false);
+        }
+    }
+    Ok(true)
+}
+
 #[test]
 fn legs_that_an_index_leaves(rt: HostRuntime) -> Result<(), Fail> {
-    use Turn::{Begin, End};
-    let (a, b, c, d, e) = (key(1, 0), key(2, 0), key(3, 0), key(3, 1), key(4, 0));
-    // Changes, and the legs in flight behind them. `index_all` is called behind each row, and leaves them as they are.
-    let rows: [(&[Turn], &[(u16, Key)]); 6] = [
-        (&[], &[]),
-        // Five begin, and two of them end in order.
-        (
-            &[
-                Begin(9, a),
-                Begin(4, b),
-                Begin(6, c),
-                Begin(2, d),
-                Begin(7, e),
-                End(9, Some(a)),
-                End(4, Some(b)),
-            ],
-            &[(6, c), (2, d), (7, e)],
-        ),
-        // Where all are in the map already, nothing is left to put there.
-        (&[], &[(6, c), (2, d), (7, e)]),
-        // One of the map ends out of order, and two begin behind it, one with the identifier of an earlier attempt.
-        (
-            &[End(2, Some(d)), End(2, None), Begin(9, b), Begin(11, a)],
-            &[(6, c), (7, e), (9, b), (11, a)],
-        ),
-        // A leg in the map gives its identifier to another, and one that isn't there yet does too.
-        (
-            &[
-                Begin(7, d),
-                Begin(5, e),
-                Begin(3, c),
-                Begin(3, b),
-                End(11, Some(a)),
-            ],
-            &[(6, c), (7, d), (9, b), (5, e), (3, b)],
-        ),
-        // All end, the last ones first.
-        (
-            &[
-                End(3, Some(b)),
-                End(5, Some(e)),
-                End(9, Some(b)),
-                End(7, Some(d)),
-                End(6, Some(c)),
-                End(6, None),
-            ],
-            &[],
-        ),
-    ];
     let mut flights = Flights::make(rt.alloc())?;
-    for (i, (turns, stand)) in rows.iter().enumerate() {
-        for turn in turns.iter() {
-            assert!(rt; answers(&mut flights, *turn)?, "row {i}");
-        }
-        assert!(rt; stands(&flights, *stand), "row {i}");
+    for (turns, stand) in INDEXED.iter() {
+        assert!(rt; all_answer(&mut flights, *turns)?);
+        assert!(rt; stands(&flights, *stand));
         flights.index_all();
-        assert!(rt; stands(&flights, *stand), "behind the index of row {i}");
+        assert!(rt; stands(&flights, *stand));
     }
     Ok(())
 }
 
+/// The number and leg of legs that come, of which some were there before.
+const COME: [(u64, u8); 10] = [
+    (1, 0),
+    (2, 0),
+    (2, 1),
+    (5, 0),
+    (2, 2),
+    (1, 1),
+    (1, 1),
+    (9, 0),
+    (3, 255),
+    (9, 0),
+];
+
+/// In which order they leave: those that leave are always the first.
+const LEAVE: [(u64, u8); 8] = [
+    (1, 0),
+    (1, 1),
+    (2, 0),
+    (2, 1),
+    (2, 2),
+    (3, 255),
+    (5, 0),
+    (9, 0),
+];
+
 #[test]
 fn a_leg_that_waits_again_goes_ahead_of_later_requests(rt: HostRuntime) -> Result<(), Fail> {
-    // Legs come, of which some were there before; those that leave are always the first.
-    let come = [
-        key(1, 0),
-        key(2, 0),
-        key(2, 1),
-        key(5, 0),
-        key(2, 2),
-        key(1, 1),
-        key(1, 1),
-        key(9, 0),
-        key(3, 255),
-        key(9, 0),
-    ];
-    let leave = [
-        key(1, 0),
-        key(1, 1),
-        key(2, 0),
-        key(2, 1),
-        key(2, 2),
-        key(3, 255),
-        key(5, 0),
-        key(9, 0),
-    ];
     let mut waiting = Waiting::make(rt.alloc());
     assert_eq!(rt; waiting.first(), None);
-    for leg in come {
-        waiting.put(leg)?;
-        assert_eq!(rt; waiting.first(), Some(key(1, 0)));
+    for (number, leg) in COME.iter() {
+        waiting.put(Key {
+            number: *number,
+            leg: *leg,
+        })?;
+        assert!(rt; waiting.first() == Some(A0));
     }
-    for leg in leave {
+    for (number, leg) in LEAVE.iter() {
         let first = waiting.first();
-        assert_eq!(rt; first, Some(leg));
+        assert!(rt;
+            first
+                == Some(Key {
+                    number: *number,
+                    leg: *leg
+                })
+        );
         if let Some(first) = first {
             waiting.drop_first(first);
         }
     }
     assert_eq!(rt; waiting.first(), None);
-    waiting.put(key(4, 0))?;
-    waiting.put(key(3, 0))?;
+    waiting.put(D0)?;
+    waiting.put(C0)?;
     waiting.clear();
     assert_eq!(rt; waiting.first(), None);
     Ok(())
@@ -236,42 +258,46 @@ fn a_link_is_busy_until_its_last_leg_ends(rt: HostRuntime) -> Result<(), Fail> {
     links.begin(1, 3, 9)?;
     assert!(rt; links.is_busy(0, 0) && links.is_busy(1, 3));
     assert!(rt; !links.is_busy(1, 0) && !links.is_busy(0, 3) && !links.is_busy(3, 1));
-    assert_eq!(rt; links.over_tcp(0), None);
-    assert_eq!(rt; links.over_tcp(1), Some(3));
+    assert!(rt; links.over_tcp(0) == None && links.over_tcp(1) == Some(3));
     links.end(0, 0, 7);
     links.end(1, 3, 9);
     assert!(rt; !links.is_busy(0, 0) && links.is_busy(1, 3));
     links.end(1, 3, 8);
-    assert!(rt; !links.is_busy(1, 3));
-    assert_eq!(rt; links.over_tcp(1), None);
+    assert!(rt; !links.is_busy(1, 3) && links.over_tcp(1) == None);
     Ok(())
+}
+
+// Whether a link has these identifiers.
+fn has_ids(
+    alloc: Global,
+    links: &Links,
+    server: u32,
+    link: u64,
+    ids: &[u16],
+) -> Result<bool, Fail> {
+    Ok(links.ids(alloc, server, link)?.as_slice() == ids)
 }
 
 #[test]
 fn a_link_tells_the_identifiers_of_its_attempts(rt: HostRuntime) -> Result<(), Fail> {
-    let mut links = Links::make(rt.alloc());
+    let alloc = rt.alloc();
+    let mut links = Links::make(alloc);
     links.begin(0, 0, 65535)?;
     links.begin(0, 0, 64)?;
     links.begin(0, 0, 0)?;
     links.begin(0, 0, 63)?;
     links.begin(1, 3, 5)?;
-    assert_eq!(rt;
-        links.ids(rt.alloc(), 0, 0)?.as_slice(),
-        [0, 63, 64, 65535].as_slice()
-    );
-    assert_eq!(rt; links.ids(rt.alloc(), 1, 3)?.as_slice(), [5].as_slice());
-    assert_eq!(rt; links.count(0, 0), 4);
+    assert!(rt; has_ids(alloc, &links, 0, 0, &[0, 63, 64, 65535])?);
+    assert!(rt; has_ids(alloc, &links, 1, 3, &[5])?);
+    assert!(rt; links.count(0, 0) == 4);
     links.end(0, 0, 63);
     links.end(1, 3, 5);
-    assert_eq!(rt;
-        links.ids(rt.alloc(), 0, 0)?.as_slice(),
-        [0, 64, 65535].as_slice()
-    );
-    assert!(rt; links.ids(rt.alloc(), 1, 3)?.is_empty());
-    assert_eq!(rt; links.count(0, 0), 3);
+    assert!(rt; has_ids(alloc, &links, 0, 0, &[0, 64, 65535])?);
+    assert!(rt; has_ids(alloc, &links, 1, 3, &[])?);
+    assert!(rt; links.count(0, 0) == 3);
     // A later link takes the place of the one that is done.
     links.begin(1, 4, 6)?;
-    assert!(rt; links.ids(rt.alloc(), 1, 3)?.is_empty());
-    assert_eq!(rt; links.ids(rt.alloc(), 1, 4)?.as_slice(), [6].as_slice());
+    assert!(rt; has_ids(alloc, &links, 1, 3, &[])?);
+    assert!(rt; has_ids(alloc, &links, 1, 4, &[6])?);
     Ok(())
 }

@@ -1,0 +1,3 @@
+pub mod Cookie
+pub mod Judging
+pub mod Reply
