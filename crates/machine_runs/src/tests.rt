@@ -1,4 +1,7 @@
 //! Outside examples, and each call that may take memory with ample memory.
+//!
+//! An assertion in a loop over rows has no message, which would take a third of the proof. A row that fails is found by
+//! leaving out the rows behind it.
 
 mod addresses;
 mod legs;

@@ -1,4 +1,7 @@
 //! Examples from outside, as tables: a test hands each row to a function of its own, so that proofs stay small.
+//!
+//! An assertion in a loop over rows has no message, which would take a third of the proof. A row that fails is found by
+//! leaving out the rows behind it.
 mod asked_names;
 mod messages;
 mod mixing;

@@ -8,8 +8,3 @@ mod room;
 mod sockets;
 
 pub use real_listener::RealListener;
-
-#[cfg(test)]
-mod tests;
-#[cfg(test)]
-mod turn_tests;

@@ -116,15 +116,13 @@ fn each_kind_of_bad_line(rt: HostRuntime) -> Result<(), Fail> {
         bad_line(rt.alloc(), text_of(rt.alloc(), &GOOD)?.as_slice())?,
         0
     );
-    for (at, line, bad) in REPLACED {
+    for (at, line, bad) in REPLACED.iter() {
         let mut lines = GOOD;
-        if at < 8 {
-            lines[at] = line;
+        if *at < 8 {
+            lines[*at] = *line;
         }
-        assert_eq!(rt;
-            bad_line(rt.alloc(), text_of(rt.alloc(), &lines)?.as_slice())?,
-            bad
-        );
+        let text = text_of(rt.alloc(), &lines)?;
+        assert!(rt; bad_line(rt.alloc(), text.as_slice())? == *bad);
     }
     Ok(())
 }

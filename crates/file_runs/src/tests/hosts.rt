@@ -31,26 +31,24 @@ fn found(alloc: Global, hosts: &Hosts, name: &str, family: Family) -> Result<Vec
     Ok(texts)
 }
 
-/// By hand after hosts(5).
+/// A name, which addresses are asked, and what the file says, by hand after hosts(5).
+const NAMES: [(&str, Family, &str); 8] = [
+    ("localhost", Family::Any, "127.0.0.1 ::1 localhost."),
+    ("LocalHost.", Family::V6, "::1 ip6-localhost."),
+    ("box", Family::Any, "127.0.1.1 192.0.2.1 box."),
+    ("www.test", Family::Any, "192.0.2.1 2001:db8::1 Www.Test."),
+    ("WWW.TEST", Family::V6, "2001:db8::1 www.test."),
+    ("fox", Family::V4, "192.0.2.3 fox."),
+    ("ip6-loopback", Family::V4, ""),
+    ("old", Family::Any, ""),
+];
+
 #[test]
 fn names_have_addresses(rt: HostRuntime) -> Result<(), Fail> {
     let alloc = rt.alloc();
     let hosts = Hosts::read(alloc, FILE)?;
-    for (name, family, texts) in [
-        ("localhost", Family::Any, "127.0.0.1 ::1 localhost."),
-        ("LocalHost.", Family::V6, "::1 ip6-localhost."),
-        ("box", Family::Any, "127.0.1.1 192.0.2.1 box."),
-        ("www.test", Family::Any, "192.0.2.1 2001:db8::1 Www.Test."),
-        ("WWW.TEST", Family::V6, "2001:db8::1 www.test."),
-        ("fox", Family::V4, "192.0.2.3 fox."),
-        ("ip6-loopback", Family::V4, ""),
-        ("old", Family::Any, ""),
-    ] {
-        assert_eq!(rt;
-            found(alloc, &hosts, name, family)?.as_slice(),
-            texts.as_bytes(),
-            "at {name}"
-        );
+    for (name, family, texts) in NAMES.iter() {
+        assert!(rt; found(alloc, &hosts, name, *family)?.as_slice() == texts.as_bytes());
     }
     Ok(())
 }
@@ -72,27 +70,25 @@ fn large_file(alloc: Global) -> Result<Vec<u8>, Fail> {
     Ok(text)
 }
 
-/// By hand after hosts(5): names of the first line, of one in the middle and of the last, in other cases too, a name of three
-/// lines, and one of none.
+/// A name and what that file says, by hand after hosts(5): names of the first line, of one in the middle and of the last, in
+/// other cases too, a name of three lines, and one of none.
+const LARGE: [(&str, &str); 8] = [
+    ("host0", "2001:db8:: host0."),
+    ("ALSO0", "2001:db8:: host0."),
+    ("Host9999", "2001:db8::9999 host9999."),
+    ("also10000", "2001:db8:1:: host10000."),
+    ("host19999", "2001:db8:1::9999 host19999."),
+    ("Also19999", "2001:db8:1::9999 host19999."),
+    ("Pair", "2001:db8::7 2001:db8::9999 2001:db8:1::9990 host7."),
+    ("host20000", ""),
+];
+
 #[test]
 fn names_of_a_large_file_have_addresses(rt: HostRuntime) -> Result<(), Fail> {
     let alloc = rt.alloc();
     let hosts = Hosts::read(alloc, large_file(alloc)?.as_slice())?;
-    for (name, texts) in [
-        ("host0", "2001:db8:: host0."),
-        ("ALSO0", "2001:db8:: host0."),
-        ("Host9999", "2001:db8::9999 host9999."),
-        ("also10000", "2001:db8:1:: host10000."),
-        ("host19999", "2001:db8:1::9999 host19999."),
-        ("Also19999", "2001:db8:1::9999 host19999."),
-        ("Pair", "2001:db8::7 2001:db8::9999 2001:db8:1::9990 host7."),
-        ("host20000", ""),
-    ] {
-        assert_eq!(rt;
-            found(alloc, &hosts, name, Family::Any)?.as_slice(),
-            texts.as_bytes(),
-            "at {name}"
-        );
+    for (name, texts) in LARGE.iter() {
+        assert!(rt; found(alloc, &hosts, name, Family::Any)?.as_slice() == texts.as_bytes());
     }
     Ok(())
 }

@@ -26,23 +26,29 @@ fn a_text_has_lines(rt: HostRuntime) -> Result<(), Fail> {
     Ok(())
 }
 
+/// A line, its words, and those before a comment.
+const WORDS: [(&str, &str, &str); 5] = [
+    ("  a\tb  c\r", "a|b|c|", "a|b|c|"),
+    ("a #b c", "a|#b|c|", "a|"),
+    ("a b#c ;d", "a|b#c|;d|", "a|b#c|"),
+    (";a", ";a|", ""),
+    ("", "", ""),
+];
+
+/// Whether a line has these words, and these before a comment.
+fn has_words(alloc: Global, line: &str, all: &str, kept: &str) -> Result<bool, Fail> {
+    let found = words_in(alloc, line.as_bytes())?;
+    let before = words_before_comment(alloc, line.as_bytes())?;
+    Ok(
+        joined(alloc, found.as_slice())?.as_slice() == all.as_bytes()
+            && joined(alloc, before.as_slice())?.as_slice() == kept.as_bytes(),
+    )
+}
+
 #[test]
 fn a_line_has_words(rt: HostRuntime) -> Result<(), Fail> {
-    let alloc = rt.alloc();
-    for (line, all, kept) in [
-        ("  a\tb  c\r", "a|b|c|", "a|b|c|"),
-        ("a #b c", "a|#b|c|", "a|"),
-        ("a b#c ;d", "a|b#c|;d|", "a|b#c|"),
-        (";a", ";a|", ""),
-        ("", "", ""),
-    ] {
-        let found = words_in(alloc, line.as_bytes())?;
-        assert_eq!(rt; joined(alloc, found.as_slice())?.as_slice(), all.as_bytes());
-        let found = words_before_comment(alloc, line.as_bytes())?;
-        assert_eq!(rt;
-            joined(alloc, found.as_slice())?.as_slice(),
-            kept.as_bytes()
-        );
+    for (line, all, kept) in WORDS.iter() {
+        assert!(rt; has_words(rt.alloc(), line, all, kept)?);
     }
     assert_eq!(rt; before_comment(b"a b#c ;d"), b"a b".as_slice());
     Ok(())
@@ -61,8 +67,8 @@ const NO_NAMES: [&[u8]; 4] = [
 fn words_are_names(rt: HostRuntime) -> Result<(), Fail> {
     let alloc = rt.alloc();
     assert!(rt; read_name(alloc, b"B.")?.is_some());
-    for word in NO_NAMES {
-        assert!(rt; read_name(alloc, word)?.is_none());
+    for word in NO_NAMES.iter() {
+        assert!(rt; read_name(alloc, *word)?.is_none());
     }
     let names = read_names(
         alloc,

@@ -95,7 +95,7 @@ fn is_searched(alloc: Global, row: &Search) -> Result<bool, Fail> {
 #[test]
 fn names_are_searched_in_order(rt: HostRuntime) -> Result<(), Fail> {
     for row in SEARCHES {
-        assert!(rt; is_searched(rt.alloc(), row)?, "at {}", row.0);
+        assert!(rt; is_searched(rt.alloc(), row)?);
     }
     Ok(())
 }
@@ -268,7 +268,7 @@ const FILES: &[(&str, &str)] = &[
 #[test]
 fn files_name_servers_and_domains(rt: HostRuntime) -> Result<(), Fail> {
     for (resolv, texts) in FILES {
-        assert!(rt; finds(rt.alloc(), resolv, texts)?, "at {resolv}");
+        assert!(rt; finds(rt.alloc(), resolv, texts)?);
     }
     Ok(())
 }
@@ -312,7 +312,7 @@ fn sets(alloc: Global, setting: &Setting) -> Result<bool, ResolvFault> {
 #[test]
 fn files_set_numbers_and_switches(rt: HostRuntime) -> Result<(), Fail> {
     for setting in SETTINGS {
-        assert!(rt; sets(rt.alloc(), setting)?, "at {}", setting.0);
+        assert!(rt; sets(rt.alloc(), setting)?);
     }
     Ok(())
 }

@@ -32,7 +32,7 @@ fn behind(leg: Leg, step: Step) -> Option<Leg> {
 /// What happens to a leg over UDP with an OPT record, and how it is then: its spent attempts, whether it asks over TCP and
 /// with an OPT record, the server that its next attempt has to go to, the one that its attempt went to, and its end. By hand
 /// after this project's profile.
-type Walk = &'static [(
+type Row = (
     Step,
     u32,
     bool,
@@ -40,9 +40,9 @@ type Walk = &'static [(
     Option<u32>,
     Option<u32>,
     Option<Status>,
-)];
+);
 
-const WALKS: [Walk; 5] = [
+const WALKS: [&[Row]; 5] = [
     &[
         (Step::Start(0), 0, false, true, None, Some(0), None),
         (Step::Expire, 1, false, true, None, None, None),
@@ -144,24 +144,33 @@ const WALKS: [Walk; 5] = [
     ],
 ];
 
+/// The server that the leg's attempt went to, if one is in flight.
+fn flies_to(leg: &Leg) -> Option<u32> {
+    match leg.phase {
+        Phase::InFlight(flying) => Some(flying.server),
+        Phase::Waiting | Phase::Ended(_) => None,
+    }
+}
+
+/// Whether the leg is as the row says.
+fn is_as_told(leg: &Leg, row: &Row) -> bool {
+    let (_, spent, over_tcp, has_opt, forced, server, ended) = *row;
+    leg.spent == spent
+        && leg.over_tcp == over_tcp
+        && leg.has_opt == has_opt
+        && leg.forced == forced
+        && leg.ended() == ended
+        && flies_to(leg) == server
+}
+
 #[test]
 fn legs_walk_to_their_ends(rt: HostRuntime) -> Result<(), Fail> {
     let options = Options::plain(rt.alloc())?;
-    for walk in WALKS {
+    for walk in WALKS.iter() {
         let mut leg = Leg::new(&options);
-        for (step, spent, over_tcp, has_opt, forced, flies_to, ended) in walk {
-            leg = behind(leg, *step).ok_or("a step that the phase doesn't allow")?;
-            assert_eq!(rt;
-                (leg.spent, leg.over_tcp, leg.has_opt),
-                (*spent, *over_tcp, *has_opt)
-            );
-            assert_eq!(rt; leg.forced, *forced);
-            assert_eq!(rt; leg.ended(), *ended);
-            let flies = match leg.phase {
-                Phase::InFlight(flying) => Some(flying.server),
-                Phase::Waiting | Phase::Ended(_) => None,
-            };
-            assert_eq!(rt; flies, *flies_to);
+        for row in walk.iter() {
+            leg = behind(leg, row.0).ok_or("a step that the phase doesn't allow")?;
+            assert!(rt; is_as_told(&leg, row));
         }
     }
     Ok(())

@@ -28,9 +28,9 @@ const QUERIES: [(bool, Option<u16>, &[u8]); 3] = [
 fn queries_have_their_bytes(rt: HostRuntime) -> Result<(), Fail> {
     let alloc = rt.alloc();
     let asked = address_of_example(alloc)?;
-    for (norecurse, edns, bytes) in QUERIES {
-        let query = query_bytes(alloc, &asked, 0x1234, norecurse, edns)?;
-        assert_eq!(rt; query.as_slice(), bytes);
+    for (norecurse, edns, bytes) in QUERIES.iter() {
+        let query = query_bytes(alloc, &asked, 0x1234, *norecurse, *edns)?;
+        assert!(rt; query.as_slice() == *bytes);
     }
     Ok(())
 }

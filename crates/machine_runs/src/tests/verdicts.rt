@@ -73,12 +73,10 @@ fn rules_are_tried_in_order(rt: HostRuntime) -> Result<(), Fail> {
     let alloc = rt.alloc();
     let asked = address_of_example(alloc)?;
     let terms = plain_terms(alloc)?;
-    for (bits, extended, judged) in OVER_UDP {
-        let reply = reply_of(alloc, bits, extended, None)?;
-        assert!(rt;
-            judged_twice(alloc, reply.as_slice(), &asked, false, terms)? == [Some(judged); 2],
-            "at {bits} {extended:?}"
-        );
+    for (bits, extended, judged) in OVER_UDP.iter() {
+        let reply = reply_of(alloc, *bits, *extended, None)?;
+        let found = judged_twice(alloc, reply.as_slice(), &asked, false, terms)?;
+        assert!(rt; found == [Some(*judged); 2]);
     }
     Ok(())
 }
@@ -152,7 +150,8 @@ fn flags_and_transport_change_a_verdict(rt: HostRuntime) -> Result<(), Fail> {
     let alloc = rt.alloc();
     let asked = address_of_example(alloc)?;
     let plain = plain_terms(alloc)?;
-    for (bits, tcp, edns, igntc, nocheckresp, judged) in OTHERWISE {
+    for row in OTHERWISE.iter() {
+        let (bits, tcp, edns, igntc, nocheckresp, judged) = *row;
         let reply = reply_of(alloc, bits, None, None)?;
         let flags = Flags {
             igntc,
@@ -165,32 +164,35 @@ fn flags_and_transport_change_a_verdict(rt: HostRuntime) -> Result<(), Fail> {
             edns,
             wanted: None,
         };
-        assert!(rt;
-            judged_twice(alloc, reply.as_slice(), &asked, false, terms)? == [Some(judged); 2],
-            "at {bits}"
-        );
+        let found = judged_twice(alloc, reply.as_slice(), &asked, false, terms)?;
+        assert!(rt; found == [Some(judged); 2]);
     }
     Ok(())
 }
 
-// A CNAME (kind 5), an IPv4 address (1) and one of another class (3, CHAOS), where IPv4 addresses are wanted or any answer
-// will do: RFC 1035, sections 3.2.2 and 3.2.4.
+/// A record's kind and class, which kind is wanted if one is, and the status: a CNAME (kind 5), an IPv4 address (1) and one of
+/// another class (3, CHAOS), where IPv4 addresses are wanted or any answer will do (RFC 1035, sections 3.2.2 and 3.2.4).
+const WANTED: [((u8, u8), Option<u16>, Status); 5] = [
+    ((5, 1), None, Status::Success),
+    ((5, 1), Some(1), Status::NoData),
+    ((1, 1), Some(1), Status::Success),
+    ((1, 3), Some(1), Status::NoData),
+    ((1, 3), None, Status::Success),
+];
+
 #[test]
 fn an_address_leg_wants_its_kind(rt: HostRuntime) -> Result<(), Fail> {
     let alloc = rt.alloc();
     let asked = address_of_example(alloc)?;
     let plain = plain_terms(alloc)?;
-    for (answer, wanted, status) in [
-        ((5, 1), None, Status::Success),
-        ((5, 1), Some(1), Status::NoData),
-        ((1, 1), Some(1), Status::Success),
-        ((1, 3), Some(1), Status::NoData),
-        ((1, 3), None, Status::Success),
-    ] {
-        let reply = reply_of(alloc, 0x8180, None, Some(answer))?;
-        let terms = Terms { wanted, ..plain };
+    for (answer, wanted, status) in WANTED.iter() {
+        let reply = reply_of(alloc, 0x8180, None, Some(*answer))?;
+        let terms = Terms {
+            wanted: *wanted,
+            ..plain
+        };
         let found = judged_twice(alloc, reply.as_slice(), &asked, false, terms)?;
-        assert!(rt; found == [Some(Judged::Final(status)); 2]);
+        assert!(rt; found == [Some(Judged::Final(*status)); 2]);
     }
     Ok(())
 }

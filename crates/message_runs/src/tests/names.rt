@@ -1,7 +1,6 @@
 //! Names: their texts, the first faults of texts and labels, and names beside names.
 use dns_message::{Name, NameFault};
 use std::alloc::Global;
-use std::process::Abort;
 use std::test::Fail;
 
 /// A text, the name as it is printed, and whether the text ends with a dot.
@@ -24,32 +23,24 @@ const NO_NAMES: [(&[u8], NameFault); 7] = [
     (b"\\1a2", NameFault::BadEscape(0)),
 ];
 
-/// The text is a name that is printed so.
-fn is_printed(
-    rt: &impl Abort,
-    alloc: Global,
-    text: &[u8],
-    printed: &[u8],
-    absolute: bool,
-) -> Result<(), Fail> {
+/// Whether the text is a name that is printed so.
+fn is_printed(alloc: Global, text: &[u8], printed: &[u8], absolute: bool) -> Result<bool, Fail> {
     let found = Name::from_text(alloc, text)?;
-    assert_eq!(rt; found.absolute, absolute);
-    assert_eq!(rt; found.name.to_text(alloc)?.as_slice(), printed);
-    Ok(())
+    Ok(found.absolute == absolute && found.name.to_text(alloc)?.as_slice() == printed)
 }
 
 #[test]
 fn texts_of_names(rt: HostRuntime) -> Result<(), Fail> {
-    for (text, printed, absolute) in TEXTS {
-        is_printed(&rt, rt.alloc(), text, printed, absolute)?;
+    for (text, printed, absolute) in TEXTS.iter() {
+        assert!(rt; is_printed(rt.alloc(), *text, *printed, *absolute)?);
     }
     Ok(())
 }
 
 #[test]
 fn texts_of_no_names(rt: HostRuntime) {
-    for (text, fault) in NO_NAMES {
-        assert!(rt; Name::from_text(rt.alloc(), text).err() == Some(fault));
+    for (text, fault) in NO_NAMES.iter() {
+        assert!(rt; Name::from_text(rt.alloc(), *text).err() == Some(*fault));
     }
 }
 
@@ -79,23 +70,21 @@ const LENGTHS: [(&[u8], &[u8], Option<NameFault>); 7] = [
     (&[63, 63, 63, 62], b"..", Some(NameFault::LongName(192))),
 ];
 
-/// The text of such labels and a suffix has this first fault, or none.
+/// Whether the text of such labels and a suffix has this first fault, or none.
 fn text_has(
-    rt: &impl Abort,
     alloc: Global,
     lengths: &[u8],
     suffix: &[u8],
     fault: Option<NameFault>,
-) -> Result<(), Fail> {
+) -> Result<bool, Fail> {
     let text = long_text(alloc, lengths, suffix)?;
-    assert!(rt; Name::from_text(alloc, text.as_slice()).err() == fault);
-    Ok(())
+    Ok(Name::from_text(alloc, text.as_slice()).err() == fault)
 }
 
 #[test]
 fn longest_texts(rt: HostRuntime) -> Result<(), Fail> {
-    for (lengths, suffix, fault) in LENGTHS {
-        text_has(&rt, rt.alloc(), lengths, suffix, fault)?;
+    for (lengths, suffix, fault) in LENGTHS.iter() {
+        assert!(rt; text_has(rt.alloc(), *lengths, *suffix, *fault)?);
     }
     Ok(())
 }
@@ -118,9 +107,9 @@ fn label_of(len: usize) -> &'static [u8] {
 
 #[test]
 fn longest_labels(rt: HostRuntime) {
-    for ([a, b, c, d], fault) in LABELS {
-        let labels = [label_of(a), label_of(b), label_of(c), label_of(d)];
-        assert!(rt; Name::from_labels(rt.alloc(), &labels).err() == fault);
+    for ([a, b, c, d], fault) in LABELS.iter() {
+        let labels = [label_of(*a), label_of(*b), label_of(*c), label_of(*d)];
+        assert!(rt; Name::from_labels(rt.alloc(), &labels).err() == *fault);
     }
 }
 
@@ -152,6 +141,6 @@ fn joined_names(rt: HostRuntime) -> Result<(), Fail> {
         Some(found) => found.to_text(alloc)?,
         None => host.to_text(alloc)?,
     };
-    assert_eq!(rt; text.as_slice(), b"host.WWW.Example.org.".as_slice());
+    assert!(rt; text.as_slice() == b"host.WWW.Example.org.".as_slice());
     Ok(())
 }

@@ -2,7 +2,6 @@
 use super::message_of;
 use dns_message::{MessageFault, decode, name_end};
 use std::alloc::Global;
-use std::process::Abort;
 use std::test::Fail;
 
 /// How many questions the header counts, the bytes behind it, and the last question's name.
@@ -18,26 +17,19 @@ const READ: [(u8, &[u8], &[u8]); 4] = [
     ),
 ];
 
-/// The last question's name of so many questions and these bytes is printed so.
-fn last_is(
-    rt: &impl Abort,
-    alloc: Global,
-    questions: u8,
-    rest: &[u8],
-    printed: &[u8],
-) -> Result<(), Fail> {
+/// Whether the last question's name of so many questions and these bytes is printed so.
+fn last_is(alloc: Global, questions: u8, rest: &[u8], printed: &[u8]) -> Result<bool, Fail> {
     let message = decode(alloc, message_of(alloc, questions, rest)?.as_slice())?;
-    match message.questions.as_slice().last() {
-        Some(question) => assert_eq!(rt; question.name.to_text(alloc)?.as_slice(), printed),
-        None => assert!(rt; false),
-    }
-    Ok(())
+    Ok(match message.questions.as_slice().last() {
+        Some(question) => question.name.to_text(alloc)?.as_slice() == printed,
+        None => false,
+    })
 }
 
 #[test]
 fn names_that_go_on_elsewhere(rt: HostRuntime) -> Result<(), Fail> {
-    for (questions, rest, printed) in READ {
-        last_is(&rt, rt.alloc(), questions, rest, printed)?;
+    for (questions, rest, printed) in READ.iter() {
+        assert!(rt; last_is(rt.alloc(), *questions, *rest, *printed)?);
     }
     Ok(())
 }
@@ -87,23 +79,21 @@ const LENGTHS: [(&[u8], &[u8], Option<MessageFault>); 6] = [
     (&[63, 63, 63], b"\x3faaa", Some(MessageFault::ShortPart(12))),
 ];
 
-/// Such a question has this first fault, or none.
+/// Whether such a question has this first fault, or none.
 fn question_has(
-    rt: &impl Abort,
     alloc: Global,
     lengths: &[u8],
     rest: &[u8],
     fault: Option<MessageFault>,
-) -> Result<(), Fail> {
+) -> Result<bool, Fail> {
     let bytes = long_question(alloc, lengths, rest)?;
-    assert!(rt; decode(alloc, bytes.as_slice()).err() == fault);
-    Ok(())
+    Ok(decode(alloc, bytes.as_slice()).err() == fault)
 }
 
 #[test]
 fn longest_names_of_a_message(rt: HostRuntime) -> Result<(), Fail> {
-    for (lengths, rest, fault) in LENGTHS {
-        question_has(&rt, rt.alloc(), lengths, rest, fault)?;
+    for (lengths, rest, fault) in LENGTHS.iter() {
+        assert!(rt; question_has(rt.alloc(), *lengths, *rest, *fault)?);
     }
     Ok(())
 }
@@ -123,9 +113,7 @@ fn longest_chain_of_pointers(rt: HostRuntime) -> Result<(), Fail> {
     bytes.extend_from_slice(b"\xff\xfe\0\x01\0\x01\0\0\0\0\0\x04abcd")?;
     let message = decode(alloc, bytes.as_slice())?;
     match message.answers.as_slice().last() {
-        Some(found) => {
-            assert_eq!(rt; found.name.to_text(alloc)?.as_slice(), b"a.".as_slice());
-        }
+        Some(found) => assert!(rt; found.name.to_text(alloc)?.as_slice() == b"a.".as_slice()),
         None => assert!(rt; false),
     }
     Ok(())
@@ -143,8 +131,8 @@ const ENDS: [(&[u8], usize, Result<usize, MessageFault>); 6] = [
 
 #[test]
 fn names_end_behind_their_first_pointer(rt: HostRuntime) -> Result<(), Fail> {
-    for (bytes, start, end) in ENDS {
-        assert_eq!(rt; name_end(bytes, start), end);
+    for (bytes, start, end) in ENDS.iter() {
+        assert!(rt; name_end(*bytes, *start) == *end);
     }
     Ok(())
 }

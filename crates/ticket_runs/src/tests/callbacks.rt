@@ -238,7 +238,8 @@ const CASES: [(Status, Orders, &[Addr], &[(u8, u64)]); 5] = [
 fn scripts_command_by_answer_and_orders(rt: HostRuntime) -> Result<(), Fail> {
     let alloc = rt.alloc();
     let script = four_steps(alloc)?;
-    for (status, orders, addresses, expected) in CASES {
+    for row in CASES.iter() {
+        let (status, orders, addresses, expected) = *row;
         let mut hand = Hand::make(alloc)?;
         hand.set(orders);
         let callback: Callback<Recorder> = Callback::scripted(script.copy(alloc)?);

@@ -26,9 +26,8 @@ const C_ARES: [(Status, u8, &str); 13] = [
 
 #[test]
 fn statuses_are_those_of_c_ares(rt: HostRuntime) {
-    for (status, code, text) in C_ARES {
-        assert_eq!(rt; status.code(), code);
-        assert_eq!(rt; status.text(), text);
+    for (status, code, text) in C_ARES.iter() {
+        assert!(rt; status.code() == *code && status.text() == *text);
     }
 }
 

@@ -170,7 +170,7 @@ fn is_answered(alloc: Global, row: &Row) -> Result<bool, Fail> {
 #[test]
 fn hosts_are_answered_at_once(rt: HostRuntime) -> Result<(), Fail> {
     for row in ROWS {
-        assert!(rt; is_answered(rt.alloc(), row)?, "{}", row.0);
+        assert!(rt; is_answered(rt.alloc(), row)?);
     }
     Ok(())
 }

@@ -1,8 +1,8 @@
 //! Which client is heard when many are there, over loopback.
 
-use super::*;
 use item_list::NoMemory;
 use net_world::Sent;
+use sock_listener::RealListener;
 use std::fs;
 use std::io::{Read, Write};
 use std::net::{Ipv4Addr, SocketAddr, TcpStream, UdpSocket};

@@ -1,10 +1,12 @@
 //! The listener and a whole run over loopback.
 
-use super::*;
+mod turns;
+
 use item_list::{Bytes, NoMemory};
 use net_addr::{Addr, ServerAddr};
 use net_world::{Got, MemFiles, MemSink, Sent, World, Wrote};
 use sock_engine::SockWorld;
+use sock_listener::RealListener;
 use std::alloc::Global;
 use std::collections::BTreeMap;
 use std::net::{Ipv4Addr, Net, SocketAddr, UdpSocket};
