@@ -1,5 +1,6 @@
-"""Small runs made by hand: what the definitions let through that the tools' loop never does, each with the loop's own
-run beside it. Prints, for each, what refuses it by the rules, as the definitions are written, and by the loop itself.
+"""Small runs made by hand: what the definitions let through that the tools' loop never does, and what they let through
+before they were made tighter, each with the loop's own run beside it. Prints, for each, what refuses it by the rules, as
+the definitions are written, and by the loop itself.
 
 usage: python3 cases.py
 """
@@ -75,10 +76,6 @@ case("the same in a run that wanted memory",
      run(SILENT, SERVES + TURN + IDLE[:2], NO_MEMORY, 9),
      run(SILENT, SERVES + TURN + [WAIT] + IDLE[:2], NO_MEMORY, 9))
 
-case("a run that wanted memory makes its first turn before anything is asked",
-     run(entries(Arrive(0, 0, b""), ACCEPT, END, TAKE), SERVES + [Now(0), Receive(Datagram(0, b""))], NO_MEMORY, 9),
-     run(entries(ACCEPT, Arrive(0, 0, b""), END, TAKE), SERVES + [Now(0), Receive(Datagram(0, b""))], NO_MEMORY, 9))
-
 case("a run that wanted memory goes on to receive behind a message that it didn't note",
      run(entries(ACCEPT, END, TAKE), SERVES + [Now(0), Receive(Datagram(0, b"")), Receive(Nothing())], NO_MEMORY, 9),
      run(entries(ACCEPT, END, TAKE), SERVES + [Now(0), Receive(Datagram(0, b""))], NO_MEMORY, 9))
@@ -90,11 +87,6 @@ case("a run that wanted memory draws a word behind the failure of a datagram tha
 case("a request is accepted though the servers weren't all told",
      run(entries(ACCEPT, END, TAKE), [], NO_MEMORY, 9),
      run(entries(END), [], NO_MEMORY, 9))
-
-SET = Servers(Channel(PLAIN).keys_for([SERVER, OTHER]))
-case("a run that wanted memory sets the later servers before its first turn",
-     run(entries(ACCEPT, SET, START, END, TAKE), SERVES + TURN[:4], NO_MEMORY, 9, later=[SERVER, OTHER]),
-     run(entries(ACCEPT, START, SET, END, TAKE), SERVES + TURN, NO_MEMORY, 9, later=[SERVER, OTHER]))
 
 GONE = Servers(Channel(PLAIN).keys_for([OTHER]))
 case("a wait without end, though a leg waits where it is made: its reason and its moment are taken at two positions",
@@ -137,6 +129,21 @@ ON_LINK = entries(ACCEPT, replace(START, link=1), END, TAKE)
 case("a write of nothing, and of a byte that nobody asked to send, where nothing is left to be written",
      run(ON_LINK, SERVES + OVER + [Write(1, b"", 0), Write(1, b"!", 0), WAIT], STALLED, 1, setting=TCP),
      run(ON_LINK, SERVES + OVER + [WAIT], STALLED, 1, setting=TCP))
+
+# What the definitions refuse since they were made tighter.
+
+case("a run that wanted memory makes its first turn before anything is asked",
+     run(entries(Arrive(0, 0, b""), ACCEPT, END, TAKE), SERVES + [Now(0), Receive(Datagram(0, b""))], NO_MEMORY, 9),
+     run(entries(ACCEPT, Arrive(0, 0, b""), END, TAKE), SERVES + [Now(0), Receive(Datagram(0, b""))], NO_MEMORY, 9))
+
+SET = Servers(Channel(PLAIN).keys_for([SERVER, OTHER]))
+case("a run that wanted memory sets the later servers before its first turn",
+     run(entries(ACCEPT, SET, START, END, TAKE), SERVES + TURN[:4], NO_MEMORY, 9, later=[SERVER, OTHER]),
+     run(entries(ACCEPT, START, SET, END, TAKE), SERVES + TURN, NO_MEMORY, 9, later=[SERVER, OTHER]))
+
+case("the same in a run that stalled: behind a turn without entries before anything is asked",
+     run(entries(ACCEPT, SET, START, END, TAKE), SERVES + TURN + [WAIT], STALLED, 1, later=[SERVER, OTHER]),
+     run(entries(ACCEPT, START, SET, END, TAKE), SERVES + TURN + [WAIT], STALLED, 1, later=[SERVER, OTHER]))
 
 
 def verdicts(made):

@@ -27,7 +27,7 @@ from written.promise import Promise
 
 
 # What the rules refuse and the definitions let through, as cases.py shows.
-KNOWN = {"a first turn where nothing is asked", "calls behind what wasn't noted", "servers set otherwise"}
+KNOWN = {"calls behind what wasn't noted"}
 
 
 class Differs(Exception):

@@ -98,7 +98,7 @@ def servers_broken(run, replay):
     begin, top = replay.ends[0] if replay.ends else (replay.low, len(run.journal))
     if not places:
         destroyed = any(isinstance(entry.what, Destroy) for entry in run.journal[:top])
-        return [] if destroyed or run.end == NO_MEMORY else ["servers not set"]
+        return [] if destroyed or run.end == NO_MEMORY and replay.turns < 2 else ["servers not set"]
     entry = run.journal[places[0]]
     right = entry.by == 0 and [item.address for item in entry.what.list] == run.later
     behind = begin <= places[0] < top and (replay.turns > 1 or replay.is_whole)

@@ -80,16 +80,15 @@ class Course:
         return {turns for turns, layer in enumerate(self.reached(self.firsts() if starts is None else starts))
                 if any(standing == end for standing, _ in layer)}
 
+    def is_cut_behind(self, i, j):
+        """From a standing, one turn that was cut short goes on to the log's end, and entries of none to the journal's."""
+        return self.of_seat(self.journal[:i]) and any(
+            has_no_turn(self.journal[k:]) and self.turns.is_cut_turn(i, k, j, len(self.log))
+            for k in range(i, len(self.journal) + 1))
+
     def is_cut_course(self):
-        found = set()
-        for turns, layer in enumerate(self.reached(self.firsts())):
-            for (i, j), on in layer:
-                if not on or not self.of_seat(self.journal[:i]):
-                    continue
-                for k in range(i, len(self.journal) + 1):
-                    if has_no_turn(self.journal[k:]) and self.turns.is_cut_turn(i, k, j, len(self.log)):
-                        found.add(turns + 1)
-        return found
+        return {turns + 1 for turns, layer in enumerate(self.reached(self.firsts()))
+                if any(on and self.is_cut_behind(*standing) for standing, on in layer)}
 
     def is_cut_serving(self):
         return self.serves[:len(self.log)] == self.log and has_no_turn(self.journal)
@@ -104,18 +103,17 @@ class Course:
 
     # ---- owner_laws/specs/Sessions.antt
 
-    def first_turns(self):
-        """The journals' beginnings that fall into one turn with a beginning of the log, each with where it began."""
-        found = set()
-        for start in self.firsts():
-            for k, l in {end for end, _ in self.rounds(*start)}:
-                if self.of_seat(self.journal[:k]):
-                    found.add((start[0], k))
-        return found
+    def asked_firsts(self):
+        """The standings at which the first turn may begin where a request is pending, and nothing is ready."""
+        return {(i, j) for i, j in self.firsts()
+                if self.model.pending(self.pasts[i]) != () and self.model.ready(self.pasts[i]) == []}
 
-    def begins_pending(self):
-        return any(self.model.pending(self.pasts[i]) != () and self.model.ready(self.pasts[i]) == []
-                   for i, _ in self.first_turns())
+    def first_turns(self):
+        """The lengths of the journal's beginnings that fall into such a first turn with a beginning of the log."""
+        return {k for start in self.asked_firsts() for (k, _), _ in self.rounds(*start) if self.of_seat(self.journal[:k])}
+
+    def begins_cut(self):
+        return any(self.is_cut_behind(*standing) for standing in self.asked_firsts())
 
     def ends_with_failed_wait(self):
         return bool(self.log) and self.log[-1:] == [Wait(getattr(self.log[-1], "until", 0), False)] \

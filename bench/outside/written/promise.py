@@ -60,7 +60,7 @@ class Promise:
         later = self.run.later
         if later is None or made == 0 and not has_servers(self.journal):
             return not has_servers(self.journal)
-        behind_first = {k for _, k in self.course.first_turns()}
+        behind_first = self.course.first_turns()
         if any(at in behind_first for at in self.sets_once(later)):
             return True
         return not has_servers(self.journal) and any(self.model.is_destroyed(self.pasts[k]) for k in behind_first)
@@ -83,14 +83,14 @@ class Promise:
         checks = {
             "few": made <= run.limit, "readings": course.turns_in() == made,
             "nearly_agrees": course.turns.traffic.nearly_agrees(0, len(self.journal), 0, len(run.log)),
+            "sets_behind": self.sets_behind_first(made) or self.memory_wanting and made <= 1 and not has_servers(self.journal),
+            "begins": made < 1 or bool(course.first_turns()) or self.memory_wanting and course.begins_cut(),
             "waits": course.no_wait_failed() or course.ends_with_failed_wait(),
             "last_wait": run.end != WAIT_FAULT or course.ends_with_failed_wait(),
             "all_turns": run.end != STALLED or made == run.limit}
         if not self.memory_wanting:
             checks |= {
-                "course": is_course, "sets_behind": self.sets_behind_first(made),
-                "begins": made < 1 or course.begins_pending(),
-                "agrees": course.turns.traffic.traffic_agrees(),
+                "course": is_course, "agrees": course.turns.traffic.traffic_agrees(),
                 "none_failed": run.end == WAIT_FAULT or course.no_wait_failed()}
         return found + [name for name, holds in checks.items() if not holds]
 

@@ -6,6 +6,7 @@ use Rattle.item_list.specs.declared.no_memory.NoMemory.{NoMemory}
 use Rattle.net_world.specs.declared.answers.Waited.TheVariants.{Failed as NotWaited}
 use Rattle.net_world.specs.declared.log.WorldCall.{WorldCall}
 use Rattle.chan_types.specs.declared.answer.Answer.{Answer}
+use Rattle.channel_model.proofs.Theorems.{so_far_reads}
 use Rattle.channel_model.specs.Completion.{pending, ready}
 use Rattle.channel_model.specs.Course.{has_no_turn}
 use Rattle.channel_model.specs.Endings.{IsStalledBehind}
@@ -29,7 +30,7 @@ use Rattle.owner_laws.specs.Sessions.{EndsWithFailedWait, longest_slice}
 use Rattle.adig_tool.specs.SessionParts.{Delivers, MakesTurns, TellsPending, Works}
 use Rattle.owner_laws.proofs.Owner.{looked_same, paused_same, waited_pending}
 use Rattle.owner_laws.proofs.Begun.{IsAsked}
-use Rattle.owner_laws.proofs.Well.{AreBegun, RunsWell, well_begun, well_behind, well_cut, well_failed, well_paused, well_so_far, well_turned}
+use Rattle.owner_laws.proofs.Well.{AreBegun, EndsWell, IsBegunSoFar, RunsWell, well_begun, well_behind, well_cut, well_failed, well_paused, well_so_far, well_turned}
 use Rattle.adig_tool.proofs.WorkLemmas.{takes_no_turn, turn_works, works_go_on, works_none, works_own, works_trans}
 
 -- so many turns were made, none behind a failed wait and none first where nothing was pending, and what completed was called; behind the last turn the run has come so far
@@ -52,14 +53,19 @@ none_counted count (x ∷ xs) is none = let h : length (x ∷ xs) ≡ 0 = sym is
 pub asked_here : (count : ℕ) (b c : Owned) → TellsPending count b c → count ≢ 0 → ready b.setting (past_of b.seen) ≡ [] → IsAsked c
 asked_here count b c tells some none = subst IsAsked (sym tells.same) (some_counted count (pending b.setting (past_of b.seen)) tells.count_is some, none)
 
--- turns that want of memory may have cut short, without a wait that failed
-pub falls_short : (most : ℕ) (fault : NoMemory) (c : Owned) (l m : Option (List WorldCall)) → RanSince longest_slice most 0 (known_by_owner c) l m → LogGets (λ calls. IsTurnOwner (known_by_owner c) → NoWaitFailed calls) l m →
+-- turns that want of memory may have cut short, the first of which began so, without a wait that failed
+pub falls_short : (most : ℕ) (fault : NoMemory) (c : Owned) (l m : Option (List WorldCall)) → RanSince longest_slice most 0 (known_by_owner c) l m → EndsWell c l m →
     LogGets (λ calls. IsTurnOwner (known_by_owner c) → FallsIntoTurns most (Err fault) c calls) l m
-falls_short most fault c l m ran none =
-    told_as (λ calls. (IsTurnOwner (known_by_owner c) → IsSoFar longest_slice most 0 (known_by_owner c) calls) × (IsTurnOwner (known_by_owner c) → NoWaitFailed calls))
+falls_short most fault c l m ran well =
+    told_as (λ calls. (IsTurnOwner (known_by_owner c) → IsSoFar longest_slice most 0 (known_by_owner c) calls) × (IsTurnOwner (known_by_owner c) → NoWaitFailed calls × IsBegunSoFar c calls))
     (λ calls. IsTurnOwner (known_by_owner c) → FallsIntoTurns most (Err fault) c calls)
-    (λ calls both owner. let far = both.0 owner in (far.0, far.1, far.2, both.1 owner)) l m
-    (told_both (λ calls. IsTurnOwner (known_by_owner c) → IsSoFar longest_slice most 0 (known_by_owner c) calls) (λ calls. IsTurnOwner (known_by_owner c) → NoWaitFailed calls) l m ran none)
+    (λ calls both owner.
+    let far = both.0 owner in
+    let ended = both.1 owner in
+    let reads = so_far_reads c.setting 0 longest_slice c.seen calls far.0 0 far.2 in
+    (far.0, far.1, far.2, λ some. ended.1 (omega (arith, some, reads)), ended.0)) l m
+    (told_both (λ calls. IsTurnOwner (known_by_owner c) → IsSoFar longest_slice most 0 (known_by_owner c) calls)
+    (λ calls. IsTurnOwner (known_by_owner c) → NoWaitFailed calls × IsBegunSoFar c calls) l m ran well)
 
 -- no turn was made yet
 pub made_none : (a : Owned) (calls : List Answer) (r : Running) (l : Option (List WorldCall)) → Made rested 0 a a calls calls r r l l
@@ -192,9 +198,9 @@ module _ (turns : ℕ) (a : Owned) (ca : List Answer) (before : Running) (l : Op
 
     -- want of memory cut a turn short
     pub ends_cut : (most : ℕ) (result : Result LoopEnd NoMemory) (c : Owned) (s : Running) (n : Option (List WorldCall)) → is_err result ≡ true → turns + 1 ≤ most →
-        Stops IsCutShort (run_of (known_by_owner b) r m) (run_of (known_by_owner c) s n) → Made following turns a b ca cb before r l m → MakesTurns most result a c ca cb before l n
-    ends_cut most (Ok end) c s n err few stops x = absurd (cc err)
-    ends_cut most (Err fault) c s n err few stops x = record {
+        Stops IsCutShort (run_of (known_by_owner b) r m) (run_of (known_by_owner c) s n) → IsAsked b → Made following turns a b ca cb before r l m → MakesTurns most result a c ca cb before l n
+    ends_cut most (Ok end) c s n err few stops asked x = absurd (cc err)
+    ends_cut most (Err fault) c s n err few stops asked x = record {
       answers = x.answers;
       works = subst (λ q. Works [] q a c) (append-nil x.answers) (works_trans [] [] x.answers [] a b c x.works (turn_works b c stops.goes_on stops.made));
       calls_are = x.calls_are;
@@ -202,14 +208,14 @@ module _ (turns : ℕ) (a : Owned) (ca : List Answer) (before : Running) (l : Op
       told = λ log since.
           falls_short most fault c log n
           (ran_at_most longest_slice (turns + 1) most 0 (known_by_owner c) log n few (runs_cut longest_slice turns 0 log m (known_by_owner b) (known_by_owner c) r s n stops (x.told log since)))
-          (well_cut turns b log m (x.well log since) c r s n (x.told log since) stops);
+          (well_cut turns b log m (x.well log since) c r s n (x.told log since) stops asked);
     }
 
     -- or it came to a pause
-    pub ends_unpaused : (most : ℕ) (result : Result LoopEnd NoMemory) (c : Owned) (n : Option (List WorldCall)) → is_err result ≡ true → turns ≤ most →
+    pub ends_unpaused : (most : ℕ) (result : Result LoopEnd NoMemory) (c : Owned) (n : Option (List WorldCall)) → is_err result ≡ true → 1 ≤ turns → turns ≤ most →
         HasLooked (known_by_owner b) (known_by_owner c) × (n ≡ m) → Made delivered turns a b ca cb before r l m → MakesTurns most result a c ca cb before l n
-    ends_unpaused most (Ok end) c n err few looked x = absurd (cc err)
-    ends_unpaused most (Err fault) c n err few looked x = record {
+    ends_unpaused most (Ok end) c n err some few looked x = absurd (cc err)
+    ends_unpaused most (Err fault) c n err some few looked x = record {
       answers = x.answers;
       works = subst (λ d. Works [] x.answers a d) (sym (looked_same b c looked.0)) x.works;
       calls_are = x.calls_are;
@@ -217,6 +223,5 @@ module _ (turns : ℕ) (a : Owned) (ca : List Answer) (before : Running) (l : Op
       told = λ log since.
           falls_short most fault c log n
           (ran_at_most longest_slice turns most 0 (known_by_owner c) log n few (runs_unpaused longest_slice turns 0 log m (known_by_owner b) (known_by_owner c) r n looked (x.told log since)))
-          (subst (λ k. LogGets (λ calls. IsTurnOwner (known_by_owner c) → NoWaitFailed calls) log k) (sym looked.1)
-          (subst (λ d. LogGets (λ calls. IsTurnOwner (known_by_owner d) → NoWaitFailed calls) log m) (sym (looked_same b c looked.0)) (well_so_far turns b log m (x.well log since))));
+          (subst (λ k. EndsWell c log k) (sym looked.1) (subst (λ d. EndsWell d log m) (sym (looked_same b c looked.0)) (well_so_far turns b log m (x.well log since) some)));
     }

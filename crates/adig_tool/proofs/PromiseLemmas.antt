@@ -1,5 +1,5 @@
 -- From the parts of a run to what the whole of it promises.
-use Rattle.std.proofs.Common.{◌≡◌, ◌≢◌, ℕ, ◌==◌, not, List, [], ◌∷◌, ◌++◌, length, refl, sym, ap, subst, ◌∙◌, map, true, false, inl, inr, arith}
+use Rattle.std.proofs.Common.{◌≡◌, ◌≢◌, ℕ, ◌==◌, not, List, [], ◌∷◌, ◌++◌, length, refl, sym, ap, subst, ◌∙◌, map, true, false, inl, inr, ⊎_elim, arith}
 use Rattle.std.specs.Prelude.{Err, None, Ok, Option, Result, Some, ◌*◌, ◌+◌, ◌⊎◌, ◌≤◌}
 use Rattle.std.specs.List.{AllByRecursion, list_all}
 use Rattle.std.proofs.lemmas.List.{append-nil}
@@ -40,11 +40,11 @@ use Rattle.adig_tool.specs.Output.{page_for, text_at}
 use Rattle.tool_line.specs.Put.{IsPut, PutsText}
 use Rattle.adig_tool.specs.Promise.{IsComplete, IsGivenTime, IsOver, IsPageEnd, IsRunEnd, IsTraffic, Promise}
 use Rattle.adig_tool.specs.Session.{FallsIntoTurns, HasAccepted, IsSession, ShowsEnd, first_request, is_of_session, leaves_running}
-use Rattle.owner_laws.specs.Sessions.{BeginsPending, EndsWithFailedWait, longest_slice}
+use Rattle.owner_laws.specs.Sessions.{BeginsPending, BeginsSoFar, EndsWithFailedWait, longest_slice}
 use Rattle.adig_tool.specs.SessionParts.{take_entry}
 use Rattle.run_end.specs.declared.loop_end.LoopEnd.{LoopEnd}
 use Rattle.run_end.specs.declared.loop_end.LoopEnd.TheVariants.{Completed, Stalled, WaitFault}
-use Rattle.owner_laws.proofs.Begun.{begins_behind}
+use Rattle.owner_laws.proofs.Begun.{begins_behind, so_far_behind}
 use Rattle.adig_tool.proofs.CalledLemmas.{called_then, numbers_of, taken_all, taken_later}
 use Rattle.adig_tool.proofs.ClosingLemmas.{past_on}
 use Rattle.adig_tool.proofs.ListLemmas.{all_pass, one_at_most, three_hold}
@@ -167,7 +167,7 @@ module _ (setting : Setting) (turns made : ℕ) (few : made ≤ turns) (es more 
         readings = so_far_reads setting 0 longest_slice (es ++ more) calls made 0 (inl whole_course) ∙ omega arith;
         course = λ served. whole_course;
         course_so_far = inl whole_course;
-        begins = λ served some. begins_behind setting es more calls (begins some);
+        begins = λ some. inl (begins_behind setting es more calls (begins some));
         agrees = λ served. course_agrees setting 0 longest_slice (es ++ more) calls made 0 whole_course;
         nearly_agrees = so_far_nearly setting 0 longest_slice (es ++ more) calls made 0 (inl whole_course);
         last_wait = last_wait;
@@ -176,8 +176,8 @@ module _ (setting : Setting) (turns made : ℕ) (few : made ≤ turns) (es more 
       }
 
   -- one that was cut short
-  traffic_cut : (end : Exit) → end ≡ OutOfMemory → IsCourseSoFar setting 0 longest_slice es calls made 0 → NoWaitFailed calls → IsTraffic setting turns end (es ++ more) calls
-  traffic_cut end is course none_failed =
+  traffic_cut : (end : Exit) → end ≡ OutOfMemory → IsCourseSoFar setting 0 longest_slice es calls made 0 → (1 ≤ made → BeginsSoFar setting es calls) → NoWaitFailed calls → IsTraffic setting turns end (es ++ more) calls
+  traffic_cut end is course begins none_failed =
       let so_far = so_far_then setting 0 longest_slice es more calls made 0 none course in
       record {
         made = made;
@@ -185,7 +185,7 @@ module _ (setting : Setting) (turns made : ℕ) (few : made ≤ turns) (es more 
         readings = so_far_reads setting 0 longest_slice (es ++ more) calls made 0 so_far ∙ omega arith;
         course = λ served. absurd (served is);
         course_so_far = so_far;
-        begins = λ served. absurd (served is);
+        begins = λ some. ⊎_elim (λ whole. inl whole) (λ cut. inr (is, cut)) (so_far_behind setting es more calls none (begins some));
         agrees = λ served. absurd (served is);
         nearly_agrees = so_far_nearly setting 0 longest_slice (es ++ more) calls made 0 so_far;
         last_wait = λ wait. absurd (let e : FailedWait ≡ OutOfMemory = sym wait ∙ is in cc);
@@ -223,7 +223,8 @@ traffic_of setting turns (Ok e) answers end mid more same none is calls falls =
     (λ stall. shown_turns turns falls.0 mid calls answers end e is stall falls.4)
 traffic_of setting turns (Err e) answers end mid more same none is calls falls =
     traffic_cut setting turns falls.0 falls.1 mid.seen more none calls end is
-    (subst (λ s. IsCourseSoFar s 0 longest_slice mid.seen calls falls.0 0) same falls.2) falls.3
+    (subst (λ s. IsCourseSoFar s 0 longest_slice mid.seen calls falls.0 0) same falls.2)
+    (λ some. subst (λ s. BeginsSoFar s mid.seen calls) same (falls.3 some)) falls.4
 
 -- ---- completeness
 
@@ -398,7 +399,7 @@ nothing_called setting turns =
       readings = refl;
       course = λ served. absurd (served refl);
       course_so_far = so_far;
-      begins = λ served. absurd (served refl);
+      begins = λ some. absurd (omega (arith, some));
       agrees = λ served. absurd (served refl);
       nearly_agrees = so_far_nearly setting 0 longest_slice [] [] 0 0 so_far;
       last_wait = λ is. absurd (cc is);

@@ -27,7 +27,7 @@ use Rattle.tool_line.specs.Outside.{GrowsBy, Outside, OutputTold}
 use Rattle.adig_tool.specs.Output.{page_for, text_at}
 use Rattle.tool_line.specs.Put.{IsPut}
 use Rattle.adig_tool.specs.Session.{first_request}
-use Rattle.owner_laws.specs.Sessions.{BeginsPending, EndsWithFailedWait, longest_slice}
+use Rattle.owner_laws.specs.Sessions.{BeginsCut, BeginsPending, EndsWithFailedWait, longest_slice}
 use Rattle.run_end.specs.Ends.{AreGood}
 use Rattle.run_end.specs.declared.ended.Ended.{Ended}
 
@@ -60,8 +60,8 @@ pub record IsTraffic (setting : Setting) (turns : ℕ) (end : Exit) (journal : L
   -- Journal and calls fall into these turns: the servers of the setting are told before the first, nothing waits before it, and between two there is one wait, up to the first deadline, where there is nothing to do, or none where there is something. Want of memory alone cuts this short.
   pub course : end ≢ OutOfMemory → IsCourse setting 0 longest_slice journal calls made 0
   pub course_so_far : IsCourseSoFar setting 0 longest_slice journal calls made 0
-  -- A first turn is made only where a request is pending, and nothing is ready.
-  pub begins : end ≢ OutOfMemory → 1 ≤ made → BeginsPending setting journal calls
+  -- A first turn is made only where a request is pending, and nothing is ready; where memory was wanting it may be the only one, and cut short.
+  pub begins : 1 ≤ made → BeginsPending setting journal calls ⊎ ((end ≡ OutOfMemory) × BeginsCut setting journal calls)
   -- So what the journal notes of messages, queries, links and faults is what these calls tell; where memory was wanting, but for one call.
   pub agrees : end ≢ OutOfMemory → TrafficAgrees setting 0 journal calls
   pub nearly_agrees : NearlyAgrees setting 0 beginning journal calls

@@ -18,7 +18,7 @@ use Rattle.channel_model.specs.Lawful.{IsLawful}
 use Rattle.channel_progress.specs.Waking.{NoWaitFailed}
 use Rattle.channel_table.specs.Calling.{Owned}
 use Rattle.net_world.specs.Logs.{LogGets}
-use Rattle.owner_laws.specs.Sessions.{BeginsPending, EndsWithFailedWait, longest_slice}
+use Rattle.owner_laws.specs.Sessions.{BeginsPending, BeginsSoFar, EndsWithFailedWait, longest_slice}
 use Rattle.run_end.specs.Left.{LeavesPending}
 use Rattle.run_end.specs.declared.loop_end.LoopEnd.{LoopEnd}
 use Rattle.run_end.specs.declared.loop_end.LoopEnd.TheVariants.{Completed, Stalled, WaitFault}
@@ -60,7 +60,8 @@ FallsIntoTurns turns (Ok end) channel calls =
     (made : ℕ) × (made ≤ turns) × IsCourse channel.setting 0 longest_slice channel.seen calls made 0
     × (1 ≤ made → BeginsPending channel.setting channel.seen calls) × ShowsEnd turns end channel made calls
 FallsIntoTurns turns (Err fault) channel calls =
-    (made : ℕ) × (made ≤ turns) × IsCourseSoFar channel.setting 0 longest_slice channel.seen calls made 0 × NoWaitFailed calls
+    (made : ℕ) × (made ≤ turns) × IsCourseSoFar channel.setting 0 longest_slice channel.seen calls made 0
+    × (1 ≤ made → BeginsSoFar channel.setting channel.seen calls) × NoWaitFailed calls
 
 -- one request was brought to its end, or as far as turns, waits and memory served
 pub record IsSession (spec : Spec) (turns : ℕ) (result : Result LoopEnd NoMemory) (old new : Owned) (answers : List Answer) (log_old log_new : Option (List WorldCall)) : Type 0 where

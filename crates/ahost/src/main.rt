@@ -9,45 +9,56 @@ use crate::bodies::report_bodies;
 use crate::counting::names_most;
 use crate::sources::{own_sources, with_sources};
 use ahost_tool::run;
+use item_list::NoMemory;
 use sock_engine::{RealFiles, RealSink, SockWorld, Streams, texts_of, words_of};
 use std::process::ExitCode;
-use tool_line::Exit;
+use tool_help::{advice, help};
+use tool_line::{Exit, Tool};
 
 /// How many turns a run may make.
 const TURNS: u64 = 10_000_000;
 
 fn main(rt: HostRuntime) -> ExitCode {
     let _streams = Streams::hold(&rt);
+    match run_words(rt) {
+        Ok(status) => ExitCode::from(status),
+        Err(NoMemory) => {
+            let status = Exit::OutOfMemory.number();
+            // Standard error may be closed, here and below.
+            if let Some(sentence) = advice(Tool::Ahost, status) {
+                let _ = eprint!(rt; "{sentence}");
+            }
+            ExitCode::from(status)
+        }
+    }
+}
+
+/// Runs with the words of the command line. What is said beside the page stands on standard error. Answers the exit status.
+fn run_words(rt: HostRuntime) -> Result<u8, NoMemory> {
     let alloc = rt.alloc();
-    let Ok(owned) = words_of(&rt, alloc) else {
-        return ExitCode::from(Exit::OutOfMemory.number());
-    };
-    let Ok(words) = texts_of(alloc, owned.as_slice()) else {
-        return ExitCode::from(Exit::OutOfMemory.number());
-    };
-    let Ok(most) = names_most(alloc, words.as_slice()) else {
-        return ExitCode::from(Exit::OutOfMemory.number());
-    };
-    let Ok(bodies) = report_bodies(alloc, most) else {
-        return ExitCode::from(Exit::OutOfMemory.number());
-    };
-    let Ok(sources) = own_sources(alloc, &mut RealFiles::make(rt), words.as_slice()) else {
-        return ExitCode::from(Exit::OutOfMemory.number());
-    };
-    let Ok(words) = with_sources(alloc, &sources, words.as_slice()) else {
-        return ExitCode::from(Exit::OutOfMemory.number());
-    };
-    let Ok(mut world) = SockWorld::make(rt) else {
-        return ExitCode::from(Exit::OutOfMemory.number());
-    };
+    let owned = words_of(&rt, alloc)?;
+    let words = texts_of(alloc, owned.as_slice())?;
+    let bodies = report_bodies(alloc, names_most(alloc, words.as_slice())?)?;
+    let sources = own_sources(alloc, &mut RealFiles::make(rt), words.as_slice())?;
+    let all = with_sources(alloc, &sources, words.as_slice())?;
+    let mut world = SockWorld::make(rt)?;
     let ended = run(
         alloc,
-        words.as_slice(),
+        all.as_slice(),
         bodies,
         &mut RealFiles::make(rt),
         &mut world,
         &mut RealSink::make(rt),
         TURNS,
     );
-    ExitCode::from(ended.status)
+    // A server's refusal is no failure of this machine, and isn't told: so the two are told apart.
+    if let Some(failure) = world.local_failure() {
+        if ended.status != 0 {
+            let _ = eprintln!(rt; "ahost: {}", failure.text());
+        }
+    }
+    if let Ok(Some(text)) = help(alloc, Tool::Ahost, words.as_slice(), ended.status) {
+        let _ = eprint!(rt; "{text}");
+    }
+    Ok(ended.status)
 }

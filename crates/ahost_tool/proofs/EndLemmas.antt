@@ -27,15 +27,16 @@ use Rattle.tool_line.specs.Put.{IsPut, PutsText}
 use Rattle.tool_line.specs.declared.ending.Exit.{Exit}
 use Rattle.tool_line.specs.declared.ending.Exit.TheVariants.{Failure, OutOfMemory, Stalled as HasStalled, Success, WaitFault as FailedWait}
 use Rattle.ahost_tool.specs.Ends.{IsEndOf}
-use Rattle.ahost_tool.specs.Kinds.{has_servers, is_ruled}
+use Rattle.ahost_tool.specs.Kinds.{has_servers, is_ruled, is_servers}
 use Rattle.ahost_tool.specs.Page.{report_of, text_at}
 use Rattle.ahost_tool.specs.Promise.{IsComplete, IsGivenTime, IsPageEnd, IsRunEnd, IsTraffic, last_at}
-use Rattle.ahost_tool.specs.Session.{FallsIntoTurns, HasAccepted, SetsBehindFirst, ShowsEnd}
-use Rattle.owner_laws.specs.Sessions.{BeginsPending, EndsWithFailedWait, longest_slice}
+use Rattle.ahost_tool.specs.Session.{FallsIntoTurns, HasAccepted, SetsBehindFirst, SetsSoFar, ShowsEnd}
+use Rattle.owner_laws.specs.Sessions.{BeginsPending, BeginsSoFar, EndsWithFailedWait, longest_slice}
 use Rattle.ahost_tool.specs.declared.reporting.Report.{Report}
 use Rattle.run_end.specs.declared.loop_end.LoopEnd.{LoopEnd}
 use Rattle.run_end.specs.declared.loop_end.LoopEnd.TheVariants.{Completed, Stalled, WaitFault}
-use Rattle.owner_laws.proofs.Begun.{begins_behind}
+use Rattle.owner_laws.proofs.Begun.{begins_behind, so_far_behind}
+use Rattle.ahost_tool.proofs.ListLemmas.{any_of}
 use Rattle.ahost_tool.proofs.MoveLemmas.{ruled_seats}
 use Rattle.ahost_tool.proofs.ProgressLemmas.{stalled_few}
 use Rattle.ahost_tool.proofs.ThenLemmas.{behind_more}
@@ -149,6 +150,10 @@ accepted_part (Err fault) askings accepted_ has = has
 -- ---- the network's calls
 
 module _ (setting : Setting) (later : Option (List ServerAddr)) (turns made : ℕ) (few : made ≤ turns) (es more : List Entry) (none : has_no_turn more ≡ true) (unset : has_servers more ≡ false) (calls : List WorldCall) where
+  -- what was set stays so
+  sets_stay : SetsBehindFirst setting later made es calls → SetsBehindFirst setting later made (es ++ more) calls
+  sets_stay sets = subst (SetsBehindFirst setting later made (es ++ more)) (append-nil calls) (behind_more setting later made made es more calls [] (λ z. z) unset sets)
+
   -- a whole course, and entries behind it
   traffic_whole : (end : Exit) → IsCourse setting 0 longest_slice es calls made 0 → SetsBehindFirst setting later made es calls → (1 ≤ made → BeginsPending setting es calls) → (NoWaitFailed calls ⊎ EndsWithFailedWait calls) →
       (end ≡ FailedWait → EndsWithFailedWait calls) → (end ≢ FailedWait → end ≢ OutOfMemory → NoWaitFailed calls) → (end ≡ HasStalled → made ≡ turns) → IsTraffic setting later turns end (es ++ more) calls
@@ -159,9 +164,9 @@ module _ (setting : Setting) (later : Option (List ServerAddr)) (turns made : �
         few = few;
         readings = so_far_reads setting 0 longest_slice (es ++ more) calls made 0 (inl whole_course) ∙ omega arith;
         course = λ served. whole_course;
-        sets_behind = λ served. subst (SetsBehindFirst setting later made (es ++ more)) (append-nil calls) (behind_more setting later made made es more calls [] (λ z. z) unset sets);
+        sets_behind = inl (sets_stay sets);
         course_so_far = inl whole_course;
-        begins = λ served some. begins_behind setting es more calls (begins some);
+        begins = λ some. inl (begins_behind setting es more calls (begins some));
         agrees = λ served. course_agrees setting 0 longest_slice (es ++ more) calls made 0 whole_course;
         nearly_agrees = so_far_nearly setting 0 longest_slice (es ++ more) calls made 0 (inl whole_course);
         waits = waits;
@@ -171,17 +176,18 @@ module _ (setting : Setting) (later : Option (List ServerAddr)) (turns made : �
       }
 
   -- one that was cut short, or where requests of callbacks were lost
-  traffic_cut : (end : Exit) → end ≡ OutOfMemory → IsCourseSoFar setting 0 longest_slice es calls made 0 → NoWaitFailed calls → IsTraffic setting later turns end (es ++ more) calls
-  traffic_cut end is course none_failed =
+  traffic_cut : (end : Exit) → end ≡ OutOfMemory → IsCourseSoFar setting 0 longest_slice es calls made 0 → SetsSoFar setting later made es calls → (1 ≤ made → BeginsSoFar setting es calls) → NoWaitFailed calls →
+      IsTraffic setting later turns end (es ++ more) calls
+  traffic_cut end is course sets begins none_failed =
       let so_far = so_far_then setting 0 longest_slice es more calls made 0 none course in
       record {
         made = made;
         few = few;
         readings = so_far_reads setting 0 longest_slice (es ++ more) calls made 0 so_far ∙ omega arith;
         course = λ served. absurd (served is);
-        sets_behind = λ served. absurd (served is);
+        sets_behind = ⊎_elim (λ first. inl (sets_stay first)) (λ short. inr (is, short.0, any_of (λ e. is_servers e.what) es more short.1 unset)) sets;
         course_so_far = so_far;
-        begins = λ served. absurd (served is);
+        begins = λ some. ⊎_elim (λ whole. inl whole) (λ cut. inr (is, cut)) (so_far_behind setting es more calls none (begins some));
         agrees = λ served. absurd (served is);
         nearly_agrees = so_far_nearly setting 0 longest_slice (es ++ more) calls made 0 so_far;
         waits = inl none_failed;
@@ -233,7 +239,9 @@ traffic_of setting later turns (Ok e) answers end mid more same none unset is ca
     (λ stall. shown_stall turns falls.0 mid calls e (stall_of (Ok e) answers end is stall) falls.5)
 traffic_of setting later turns (Err e) answers end mid more same none unset is calls falls =
     traffic_cut setting later turns falls.0 falls.1 mid.seen more none unset calls end (err_wanting is)
-    (subst (λ s. IsCourseSoFar s 0 longest_slice mid.seen calls falls.0 0) same falls.2) falls.3
+    (subst (λ s. IsCourseSoFar s 0 longest_slice mid.seen calls falls.0 0) same falls.2)
+    (subst (λ s. SetsSoFar s later falls.0 mid.seen calls) same falls.3)
+    (λ some. subst (λ s. BeginsSoFar s mid.seen calls) same (falls.4 some)) falls.5
   where
     err_wanting : Came (Err e) answers end → end ≡ OutOfMemory
     err_wanting (inl w) = absurd (cc w.0)

@@ -10,6 +10,7 @@ use Rattle.net_addr.specs.declared.addr.ServerAddr.{ServerAddr}
 use Rattle.net_world.specs.declared.answers.Waited.TheVariants.{Failed as NotWaited}
 use Rattle.net_world.specs.declared.log.WorldCall.{WorldCall}
 use Rattle.channel_model.specs.Commands.{accepted_for}
+use Rattle.channel_model.proofs.Theorems.{so_far_reads}
 use Rattle.channel_model.specs.Completion.{pending, ready}
 use Rattle.channel_model.specs.Course.{IsCourse, has_no_turn}
 use Rattle.channel_model.specs.Endings.{IsStalledBehind}
@@ -17,7 +18,7 @@ use Rattle.channel_model.specs.Journal.{followed_by, past_of}
 use Rattle.channel_progress.specs.Prompted.{unprompted_in}
 use Rattle.channel_progress.specs.Waking.{NoWaitFailed}
 use Rattle.channel_table.specs.Calling.{Owned, known_by_owner}
-use Rattle.event_runner.proofs.Theorems.{RunsWith, WayWith, ran_at_most, ran_so_far, runs_cut, runs_paused, runs_unpaused, told_as, told_both, told_by, with_any, with_begun, with_behind, with_delivered, with_following, with_paused, with_stalls, with_turned}
+use Rattle.event_runner.proofs.Theorems.{RunsWith, WayWith, ran_so_far, runs_cut, runs_paused, told_as, told_both, told_by, with_any, with_begun, with_behind, with_delivered, with_following, with_paused, with_stalls, with_turned}
 use Rattle.event_runner.specs.declared.answers.Paused.{Paused}
 use Rattle.event_runner.specs.declared.answers.Paused.TheVariants.{Skipped, WaitFault, Woken}
 use Rattle.event_runner.specs.declared.answers.Turned.{Turned}
@@ -34,11 +35,11 @@ use Rattle.ahost_tool.specs.declared.caller.Caller.{Caller}
 use Rattle.run_end.specs.declared.loop_end.LoopEnd.{LoopEnd}
 use Rattle.run_end.specs.declared.loop_end.LoopEnd.TheVariants.{Completed, Stalled, WaitFault as WaitFailed}
 use Rattle.owner_laws.proofs.Begun.{IsAsked}
-use Rattle.owner_laws.proofs.Well.{AreBegun, RunsWell, well_begun, well_behind, well_cut, well_failed, well_paused, well_so_far, well_turned}
+use Rattle.owner_laws.proofs.Well.{AreBegun, EndsWell, IsBegunSoFar, RunsWell, first_turned, well_begun, well_behind, well_cut, well_failed, well_paused, well_so_far, well_turned}
 use Rattle.ahost_tool.proofs.MoveLemmas.{Moves, accepted_parts, moves_go_on, moves_kept, moves_none, moves_trans, moves_turn, own_all, session_seats, turn_unset}
 use Rattle.owner_laws.proofs.Owner.{looked_same, paused_same, waited_pending}
 use Rattle.ahost_tool.proofs.PromptLemmas.{IsPrompted, MovesBetween, none_unprompted, prompted_none, prompted_trans}
-use Rattle.ahost_tool.proofs.ThenLemmas.{Grows, Then, grows_none, sets_more, then_more, then_set}
+use Rattle.ahost_tool.proofs.ThenLemmas.{Grows, SetsShort, Then, grows_none, sets_short, then_more, then_set}
 use Rattle.run_end.specs.Left.{LeavesPending}
 
 -- so many turns were made, none behind a failed wait and none first where nothing was pending, and what completed was delivered, so that requests were accepted between them because others had completed; behind the last turn the run has come so far
@@ -60,14 +61,30 @@ none_counted count (x ∷ xs) is none = let h : length (x ∷ xs) ≡ 0 = sym is
 pub asked_here : (count : ℕ) (b c : Owned) → CountsPending count b c → count ≢ 0 → ready b.setting (past_of b.seen) ≡ [] → IsAsked c
 asked_here count b c counts some none = subst IsAsked (sym counts.same) (some_counted count (pending b.setting (past_of b.seen)) counts.count_is some, none)
 
--- turns that want of memory may have cut short, without a wait that failed
-pub falls_short : (later : Option (List ServerAddr)) (most : ℕ) (fault : NoMemory) (c : Owned) (l m : Option (List WorldCall)) → RanSince longest_slice most 0 (known_by_owner c) l m →
-    LogGets (λ calls. IsTurnOwner (known_by_owner c) → NoWaitFailed calls) l m → LogGets (λ calls. IsTurnOwner (known_by_owner c) → FallsIntoTurns later most (Err fault) c calls) l m
-falls_short later most fault c l m ran none =
-    told_as (λ calls. (IsTurnOwner (known_by_owner c) → IsSoFar longest_slice most 0 (known_by_owner c) calls) × (IsTurnOwner (known_by_owner c) → NoWaitFailed calls))
-    (λ calls. IsTurnOwner (known_by_owner c) → FallsIntoTurns later most (Err fault) c calls)
-    (λ calls both owner. let far = both.0 owner in (far.0, far.1, far.2, both.1 owner)) l m
-    (told_both (λ calls. IsTurnOwner (known_by_owner c) → IsSoFar longest_slice most 0 (known_by_owner c) calls) (λ calls. IsTurnOwner (known_by_owner c) → NoWaitFailed calls) l m ran none)
+-- turns that want of memory may have cut short: behind so many whole ones, or in one more
+module _ (later : Option (List ServerAddr)) (most turns whole : ℕ) (fault : NoMemory) (c : Owned) where
+  abbrev Ended : List WorldCall → Type 0
+  Ended calls = (IsTurnOwner (known_by_owner c) → IsSoFar longest_slice turns 0 (known_by_owner c) calls) × (IsTurnOwner (known_by_owner c) → NoWaitFailed calls × IsBegunSoFar c calls)
+
+  falls : turns ≤ most → turns ≤ whole + 1 → (calls : List WorldCall) → Ended calls × SetsShort later whole c calls → IsTurnOwner (known_by_owner c) → FallsIntoTurns later most (Err fault) c calls
+  falls few few_whole calls short owner =
+      let far = short.0.0 owner in
+      let ended = short.0.1 owner in
+      let reads = so_far_reads c.setting 0 longest_slice c.seen calls far.0 0 far.2 in (
+        far.0,
+        omega (arith, few, far.1),
+        far.2,
+        short.1 owner far.0 (omega (arith, few_whole, far.1)),
+        λ some. ended.1 (omega (arith, some, reads)),
+        ended.0,
+      )
+
+  pub falls_short : (l m : Option (List WorldCall)) → turns ≤ most → turns ≤ whole + 1 → RanSince longest_slice turns 0 (known_by_owner c) l m → EndsWell c l m → LogGets (SetsShort later whole c) l m →
+      LogGets (λ calls. IsTurnOwner (known_by_owner c) → FallsIntoTurns later most (Err fault) c calls) l m
+  falls_short l m few few_whole ran well sets =
+      told_as (λ calls. Ended calls × SetsShort later whole c calls) (λ calls. IsTurnOwner (known_by_owner c) → FallsIntoTurns later most (Err fault) c calls) (falls few few_whole) l m
+      (told_both Ended (SetsShort later whole c) l m
+      (told_both (λ calls. IsTurnOwner (known_by_owner c) → IsSoFar longest_slice turns 0 (known_by_owner c) calls) (λ calls. IsTurnOwner (known_by_owner c) → NoWaitFailed calls × IsBegunSoFar c calls) l m ran well) sets)
 
 -- no turn was made yet
 pub made_none : {B : Type 0} (a : Caller B) (r : Running) (l : Option (List WorldCall)) → Made rested 0 a a r r l l
@@ -141,14 +158,6 @@ module _ {B : Type 0} (turns : ℕ) (a : Caller B) (before : Running) (l : Optio
         RunsSince longest_slice turns 0 reach (known_by_owner b.alone) r log m
     made_runs reach x log since = with_any (IsPrompted a.alone.setting) longest_slice turns 0 log m reach (known_by_owner b.alone) r (x.told log since)
 
-    -- what a run of turns is, as a course
-    pub made_course : (reach : Reach) → Made reach turns a b before r l m → (log : Option (List WorldCall)) → RunsSince longest_slice 0 0 rested (known_by_owner a.alone) before log l →
-        LogGets (λ calls. IsTurnOwner (known_by_owner b.alone) → IsCourse b.alone.setting 0 longest_slice b.alone.seen calls turns 0) log m
-    made_course reach x log since =
-        told_as (λ calls. IsTurnOwner (known_by_owner b.alone) → IsUnderWay longest_slice turns 0 reach (known_by_owner b.alone) r calls)
-        (λ calls. IsTurnOwner (known_by_owner b.alone) → IsCourse b.alone.setting 0 longest_slice b.alone.seen calls turns 0)
-        (λ calls way owner. (way owner).course) log m (made_runs reach x log since)
-
 -- ---- logs that go on, and the servers that are set
 
 -- a part of a turn
@@ -174,23 +183,21 @@ module _ {B : Type 0} (later left : Option (List ServerAddr)) (turns : ℕ) (a b
       (then_more later a before l left turns b b m n (moves_none b) refl (grows_paused latest answer b.alone c m n pauses) t)
 
   -- a turn that was cut short sets none
-  pub most_cut : (c : Owned) (r u : Running) (n : Option (List WorldCall)) → (stops : Stops IsCutShort (run_of (known_by_owner b.alone) r m) (run_of (known_by_owner c) u n)) → Then later left turns a b before l m →
-      has_servers a.alone.seen ≡ false → SetsAtMost c.setting later c.seen
-  most_cut c r u n stops t unset =
-      (sets_more later a before l turns turns b (record b { alone = c }) m n (moves_turn b c stops.goes_on stops.made) (λ z. z) (turn_unset b c stops.goes_on stops.made) (grows_told _ m n stops.told) t.sets).at_most unset
+  pub then_cut : (c : Owned) (r u : Running) (n : Option (List WorldCall)) → (stops : Stops IsCutShort (run_of (known_by_owner b.alone) r m) (run_of (known_by_owner c) u n)) → Then later left turns a b before l m →
+      Then later left turns a (record b { alone = c }) before l n
+  then_cut c r u n stops t = then_more later a before l left turns b (record b { alone = c }) m n (moves_turn b c stops.goes_on stops.made) (turn_unset b c stops.goes_on stops.made) (grows_told _ m n stops.told) t
 
   -- nor does a whole one
-  pub most_turned : (c : Owned) (r u : Running) (n : Option (List WorldCall)) (answer : Turned) → (goes : Goes (MakesTurn answer) (run_of (known_by_owner b.alone) r m) (run_of (known_by_owner c) u n)) → Then later left turns a b before l m →
-      has_servers a.alone.seen ≡ false → SetsAtMost c.setting later c.seen
-  most_turned c r u n answer goes t unset =
-      (sets_more later a before l turns turns b (record b { alone = c }) m n (moves_turn b c goes.goes_on goes.made) (λ z. z) (turn_unset b c goes.goes_on goes.made) (grows_told _ m n goes.told) t.sets).at_most unset
+  pub then_whole : (c : Owned) (r u : Running) (n : Option (List WorldCall)) (answer : Turned) → (goes : Goes (MakesTurn answer) (run_of (known_by_owner b.alone) r m) (run_of (known_by_owner c) u n)) → Then later left turns a b before l m →
+      Then later left turns a (record b { alone = c }) before l n
+  then_whole c r u n answer goes t = then_more later a before l left turns b (record b { alone = c }) m n (moves_turn b c goes.goes_on goes.made) (turn_unset b c goes.goes_on goes.made) (grows_told _ m n goes.told) t
 
   -- behind one those were set that were left
   pub then_turned : (c d : Owned) (r u : Running) (n : Option (List WorldCall)) (answer : Turned) (done : Unit {0}) → (goes : Goes (MakesTurn answer) (run_of (known_by_owner b.alone) r m) (run_of (known_by_owner c) u n)) →
-      Made turned (turns + 1) a (record b { alone = c }) before u l n → SetsLater left (Ok done) c d → Then later left turns a b before l m → Then later None (turns + 1) a (record b { alone = d }) before l n
-  then_turned c d r u n answer done goes x set t =
+      IsAsked b.alone → Made following turns a b before r l m → SetsLater left (Ok done) c d → Then later left turns a b before l m → Then later None (turns + 1) a (record b { alone = d }) before l n
+  then_turned c d r u n answer done goes asked x set t =
       then_set later a before l left turns b (record b { alone = c }) m n (moves_turn b c goes.goes_on goes.made) (turn_unset b c goes.goes_on goes.made) (grows_told _ m n goes.told) t
-      (made_course (turns + 1) a before l (record b { alone = c }) u n turned x) d done set
+      (λ first log since. first_turned turns b.alone log m (x.well log since) c r u n (made_runs turns a before l b r m following x log since) answer goes asked first) d done set
 
 -- ---- how the turns come to their end
 
@@ -278,28 +285,35 @@ module _ {B : Type 0} (later left : Option (List ServerAddr)) (most turns : ℕ)
 
   -- want of memory cut a turn short
   pub ends_cut : (result : Result LoopEnd NoMemory) (c : Owned) (s : Running) (n : Option (List WorldCall)) → is_err result ≡ true → turns + 1 ≤ most →
-      (stops : Stops IsCutShort (run_of (known_by_owner b.alone) r m) (run_of (known_by_owner c) s n)) → (has_servers a.alone.seen ≡ false → SetsAtMost c.setting later c.seen) →
-      Made following turns a b before r l m → MakesTurns later most result a (record b { alone = c }) before l n
-  ends_cut (Ok end) c s n err few stops sets x = absurd (cc err)
-  ends_cut (Err fault) c s n err few stops sets x =
+      (stops : Stops IsCutShort (run_of (known_by_owner b.alone) r m) (run_of (known_by_owner c) s n)) → IsAsked b.alone → Made following turns a b before r l m → Then later left turns a (record b { alone = c }) before l n →
+      MakesTurns later most result a (record b { alone = c }) before l n
+  ends_cut (Ok end) c s n err few stops asked x t = absurd (cc err)
+  ends_cut (Err fault) c s n err few stops asked x t =
       ends_by later most (Err fault) a (record b { alone = c }) before l n
-      (moves_trans a b (record b { alone = c }) x.moves (moves_turn b c stops.goes_on stops.made)) tt sets
+      (moves_trans a b (record b { alone = c }) x.moves (moves_turn b c stops.goes_on stops.made)) tt t.sets.at_most
       (λ log since unset.
       let runs = made_runs turns a before l b r m following x log since in
-      falls_short later most fault c log n (ran_at_most longest_slice (turns + 1) most 0 (known_by_owner c) log n few (runs_cut longest_slice turns 0 log m (known_by_owner b.alone) (known_by_owner c) r s n stops runs))
-      (well_cut turns b.alone log m (x.well log since) c r s n runs stops))
+      falls_short later most (turns + 1) turns fault c log n few (omega arith)
+      (runs_cut longest_slice turns 0 log m (known_by_owner b.alone) (known_by_owner c) r s n stops runs)
+      (well_cut turns b.alone log m (x.well log since) c r s n runs stops asked)
+      (sets_short later a before l left turns (record b { alone = c }) n t log since unset))
 
-  -- or it came where the later servers were to be set
-  pub ends_unset : (result : Result LoopEnd NoMemory) (ls : Option (List ServerAddr)) (set_result : Result (Unit {0}) NoMemory) (c : Owned) → is_err result ≡ true → is_err set_result ≡ true → turns ≤ most → SetsLater ls set_result b.alone c → (has_servers a.alone.seen ≡ false → SetsAtMost b.alone.setting later b.alone.seen) →
-      Made turned turns a b before r l m → MakesTurns later most result a (record b { alone = c }) before l m
-  ends_unset (Ok end) ls set_result c err failed few set sets x = absurd (cc err)
-  ends_unset (Err fault) ls set_result c err failed few set sets x =
-      subst (λ o. MakesTurns later most (Err fault) a (record b { alone = o }) before l m) (sym (same ls set_result failed set))
-      (ends_by later most (Err fault) a b before l m x.moves tt sets
+  -- or it came behind a turn
+  ends_behind : (fault : NoMemory) (reach : Reach) (whole : ℕ) → 1 ≤ turns → turns ≤ most → turns ≤ whole + 1 → Made reach turns a b before r l m → Then later left whole a b before l m → MakesTurns later most (Err fault) a b before l m
+  ends_behind fault reach whole some few few_whole x t =
+      ends_by later most (Err fault) a b before l m x.moves tt t.sets.at_most
       (λ log since unset.
-      falls_short later most fault b.alone log m
-      (ran_at_most longest_slice turns most 0 (known_by_owner b.alone) log m few (ran_so_far longest_slice turns 0 log m turned (known_by_owner b.alone) r (made_runs turns a before l b r m turned x log since)))
-      (well_so_far turns b.alone log m (x.well log since))))
+      falls_short later most turns whole fault b.alone log m few few_whole
+      (ran_so_far longest_slice turns 0 log m reach (known_by_owner b.alone) r (made_runs turns a before l b r m reach x log since))
+      (well_so_far turns b.alone log m (x.well log since) some)
+      (sets_short later a before l left whole b m t log since unset))
+
+  -- where the later servers were to be set
+  pub ends_unset : (result : Result LoopEnd NoMemory) (ls : Option (List ServerAddr)) (set_result : Result (Unit {0}) NoMemory) (whole : ℕ) (c : Owned) → is_err result ≡ true → is_err set_result ≡ true → 1 ≤ turns → turns ≤ most → turns ≤ whole + 1 →
+      SetsLater ls set_result b.alone c → Made turned turns a b before r l m → Then later left whole a b before l m → MakesTurns later most result a (record b { alone = c }) before l m
+  ends_unset (Ok end) ls set_result whole c err failed some few few_whole set x t = absurd (cc err)
+  ends_unset (Err fault) ls set_result whole c err failed some few few_whole set x t =
+      subst (λ o. MakesTurns later most (Err fault) a (record b { alone = o }) before l m) (sym (same ls set_result failed set)) (ends_behind fault turned whole some few few_whole x t)
     where
       same : (ls : Option (List ServerAddr)) (set_result : Result (Unit {0}) NoMemory) → is_err set_result ≡ true → SetsLater ls set_result b.alone c → c ≡ b.alone
       same None set_result failed set = set
@@ -307,16 +321,9 @@ module _ {B : Type 0} (later left : Option (List ServerAddr)) (most turns : ℕ)
       same (Some addresses) (Err fault) failed set = set
 
   -- or to a pause
-  pub ends_unpaused : (result : Result LoopEnd NoMemory) (c : Owned) (n : Option (List WorldCall)) → is_err result ≡ true → turns ≤ most →
-      HasLooked (known_by_owner b.alone) (known_by_owner c) × (n ≡ m) → (has_servers a.alone.seen ≡ false → SetsAtMost b.alone.setting later b.alone.seen) → Made delivered turns a b before r l m → MakesTurns later most result a (record b { alone = c }) before l n
-  ends_unpaused (Ok end) c n err few looked sets x = absurd (cc err)
-  ends_unpaused (Err fault) c n err few looked sets x =
-      let same : c ≡ b.alone = looked_same b.alone c looked.0 in
-      ends_by later most (Err fault) a (record b { alone = c }) before l n
-      (subst (λ o. Moves a (record b { alone = o })) (sym same) x.moves) tt
-      (λ unset. subst (λ o. SetsAtMost o.setting later o.seen) (sym same) (sets unset))
-      (λ log since unset.
-      falls_short later most fault c log n
-      (ran_at_most longest_slice turns most 0 (known_by_owner c) log n few (runs_unpaused longest_slice turns 0 log m (known_by_owner b.alone) (known_by_owner c) r n looked (made_runs turns a before l b r m delivered x log since)))
-      (subst (λ k. LogGets (λ calls. IsTurnOwner (known_by_owner c) → NoWaitFailed calls) log k) (sym looked.1)
-      (subst (λ o. LogGets (λ calls. IsTurnOwner (known_by_owner o) → NoWaitFailed calls) log m) (sym same) (well_so_far turns b.alone log m (x.well log since)))))
+  pub ends_unpaused : (result : Result LoopEnd NoMemory) (c : Owned) (n : Option (List WorldCall)) → is_err result ≡ true → 1 ≤ turns → turns ≤ most →
+      HasLooked (known_by_owner b.alone) (known_by_owner c) × (n ≡ m) → Made delivered turns a b before r l m → Then later left turns a b before l m → MakesTurns later most result a (record b { alone = c }) before l n
+  ends_unpaused (Ok end) c n err some few looked x t = absurd (cc err)
+  ends_unpaused (Err fault) c n err some few looked x t =
+      subst (λ o. MakesTurns later most (Err fault) a (record b { alone = o }) before l n) (sym (looked_same b.alone c looked.0))
+      (subst (λ k. MakesTurns later most (Err fault) a b before l k) (sym looked.1) (ends_behind fault delivered turns some few (omega arith) x t))

@@ -50,7 +50,7 @@ module _ {B : Type 0} (later left : Option (List ServerAddr)) (turns count : ℕ
     round done e set f delivers none =
         let b_set : Caller B = record b { alone = e } in
         let set_made : Made turned (turns + 1) a b_set before u l n = made_then (turns + 1) a before l turned b_turned b_set u n (moves_set left (Ok done) b_turned e set) turned_made in
-        let set_sets : Then later None (turns + 1) a b_set before l n = then_turned later left turns a b_counted before l m d e r u n answer done goes turned_made set counted_sets in
+        let set_sets : Then later None (turns + 1) a b_set before l n = then_turned later left turns a b_counted before l m d e r u n answer done goes (asked_here count b.alone c counts some none_ready) counted_made set counted_sets in
         let all : MovesQuietly b_set f = quiet_all b_set f (moves_idle a b_set set_made.moves idle) delivers in
         record {
           made = made_delivered (turns + 1) a before l f u n none (made_then (turns + 1) a before l turned b_set f u n (all.0, all.1, prompted_all b_set f delivers all.0 none) set_made);

@@ -1,5 +1,5 @@
 -- A whole session: it begins, its requests are accepted, and turns are made.
-use Rattle.std.proofs.Common.{◌≡◌, ◌∙◌, ℕ, ◌==◌, ◌&&◌, ◌||◌, Bool, true, false, List, [], ◌++◌, map, not, is_some, refl, ap, sym, subst, arith}
+use Rattle.std.proofs.Common.{◌≡◌, ◌∙◌, ℕ, ◌==◌, ◌&&◌, ◌||◌, Bool, true, false, List, [], ◌++◌, map, not, is_some, refl, ap, sym, subst, inr, arith}
 use Rattle.std.specs.Prelude.{Err, Ok, Option, Result, is_err, option_map}
 use Rattle.std.specs.List.{list_all}
 use Rattle.std.proofs.lemmas.Bool.{and_from, and_parts}
@@ -22,10 +22,10 @@ use Rattle.channel_model.specs.Lawful.{IsLawful}
 use Rattle.channel_model.specs.Servers.{keyed_from}
 use Rattle.channel_model.specs.Setting.{Setting}
 use Rattle.channel_table.specs.Calling.{Owned, known_by_owner}
-use Rattle.event_runner.proofs.Theorems.{ran_at_most, ran_so_far, runs_begin, runs_behind, runs_unbegun, told_as}
+use Rattle.event_runner.proofs.Theorems.{ran_so_far, runs_begin, runs_behind, runs_unbegun, told_as}
 use Rattle.event_runner.specs.Running.{Running}
 use Rattle.event_runner.specs.State.{IsTurnOwner}
-use Rattle.event_runner.specs.UnderWay.{RanSince, RunsSince, rested}
+use Rattle.event_runner.specs.UnderWay.{IsSoFar, RanSince, RunsSince, rested}
 use Rattle.net_world.specs.Logs.{LogGets}
 use Rattle.ahost_tool.specs.Delivering.{IsIdle}
 use Rattle.ahost_tool.specs.Kinds.{has_servers, is_cancel, is_of_session, is_ruled, is_servers}
@@ -39,7 +39,7 @@ use Rattle.ahost_tool.proofs.LoopLemmas.{falls_short}
 use Rattle.owner_laws.proofs.Well.{well_unbegun}
 use Rattle.ahost_tool.proofs.MoveLemmas.{own_all, ruled_seats, session_ruled}
 use Rattle.ahost_tool.proofs.ObeyLemmas.{is_plain}
-use Rattle.ahost_tool.proofs.ThenLemmas.{at_most_none}
+use Rattle.ahost_tool.proofs.ThenLemmas.{SetsShort, at_most_none}
 
 -- ---- before the first entry
 
@@ -140,7 +140,8 @@ module _ {B : Type 0} (askings : List Asking) (later : Option (List ServerAddr))
     sets = at_most_none b.alone.setting later b.alone.seen unset;
     told = told_as (λ calls. IsTurnOwner (known_by_owner b.alone) → FallsIntoTurns later turns (Err fault) b.alone calls) (FallsIntoTurns later turns (Err fault) b.alone)
         (λ calls falls. falls (owner_of b.alone.seen kept.1.ruled)) l m
-        (falls_short later turns fault b.alone l m (ran_at_most longest_slice 0 turns 0 (known_by_owner b.alone) l m (omega arith) ran) (well_unbegun b.alone l m ran));
+        (falls_short later turns 0 0 fault b.alone l m (omega arith) (omega arith) ran (well_unbegun b.alone l m ran)
+        (told_as (λ calls. IsTurnOwner (known_by_owner b.alone) → IsSoFar longest_slice 0 0 (known_by_owner b.alone) calls) (SetsShort later 0 b.alone) (λ calls far owner made few. inr (few, unset)) l m ran));
   }
 
   -- while the servers were told

@@ -1,5 +1,5 @@
 -- The servers that are set behind the first turn: what the journal has of them, and where they stand among the network's calls.
-use Rattle.std.proofs.Common.{◌≡◌, ◌≢◌, ◌∙◌, ℕ, ◌+◌, ◌==◌, ◌||◌, Bool, true, false, not, List, [], ◌∷◌, ◌++◌, Option, Some, None, Result, Ok, Err, inl, inr, refl, sym, ap, subst, arith, eq-eqb, eqb-true}
+use Rattle.std.proofs.Common.{◌≡◌, ◌≢◌, ◌∙◌, ℕ, ◌+◌, ◌≤◌, ◌==◌, ◌||◌, Bool, true, false, not, List, [], ◌∷◌, ◌++◌, Option, Some, None, Result, Ok, Err, inl, inr, refl, sym, ap, subst, arith, eq-eqb, eqb-true}
 use Rattle.std.specs.Prelude.{⊤}
 use Rattle.std.proofs.lemmas.Bool.{and_parts}
 use Rattle.std.proofs.lemmas.List.{append-nil, append_assoc}
@@ -10,7 +10,7 @@ use Rattle.net_addr.specs.declared.addr.ServerAddr.{ServerAddr}
 use Rattle.net_world.specs.declared.log.WorldCall.{WorldCall}
 use Rattle.chan_types.specs.declared.journal.Entry.{Entry}
 use Rattle.channel_model.proofs.Theorems.{servers-ready}
-use Rattle.channel_model.specs.Course.{IsCourse, is_of_turn}
+use Rattle.channel_model.specs.Course.{is_of_turn}
 use Rattle.channel_model.specs.Journal.{past_of}
 use Rattle.channel_model.specs.Servers.{keys_for}
 use Rattle.channel_model.specs.Setting.{Setting}
@@ -21,8 +21,9 @@ use Rattle.event_runner.specs.State.{IsTurnOwner}
 use Rattle.event_runner.specs.UnderWay.{IsUnderWay, RunsSince, rested}
 use Rattle.net_world.specs.Logs.{LogGets}
 use Rattle.ahost_tool.specs.Kinds.{has_servers, is_servers}
-use Rattle.ahost_tool.specs.Session.{SetsAtMost, SetsBehindFirst, SetsLater, SetsOnce, SetsThese, servers_entry}
+use Rattle.ahost_tool.specs.Session.{SetsAtMost, SetsBehindFirst, SetsLater, SetsOnce, SetsSoFar, SetsThese, servers_entry}
 use Rattle.owner_laws.specs.Sessions.{FirstTurn, longest_slice}
+use Rattle.owner_laws.proofs.Begun.{first_on}
 use Rattle.ahost_tool.specs.declared.caller.Caller.{Caller}
 use Rattle.ahost_tool.proofs.ListLemmas.{any_of}
 use Rattle.ahost_tool.proofs.MoveLemmas.{Moves, moves_none, moves_plain}
@@ -50,26 +51,17 @@ pub at_most_none : (setting : Setting) (later : Option (List ServerAddr)) (journ
 at_most_none setting None journal unset = unset
 at_most_none setting (Some addresses) journal unset = inl unset
 
--- a first turn is one in a longer run
-first_more : (setting : Setting) (earlier : List Entry) (calls more : List WorldCall) → FirstTurn setting earlier calls → FirstTurn setting earlier (calls ++ more)
-first_more setting earlier calls more turn = record {
-  calls_earlier = turn.calls_earlier;
-  calls_behind = turn.calls_behind ++ more;
-  calls_are = ap (λ l. l ++ more) turn.calls_are ∙ append_assoc turn.calls_earlier turn.calls_behind more;
-  course = turn.course;
-}
-
 pub behind_more : (setting : Setting) (later : Option (List ServerAddr)) (made again : ℕ) (journal es : List Entry) (calls more : List WorldCall) → (made ≡ 0 → again ≡ 0) → has_servers es ≡ false →
     SetsBehindFirst setting later made journal calls → SetsBehindFirst setting later again (journal ++ es) (calls ++ more)
 behind_more setting None made again journal es calls more zero_ none sets = any_of (λ e. is_servers e.what) journal es sets none
 behind_more setting (Some addresses) made again journal es calls more zero_ none (inl first) = inl (zero_ first.0, any_of (λ e. is_servers e.what) journal es first.1 none)
 behind_more setting (Some addresses) made again journal es calls more zero_ none (inr (inl set)) =
-    inr (inl (record { sets = once_more setting addresses journal es none set.sets; behind_first = first_more setting set.sets.earlier calls more set.behind_first }))
+    inr (inl (record { sets = once_more setting addresses journal es none set.sets; behind_first = first_on setting set.sets.earlier calls more set.behind_first }))
 behind_more setting (Some addresses) made again journal es calls more zero_ none (inr (inr not_set)) = inr (inr (record {
   earlier = not_set.earlier;
   behind = not_set.behind ++ es;
   parts = ap (λ l. l ++ es) not_set.parts ∙ append_assoc not_set.earlier not_set.behind es;
-  behind_first = first_more setting not_set.earlier calls more not_set.behind_first;
+  behind_first = first_on setting not_set.earlier calls more not_set.behind_first;
   destroyed = not_set.destroyed;
   none_set = any_of (λ e. is_servers e.what) journal es not_set.none_set none;
 }))
@@ -78,6 +70,12 @@ behind_more setting (Some addresses) made again journal es calls more zero_ none
 behind_none : (setting : Setting) (later : Option (List ServerAddr)) (journal : List Entry) (calls : List WorldCall) → has_servers journal ≡ false → SetsBehindFirst setting later 0 journal calls
 behind_none setting None journal calls unset = unset
 behind_none setting (Some addresses) journal calls unset = inl (refl, unset)
+
+-- behind the first turn it is no matter how many turns were made
+behind_any : (setting : Setting) (later : Option (List ServerAddr)) (made again : ℕ) (journal : List Entry) (calls : List WorldCall) → made ≢ 0 → SetsBehindFirst setting later made journal calls → SetsBehindFirst setting later again journal calls
+behind_any setting None made again journal calls some sets = sets
+behind_any setting (Some addresses) made again journal calls some (inl first) = absurd (some first.0)
+behind_any setting (Some addresses) made again journal calls some (inr sets) = inr sets
 
 -- ---- a session so far
 
@@ -108,6 +106,11 @@ pub record Then {B : Type 0} (later left : Option (List ServerAddr)) (turns : �
   pub unset : turns ≡ 0 → has_servers old.alone.seen ≡ false → has_servers new.alone.seen ≡ false
   pub sets : Sets later turns old new before log_old log_new
 
+-- what calls say of servers that are set, where want of memory ended the run behind so many whole turns, or in one more
+abbrev pub SetsShort : Option (List ServerAddr) → ℕ → Owned → List WorldCall → Type 0
+SetsShort later turns channel calls =
+    IsTurnOwner (known_by_owner channel) → (made : ℕ) → made ≤ turns + 1 → SetsSoFar channel.setting later made channel.seen calls
+
 module _ {B : Type 0} (later : Option (List ServerAddr)) (a : Caller B) (before : Running) (l : Option (List WorldCall)) where
   -- a part that sets no servers
   unset_more : (b c : Caller B) (m : Moves b c) → has_servers m.since ≡ false → has_servers b.alone.seen ≡ false → has_servers c.alone.seen ≡ false
@@ -117,7 +120,7 @@ module _ {B : Type 0} (later : Option (List ServerAddr)) (a : Caller B) (before 
   most_more b c m none most =
       subst (λ s. SetsAtMost s later c.alone.seen) (sym m.setting) (subst (SetsAtMost b.alone.setting later) (sym m.seen) (at_most_more b.alone.setting later b.alone.seen m.since none most))
 
-  pub sets_more : (turns again : ℕ) (b c : Caller B) (k n : Option (List WorldCall)) (m : Moves b c) → (turns ≡ 0 → again ≡ 0) → has_servers m.since ≡ false → Grows k n →
+  sets_more : (turns again : ℕ) (b c : Caller B) (k n : Option (List WorldCall)) (m : Moves b c) → (turns ≡ 0 → again ≡ 0) → has_servers m.since ≡ false → Grows k n →
       Sets later turns a b before l k → Sets later again a c before l n
   sets_more turns again b c k n m zero_ none grows s = record {
     at_most = λ unset. most_more b c m none (s.at_most unset);
@@ -158,25 +161,26 @@ module _ {B : Type 0} (later : Option (List ServerAddr)) (a : Caller B) (before 
     sets = sets_more turns turns b c k n m (λ zero_. zero_) none grows t.sets;
   }
 
+  -- want of memory ends the run here, or in a turn that sets none
+  pub sets_short : (left : Option (List ServerAddr)) (turns : ℕ) (c : Caller B) (n : Option (List WorldCall)) → Then later left turns a c before l n →
+      (log : Option (List WorldCall)) → RunsSince longest_slice 0 0 rested (known_by_owner a.alone) before log l → has_servers a.alone.seen ≡ false → LogGets (SetsShort later turns c.alone) log n
+  sets_short left turns c n t log since unset =
+      told_as (λ calls. IsTurnOwner (known_by_owner c.alone) → SetsBehindFirst c.alone.setting later turns c.alone.seen calls) (SetsShort later turns c.alone)
+      (λ calls sets owner made few. by calls made few (sets owner) (turns == 0) refl) log n (t.sets.told log since unset)
+    where
+      by : (calls : List WorldCall) (made : ℕ) → made ≤ turns + 1 → SetsBehindFirst c.alone.setting later turns c.alone.seen calls → (z : Bool) → (turns == 0) ≡ z → SetsSoFar c.alone.setting later made c.alone.seen calls
+      by calls made few sets true is = let zero_ : turns ≡ 0 = eqb-true turns 0 is in inr (omega (arith, few, zero_), t.unset zero_ unset)
+      by calls made few sets false is =
+          let some : turns ≢ 0 = λ zero_. absurd (let h : true ≡ false = sym (eq-eqb turns 0 zero_) ∙ is in cc) in
+          inl (behind_any c.alone.setting later turns made c.alone.seen calls some sets)
+
   -- a turn, and behind it the servers that were still to be set
   module _ (left : Option (List ServerAddr)) (turns : ℕ) (b c : Caller B) (k n : Option (List WorldCall)) (m : Moves b c) (none : has_servers m.since ≡ false) (grows : Grows k n)
       (t : Then later left turns a b before l k)
-      (ran : (log : Option (List WorldCall)) → RunsSince longest_slice 0 0 rested (known_by_owner a.alone) before log l →
-      LogGets (λ calls. IsTurnOwner (known_by_owner c.alone) → IsCourse c.alone.setting 0 longest_slice c.alone.seen calls (turns + 1) 0) log n) where
-    -- behind a turn, before that
-    pub most_turned : has_servers a.alone.seen ≡ false → SetsAtMost c.alone.setting later c.alone.seen
-    most_turned unset = most_more b c m none (t.sets.at_most unset)
-
+      (ran : turns ≡ 0 → (log : Option (List WorldCall)) → RunsSince longest_slice 0 0 rested (known_by_owner a.alone) before log l →
+      LogGets (λ calls. IsTurnOwner (known_by_owner c.alone) → FirstTurn c.alone.setting c.alone.seen calls) log n) where
     -- they were set, and these are they
     module _ (first : turns ≡ 0) where
-      one_turn : (calls : List WorldCall) → IsCourse c.alone.setting 0 longest_slice c.alone.seen calls (turns + 1) 0 → FirstTurn c.alone.setting c.alone.seen calls
-      one_turn calls course = record {
-        calls_earlier = calls;
-        calls_behind = [];
-        calls_are = sym (append-nil calls);
-        course = subst (λ i. IsCourse c.alone.setting 0 longest_slice c.alone.seen calls (i + 1) 0) first course;
-      }
-
       still_unset : has_servers a.alone.seen ≡ false → has_servers c.alone.seen ≡ false
       still_unset unset = unset_more b c m none (t.unset first unset)
 
@@ -187,15 +191,15 @@ module _ {B : Type 0} (later : Option (List ServerAddr)) (a : Caller B) (before 
             at_most = λ unset. inr (once unset);
             told = λ log since unset.
                 told_as
-                (λ calls. IsTurnOwner (known_by_owner c.alone) → IsCourse c.alone.setting 0 longest_slice c.alone.seen calls (turns + 1) 0)
+                (λ calls. IsTurnOwner (known_by_owner c.alone) → FirstTurn c.alone.setting c.alone.seen calls)
                 (λ calls. IsTurnOwner (known_by_owner (record c.alone { seen = c.alone.seen ++ servers_entry c.alone.setting addresses (past_of c.alone.seen) ∷ [] })) →
                 SetsBehindFirst c.alone.setting (Some addresses) (turns + 1) (c.alone.seen ++ servers_entry c.alone.setting addresses (past_of c.alone.seen) ∷ []) calls)
-                (λ calls course owner. inr (inl (record {
+                (λ calls turn owner. inr (inl (record {
                   sets = once unset;
-                  behind_first = one_turn calls (course
-                      (owner_first c.alone (record c.alone { seen = c.alone.seen ++ servers_entry c.alone.setting addresses (past_of c.alone.seen) ∷ [] }) (servers_entry c.alone.setting addresses (past_of c.alone.seen) ∷ []) refl owner));
+                  behind_first =
+                      turn (owner_first c.alone (record c.alone { seen = c.alone.seen ++ servers_entry c.alone.setting addresses (past_of c.alone.seen) ∷ [] }) (servers_entry c.alone.setting addresses (past_of c.alone.seen) ∷ []) refl owner);
                 })))
-                log n (ran log since);
+                log n (ran first log since);
           }))
         where
           once : has_servers a.alone.seen ≡ false → SetsOnce c.alone.setting addresses (c.alone.seen ++ servers_entry c.alone.setting addresses (past_of c.alone.seen) ∷ [])
@@ -206,17 +210,17 @@ module _ {B : Type 0} (later : Option (List ServerAddr)) (a : Caller B) (before 
             at_most = λ unset. inl (still_unset unset);
             told = λ log since unset.
                 told_as
-                (λ calls. IsTurnOwner (known_by_owner c.alone) → IsCourse c.alone.setting 0 longest_slice c.alone.seen calls (turns + 1) 0)
+                (λ calls. IsTurnOwner (known_by_owner c.alone) → FirstTurn c.alone.setting c.alone.seen calls)
                 (λ calls. IsTurnOwner (known_by_owner c.alone) → SetsBehindFirst c.alone.setting (Some addresses) (turns + 1) c.alone.seen calls)
-                (λ calls course owner. inr (inr (record {
+                (λ calls turn owner. inr (inr (record {
                   earlier = c.alone.seen;
                   behind = [];
                   parts = sym (append-nil c.alone.seen);
-                  behind_first = one_turn calls (course owner);
+                  behind_first = turn owner;
                   destroyed = closed.0;
                   none_set = still_unset unset;
                 })))
-                log n (ran log since);
+                log n (ran first log since);
           }))
 
       set_first : (ls : Option (List ServerAddr)) → later ≡ ls → (d : Owned) (nothing : Unit {0}) → SetsLater ls (Ok nothing) c.alone d → Sets later (turns + 1) a (record c { alone = d }) before l n
@@ -226,9 +230,9 @@ module _ {B : Type 0} (later : Option (List ServerAddr)) (a : Caller B) (before 
             at_most = λ unset. still_unset unset;
             told = λ log since unset.
                 told_as
-                (λ calls. IsTurnOwner (known_by_owner c.alone) → IsCourse c.alone.setting 0 longest_slice c.alone.seen calls (turns + 1) 0)
+                (λ calls. IsTurnOwner (known_by_owner c.alone) → FirstTurn c.alone.setting c.alone.seen calls)
                 (λ calls. IsTurnOwner (known_by_owner c.alone) → SetsBehindFirst c.alone.setting None (turns + 1) c.alone.seen calls)
-                (λ calls course owner. still_unset unset) log n (ran log since);
+                (λ calls turn owner. still_unset unset) log n (ran first log since);
           }))
       set_first (Some addresses) is d nothing set = set_these addresses is d set
 

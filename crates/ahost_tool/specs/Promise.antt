@@ -1,6 +1,6 @@
 -- What a run promises: one journal orders what happened in its channel, and what it asked, sent, called and put follows from that journal.
 use Rattle.std.specs.List.{AllByRecursion, list_all}
-use Rattle.std.specs.Prelude.{IsTrue, List, Option, Some, [], count_by, length, map, ℕ, ◌*◌, ◌+◌, ◌<◌, ◌≡◌, ◌≢◌, ◌≤◌, ◌⊎◌}
+use Rattle.std.specs.Prelude.{IsFalse, IsTrue, List, Option, Some, [], count_by, length, map, ℕ, ◌*◌, ◌+◌, ◌<◌, ◌≡◌, ◌≢◌, ◌≤◌, ◌⊎◌}
 use mathlib.Core.List.{IsPrefix}
 use Rattle.chan_types.specs.declared.journal.Entry.{Entry}
 use Rattle.net_world.specs.Cause.{Rose}
@@ -26,10 +26,10 @@ use Rattle.tool_line.specs.declared.ending.Exit.{Exit}
 use Rattle.tool_line.specs.declared.ending.Exit.TheVariants.{Failure, FileFault, OutOfMemory, SinkFault, Stalled, Success, Usage, WaitFault}
 use Rattle.ahost_tool.specs.Asked.{Asked}
 use Rattle.run_end.specs.Ends.{AreGood}
-use Rattle.ahost_tool.specs.Kinds.{is_ruled}
+use Rattle.ahost_tool.specs.Kinds.{has_servers, is_ruled}
 use Rattle.ahost_tool.specs.Page.{report_of, text_at}
 use Rattle.ahost_tool.specs.Session.{SetsAtMost, SetsBehindFirst}
-use Rattle.owner_laws.specs.Sessions.{BeginsPending, EndsWithFailedWait, longest_slice}
+use Rattle.owner_laws.specs.Sessions.{BeginsCut, BeginsPending, EndsWithFailedWait, longest_slice}
 use Rattle.run_end.specs.declared.ended.Ended.{Ended}
 use Rattle.ahost_tool.specs.declared.reporting.Report.{Report}
 
@@ -64,11 +64,11 @@ pub record IsTraffic (setting : Setting) (later : Option (List ServerAddr)) (tur
   pub readings : turns_in calls ≡ made
   -- Journal and calls fall into these turns: the servers of the setting are told before the first, nothing waits before it, and between two there is one wait, up to the first deadline, where there is nothing to do, or none where there is something. Want of memory alone cuts this short.
   pub course : end ≢ OutOfMemory → IsCourse setting 0 longest_slice journal calls made 0
-  -- The later servers, if there are some, are set behind the first turn and before the second, unless the channel was destroyed before that.
-  pub sets_behind : end ≢ OutOfMemory → SetsBehindFirst setting later made journal calls
+  -- The later servers, if there are some, are set behind the first turn and before the second, unless the channel was destroyed before that; or memory was wanting, no second turn was made, and none were set.
+  pub sets_behind : SetsBehindFirst setting later made journal calls ⊎ ((end ≡ OutOfMemory) × (made ≤ 1) × IsFalse (has_servers journal))
   pub course_so_far : IsCourseSoFar setting 0 longest_slice journal calls made 0
-  -- A first turn is made only where a request is pending, and nothing is ready.
-  pub begins : end ≢ OutOfMemory → 1 ≤ made → BeginsPending setting journal calls
+  -- A first turn is made only where a request is pending, and nothing is ready; where memory was wanting it may be the only one, and cut short.
+  pub begins : 1 ≤ made → BeginsPending setting journal calls ⊎ ((end ≡ OutOfMemory) × BeginsCut setting journal calls)
   -- So what the journal notes of messages, queries, links and faults is what these calls tell; where memory was wanting, but for one call.
   pub agrees : end ≢ OutOfMemory → TrafficAgrees setting 0 journal calls
   pub nearly_agrees : NearlyAgrees setting 0 beginning journal calls

@@ -27,7 +27,7 @@ use Rattle.net_world.specs.Logs.{LogGets}
 use Rattle.ahost_tool.specs.Delivering.{IsIdle}
 use Rattle.ahost_tool.specs.Kinds.{has_servers, is_of_session, is_ruled}
 use Rattle.ahost_tool.specs.declared.caller.Caller.{Caller}
-use Rattle.owner_laws.specs.Sessions.{BeginsPending, EndsWithFailedWait, FirstTurn, longest_slice}
+use Rattle.owner_laws.specs.Sessions.{BeginsPending, BeginsSoFar, EndsWithFailedWait, FirstTurn, longest_slice}
 use Rattle.run_end.specs.Left.{LeavesPending}
 use Rattle.run_end.specs.declared.loop_end.LoopEnd.{LoopEnd}
 use Rattle.run_end.specs.declared.loop_end.LoopEnd.TheVariants.{Completed, Stalled, WaitFault}
@@ -112,6 +112,10 @@ SetsBehindFirst setting None made journal calls = IsFalse (has_servers journal)
 SetsBehindFirst setting (Some addresses) made journal calls =
     ((made ≡ 0) × IsFalse (has_servers journal)) ⊎ AreSetBehind setting addresses journal calls ⊎ AreNotSet setting journal calls
 
+-- the same of a run that wanted memory: where it made no second turn, it may have set none
+abbrev pub SetsSoFar : Setting → Option (List ServerAddr) → ℕ → List Entry → List WorldCall → Type 0
+SetsSoFar setting later made journal calls = SetsBehindFirst setting later made journal calls ⊎ ((made ≤ 1) × IsFalse (has_servers journal))
+
 -- ---- turns
 
 -- how many requests are pending
@@ -133,7 +137,8 @@ FallsIntoTurns later turns (Ok end) channel calls =
     (made : ℕ) × (made ≤ turns) × IsCourse channel.setting 0 longest_slice channel.seen calls made 0
     × SetsBehindFirst channel.setting later made channel.seen calls × (1 ≤ made → BeginsPending channel.setting channel.seen calls) × ShowsEnd turns end channel made calls
 FallsIntoTurns later turns (Err fault) channel calls =
-    (made : ℕ) × (made ≤ turns) × IsCourseSoFar channel.setting 0 longest_slice channel.seen calls made 0 × NoWaitFailed calls
+    (made : ℕ) × (made ≤ turns) × IsCourseSoFar channel.setting 0 longest_slice channel.seen calls made 0
+    × SetsSoFar channel.setting later made channel.seen calls × (1 ≤ made → BeginsSoFar channel.setting channel.seen calls) × NoWaitFailed calls
 
 -- what is said of a channel between two calls of its owner, with the answers that were told, and so many requests of callbacks that were lost as far as a count goes: the journal is lawful, callbacks were obeyed, and each request that was taken was called, in this order, with its fate
 pub record HasObeyed (setting : Setting) (journal : List Entry) (orders : Orders) (calls : List Answer) (count : ℕ) : Type 0 where

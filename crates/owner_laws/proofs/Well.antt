@@ -1,15 +1,18 @@
 -- Turns of which none was made behind a failed wait, and none first where nothing was pending.
-use Rattle.std.proofs.Common.{◌≡◌, ◌≢◌, ◌∙◌, ℕ, ◌+◌, ◌==◌, ◌||◌, ◌≤◌, Bool, true, false, not, List, [], ◌∷◌, ◌++◌, refl, ap, sym, subst, arith, ltb-true, ltb-false}
+use Rattle.std.proofs.Common.{◌≡◌, ◌≢◌, ◌∙◌, ℕ, ◌+◌, ◌==◌, ◌||◌, ◌≤◌, Bool, true, false, not, List, [], ◌∷◌, ◌++◌, refl, ap, sym, subst, inl, inr, arith, ltb-true, ltb-false}
 use Rattle.std.specs.Prelude.{Option, nat_lt}
 use Rattle.std.specs.List.{list_all}
 use Rattle.std.proofs.lemmas.Bool.{and_parts}
+use Rattle.std.proofs.lemmas.List.{append-nil}
 use Rattle.std.proofs.lemmas.List.Folds.{list_all-append}
 use Rattle.chan_types.specs.declared.journal.Entry.{Entry}
 use Rattle.net_world.specs.Logs.{LogGets}
 use Rattle.net_world.specs.declared.answers.Waited.TheVariants.{Failed as NotWaited, Woken as WasWoken}
 use Rattle.net_world.specs.declared.log.WorldCall.{WorldCall}
 use Rattle.net_world.specs.declared.log.WorldCall.TheVariants.{Wait}
+use Rattle.channel_model.proofs.Theorems.{course_reads, so_far_reads}
 use Rattle.channel_model.specs.Course.{IsCourse, is_of_turn, standing_after}
+use Rattle.channel_model.specs.Endings.{turns_in}
 use Rattle.channel_model.specs.Journal.{past_of}
 use Rattle.channel_model.specs.Stretch.{Standing, beginning, behind}
 use Rattle.channel_model.specs.Turn.{IsTurn}
@@ -25,13 +28,21 @@ use Rattle.event_runner.specs.State.{Holds, IsTurnOwner}
 use Rattle.event_runner.specs.Turning.{IsCutShort, MakesTurn}
 use Rattle.event_runner.specs.UnderWay.{IsUnderWay, RanSince, RunsSince, IsSoFar, following, rested}
 use Rattle.owner_laws.proofs.Owner.{paused_same, waited_same}
-use Rattle.owner_laws.specs.Sessions.{BeginsPending, EndsWithFailedWait, longest_slice}
-use Rattle.owner_laws.proofs.Begun.{IsAsked, begins_behind, begins_here, begins_on}
+use Rattle.owner_laws.specs.Sessions.{BeginsPending, BeginsSoFar, EndsWithFailedWait, FirstTurn, longest_slice}
+use Rattle.owner_laws.proofs.Begun.{IsAsked, begins_behind, begins_cut, begins_first, begins_on, first_here}
 use Rattle.owner_laws.proofs.Waits.{begun_waits, cut_short_waits, failed_last, failed_none, failed_woken, turn_waits, unbegun_waits}
 
 -- the first of so many turns, if there is one, began where a request was pending
 abbrev pub AreBegun : ℕ → Owned → List WorldCall → Type 0
 AreBegun turns channel calls = 1 ≤ turns → BeginsPending channel.setting channel.seen calls
+
+-- the first turn, if the calls have one, began so, whole or cut short
+abbrev pub IsBegunSoFar : Owned → List WorldCall → Type 0
+IsBegunSoFar channel calls = 1 ≤ turns_in calls → BeginsSoFar channel.setting channel.seen calls
+
+-- since a run began that want of memory ended, and whose owner makes all turns: no wait failed, and the first turn began so
+abbrev pub EndsWell : Owned → Option (List WorldCall) → Option (List WorldCall) → Type 0
+EndsWell channel log_old log_new = LogGets (λ calls. IsTurnOwner (known_by_owner channel) → NoWaitFailed calls × IsBegunSoFar channel calls) log_old log_new
 
 -- since a run began, which made so many turns, and whose owner makes them all: no wait failed, and the first turn began so
 abbrev pub RunsWell : ℕ → Owned → Option (List WorldCall) → Option (List WorldCall) → Type 0
@@ -50,16 +61,20 @@ well_begun a r l m =
     (λ calls way owner. (begun_waits a.setting 0 longest_slice a.seen calls 0 refl (way owner).course, λ some. absurd (omega (arith, some)))) l m
 
 -- nor will one be, for want of memory
-pub well_unbegun : (a : Owned) (l m : Option (List WorldCall)) → RanSince longest_slice 0 0 (known_by_owner a) l m → LogGets (λ calls. IsTurnOwner (known_by_owner a) → NoWaitFailed calls) l m
+pub well_unbegun : (a : Owned) (l m : Option (List WorldCall)) → RanSince longest_slice 0 0 (known_by_owner a) l m → EndsWell a l m
 well_unbegun a l m =
-    told_as (λ calls. IsTurnOwner (known_by_owner a) → IsSoFar longest_slice 0 0 (known_by_owner a) calls) (λ calls. IsTurnOwner (known_by_owner a) → NoWaitFailed calls)
-    (λ calls far owner. let is = far owner in unbegun_waits a.setting 0 longest_slice a.seen calls is.0 (omega (arith, is.1)) is.2) l m
+    told_as (λ calls. IsTurnOwner (known_by_owner a) → IsSoFar longest_slice 0 0 (known_by_owner a) calls) (λ calls. IsTurnOwner (known_by_owner a) → NoWaitFailed calls × IsBegunSoFar a calls)
+    (λ calls far owner. let is = far owner in (
+      unbegun_waits a.setting 0 longest_slice a.seen calls is.0 (omega (arith, is.1)) is.2,
+      λ some. absurd (omega (arith, some, is.1, so_far_reads a.setting 0 longest_slice a.seen calls is.0 0 is.2)),
+    )) l m
 
 module _ (turns : ℕ) (b : Owned) (l m : Option (List WorldCall)) (well : RunsWell turns b l m) where
-  -- no wait failed so far
-  pub well_so_far : LogGets (λ calls. IsTurnOwner (known_by_owner b) → NoWaitFailed calls) l m
-  well_so_far =
-      told_as (λ calls. IsTurnOwner (known_by_owner b) → NoWaitFailed calls × AreBegun turns b calls) (λ calls. IsTurnOwner (known_by_owner b) → NoWaitFailed calls) (λ calls well owner. (well owner).0) l m well
+  -- want of memory came behind a turn
+  pub well_so_far : 1 ≤ turns → EndsWell b l m
+  well_so_far some =
+      told_as (λ calls. IsTurnOwner (known_by_owner b) → NoWaitFailed calls × AreBegun turns b calls) (λ calls. IsTurnOwner (known_by_owner b) → NoWaitFailed calls × IsBegunSoFar b calls)
+      (λ calls well owner. let was = well owner in (was.0, λ any. inl (was.1 some))) l m well
 
   module _ (c : Owned) where
     -- the journal went on
@@ -111,18 +126,47 @@ module _ (turns : ℕ) (b : Owned) (l m : Option (List WorldCall)) (well : RunsW
               (some : Bool) → nat_lt 0 turns ≡ some → BeginsPending b.setting (b.seen ++ es) (cs ++ ds)
           by es cs ds begun reading new whole course turn true is = begins_on b.setting (b.seen ++ es) cs ds (begins_behind b.setting b.seen es cs (begun (ltb-true 0 turns is)))
           by es cs ds begun reading new whole course turn false is =
-              begins_here b.setting b.seen es cs ds reading new asked.0 asked.1 whole turns (omega (arith, ltb-false 0 turns is)) course turn
+              begins_first b.setting (b.seen ++ es) (cs ++ ds) (first_here b.setting b.seen es cs ds reading new asked.0 asked.1 whole turns (omega (arith, ltb-false 0 turns is)) course turn)
 
-      -- a turn was cut short
-      pub well_cut : Stops IsCutShort (run_of (known_by_owner b) r m) (run_of (known_by_owner c) s n) → LogGets (λ calls. IsTurnOwner (known_by_owner c) → NoWaitFailed calls) l n
-      well_cut stops =
+      -- and it is the first one
+      pub first_turned : (answer : Turned) → Goes (MakesTurn answer) (run_of (known_by_owner b) r m) (run_of (known_by_owner c) s n) → IsAsked b → turns ≡ 0 →
+          LogGets (λ calls. IsTurnOwner (known_by_owner c) → FirstTurn c.setting c.seen calls) l n
+      first_turned answer goes asked first =
+          let es : List Entry = goes.goes_on.since in
+          told_trans Both (λ calls. IsTurnOwner (known_by_owner c) → Leads (MakesTurn answer) (run_of (known_by_owner b) r m) (run_of (known_by_owner c) s n) es calls)
+          (λ calls. IsTurnOwner (known_by_owner c) → FirstTurn c.setting c.seen calls)
+          (λ cs ds was leads owner.
+          let way = was.0 (owner_first b c es goes.goes_on.seen owner) in
+          let to = leads owner (standing_after (behind beginning way.course.first) way.course.rounds) (held cs way) in
+          let whole = subst (λ journal. list_all (λ entry. not (is_of_turn entry) || (entry.seat == 0)) journal ≡ true) goes.goes_on.seen owner in
+          subst (λ s. FirstTurn s c.seen (cs ++ ds)) (sym goes.goes_on.desk.setting)
+          (subst (λ journal. FirstTurn b.setting journal (cs ++ ds)) (sym goes.goes_on.seen)
+          (first_here b.setting b.seen es cs ds answer.reading to.0 asked.0 asked.1 whole turns first way.course to.1.turn)))
+          l m n both goes.told
+
+      -- a turn was cut short, or wasn't begun, where a request is pending
+      pub well_cut : Stops IsCutShort (run_of (known_by_owner b) r m) (run_of (known_by_owner c) s n) → IsAsked b → EndsWell c l n
+      well_cut stops asked =
           let es : List Entry = stops.goes_on.since in
-          told_trans Both (λ calls. IsTurnOwner (known_by_owner c) → Leaves IsCutShort (run_of (known_by_owner b) r m) es calls) (λ calls. IsTurnOwner (known_by_owner c) → NoWaitFailed calls)
+          told_trans Both (λ calls. IsTurnOwner (known_by_owner c) → Leaves IsCutShort (run_of (known_by_owner b) r m) es calls) (λ calls. IsTurnOwner (known_by_owner c) → NoWaitFailed calls × IsBegunSoFar c calls)
           (λ cs ds was leaves owner.
           let owned = owner_first b c es stops.goes_on.seen owner in
           let way = was.0 owned in
-          failed_none cs (was.1 owned).0 ds (cut_short_waits b.setting 0 _ es ds (leaves owner (standing_after (behind beginning way.course.first) way.course.rounds) (held cs way))))
+          let short = leaves owner (standing_after (behind beginning way.course.first) way.course.rounds) (held cs way) in (
+            failed_none cs (was.1 owned).0 ds (cut_short_waits b.setting 0 _ es ds short),
+            λ some.
+                subst (λ s. BeginsSoFar s c.seen (cs ++ ds)) (sym stops.goes_on.desk.setting)
+                (subst (λ journal. BeginsSoFar b.setting journal (cs ++ ds)) (sym stops.goes_on.seen)
+                (by es cs ds (was.1 owned).1 way.course short some (nat_lt 0 turns) refl)),
+          ))
           l m n both stops.told
+        where
+          by : (es : List Entry) (cs ds : List WorldCall) → AreBegun turns b cs → (course : IsCourse b.setting 0 longest_slice b.seen cs turns 0) →
+              IsCutShort b.setting 0 (standing_after (behind beginning course.first) course.rounds) es ds → 1 ≤ turns_in (cs ++ ds) → (is_first : Bool) → nat_lt 0 turns ≡ is_first → BeginsSoFar b.setting (b.seen ++ es) (cs ++ ds)
+          by es cs ds begun course short some true is = inl (begins_on b.setting (b.seen ++ es) cs ds (begins_behind b.setting b.seen es cs (begun (ltb-true 0 turns is))))
+          by es cs ds begun course (inl none) some false is =
+              absurd (omega (arith, some, ap (λ l. turns_in (cs ++ l)) none.1 ∙ ap turns_in (append-nil cs), course_reads b.setting 0 longest_slice b.seen cs turns 0 course, ltb-false 0 turns is))
+          by es cs ds begun course (inr cut) some false is = inr (begins_cut b.setting b.seen es cs ds cut.0 asked.0 asked.1 turns (omega (arith, ltb-false 0 turns is)) course cut.1)
 
     module _ (n : Option (List WorldCall)) (latest : ℕ) where
       -- a wait failed

@@ -1,3 +1,4 @@
 pub mod BringsLemmas
 pub mod InboxLemmas
 pub mod ReadingLemmas
+pub mod StateLemmas

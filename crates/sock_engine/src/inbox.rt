@@ -1,11 +1,13 @@
 //! What was received and not given yet. A socket's buffer is short, so it is emptied into a list here.
 
-ghost use Rattle.std.specs.Prelude.{◌≡◌, ◌≤◌, ◌↔◌, [], ◌∷◌, ◌++◌, length, filter, not, IsTrue, IfOk, OnOk, OnErr, IfSome, option_to_list, All};
-ghost use Rattle.net_world.specs.World.{IsWhole, is_of_link};
-ghost use Rattle.net_world.specs.declared.answers.Got.TheVariants.{Failed as LinkFailed};
-ghost use Rattle.sock_engine.specs.Inbox.{held_items, IsHeld, held_other_than, has_more, Pops, LooksAtServer, LooksAtLink};
+ghost use Rattle.std.specs.Prelude.{◌≡◌, ◌≤◌, ◌↔◌, ◌+◌, [], ◌∷◌, ◌++◌, length, filter, not, IsTrue, IfOk, OnOk, OnErr, IfSome, option_to_list, All};
+ghost use Rattle.net_world.specs.World.{is_of_link};
+ghost use Rattle.net_world.specs.declared.answers.Got.TheVariants.{Ended, Failed as LinkFailed};
+ghost use Rattle.sock_engine.specs.Inbox.{held_items, held_bytes, IsHeld, IsTaken, IsInBuffer, held_other_than, has_more, byte_count, size_of as size_of_got, is_room_taken, Pops, LooksAtServer, LooksAtLink};
 
+use crate::asked::Asked;
 use crate::ends::{Moved, moved_of};
+use crate::local_failure::{LocalFailure, first_failure};
 use dns_message::{Bytes, NoMemory};
 use mio::net::{TcpStream, UdpSocket};
 use net_world::Got;
@@ -14,11 +16,20 @@ use std::collections::VecDeque;
 use std::io::Read;
 use std::marker::Model;
 
-/// The greatest length of a datagram and of a piece. No UDP payload is longer (RFC 768: the length is 16 bits).
+/// The greatest length of a datagram. No UDP payload is longer (RFC 768: the length is 16 bits).
 const BUFFER_SIZE: usize = 65_535;
+
+/// The greatest length of a piece of a link.
+const PIECE_MOST: usize = 16_384;
 
 /// How many items may be kept. What else comes stays in the sockets' own buffers.
 const ITEMS_MOST: usize = 16_384;
+
+/// With so many bytes nothing more is taken either. The last item may bring more than was left.
+const BYTES_MOST: usize = 4 << 20;
+
+/// How many items a turn is sure to receive before it lets anything expire.
+const FEW_ITEMS: usize = 63;
 
 /// What the buffer holds: so many bytes of a server or a link.
 #[derive(Clone, Copy)]
@@ -32,6 +43,10 @@ pub(crate) enum Held {
 pub(crate) enum Found {
     /// A datagram or a piece, which was added.
     Came,
+    /// A datagram that answers nothing, which was dropped.
+    Stray,
+    /// The inbox has no room for more.
+    Full,
     /// There is nothing now.
     Blocked,
     /// A signal came first.
@@ -47,7 +62,8 @@ pub(crate) fn may_have_more(look: Found) -> bool
     ensures { result ≡ has_more look }
 {
     match look {
-        Found::Came | Found::Again | Found::Over | Found::Failed => true,
+        Found::Came | Found::Stray | Found::Full | Found::Again | Found::Over | Found::Failed =>
+            true,
         Found::Blocked => false,
     }
 }
@@ -59,19 +75,22 @@ pub(crate) struct Inbox {
     items: VecDeque<Got>,
     buffer: Vec<u8>,
     held: Option<Held>,
+    /// No fewer bytes than all that have.
+    bytes: usize,
+    /// The first failure of this machine that a look was told.
+    failure: Option<LocalFailure>,
 }
 
 impl Model for Inbox {
-    ghost use Rattle.std.specs.Prelude.{List, ◌++◌, All};
+    ghost use Rattle.std.specs.Prelude.{List, ◌++◌, ◌+◌, ◌≤◌, ◌≡◌, length, All};
     ghost use Rattle.net_world.specs.declared.answers.Got.{Got};
-    ghost use Rattle.net_world.specs.World.{IsWhole};
-    ghost use Rattle.sock_engine.specs.Inbox.{held_items, IsHeld};
+    ghost use Rattle.sock_engine.specs.Inbox.{held_items, held_bytes, IsHeld, IsTaken, byte_count};
 
     ghost Value = { List Got };
 
     ghost view = { λ b. b.items.items ++ held_items b.buffer.items b.held };
 
-    ghost invariant = { λ b. All IsWhole b.items.items × IsHeld b.buffer.items b.held };
+    ghost invariant = { λ b. All IsTaken b.items.items × IsHeld b.buffer.items b.held × (length b.buffer.items ≡ 65535) × (byte_count b.items.items + held_bytes b.held ≤ b.bytes) × (b.bytes ≤ 4259839) };
 }
 
 impl Inbox {
@@ -84,7 +103,14 @@ impl Inbox {
             items: VecDeque::new(alloc),
             buffer: Vec::from_elem(alloc, 0u8, BUFFER_SIZE)?,
             held: None,
+            bytes: 0,
+            failure: None,
         })
+    }
+
+    /// The first failure of this machine that a look was told, if one was.
+    pub(crate) fn failure(&self) -> Option<LocalFailure> {
+        self.failure
     }
 
     /// Whether there is nothing.
@@ -94,22 +120,31 @@ impl Inbox {
         self.items.is_empty() && self.held.is_none()
     }
 
+    /// Whether a turn is sure to receive all of it before it lets anything expire.
+    pub(crate) fn is_short(&self) -> bool {
+        self.items.len() < FEW_ITEMS
+    }
+
     /// Whether it takes no more.
     pub(crate) fn is_full(&self) -> bool {
-        self.items.len() >= ITEMS_MOST
+        is_without_room(self.items.len(), self.bytes)
     }
 
     /// Takes the first item. For want of memory it stays.
+    #[tactic(auto, using(crate::proofs::InboxLemmas::behind_first, crate::proofs::InboxLemmas::bytes_of_all))]
     pub(crate) fn pop(&mut self) -> Result<Option<Got>, NoMemory>
         ensures ok { IfOk result (Pops self.old self.new) }
-        ensures whole { IfOk result (λ got. IfSome got IsWhole) }
+        ensures taken { IfOk result (λ got. IfSome got IsTaken) }
+        ensures few { byte_count self.new ≤ 4259839 }
         ensures err { OnErr result (self.new ≡ self.old) }
     {
         if let Some(got) = self.items.pop_front() {
+            self.bytes = self.bytes.saturating_sub(size_of(&got));
             return Ok(Some(got));
         }
         let got = copy_held(self.alloc, self.buffer.as_slice(), self.held)?;
         self.held = None;
+        self.bytes = 0;
         Ok(got)
     }
 
@@ -134,17 +169,12 @@ impl Inbox {
             &mut self.items,
         )?;
         self.held = None;
-        self.items.push_back(Got::Failed(server, 0))?;
-        Ok(())
+        add(&mut self.items, Got::Failed(server, 0))
     }
 
-    /// Looks at a server's socket for a datagram. For want of memory all is as before.
-    pub(crate) fn look_at_server(
-        &mut self,
-        server: u32,
-        socket: &UdpSocket,
-    ) -> Result<Found, NoMemory>
-        ensures ok { IfOk result (LooksAtServer server self.old self.new) }
+    /// Adds that a link ended. For want of memory all is as before.
+    pub(crate) fn push_end(&mut self, link: u64) -> Result<(), NoMemory>
+        ensures ok { OnOk result (self.new ≡ self.old ++ Ended link ∷ []) }
         ensures err { OnErr result (self.new ≡ self.old) }
     {
         settle(
@@ -154,27 +184,62 @@ impl Inbox {
             &mut self.items,
         )?;
         self.held = None;
-        match moved_of(socket.recv(&mut self.buffer)) {
+        add(&mut self.items, Got::Ended(link))
+    }
+
+    /// Looks at a server's socket for a datagram, and drops one that answers none of these queries. For want of memory all is
+    /// as before.
+    pub(crate) fn look_at_server(
+        &mut self,
+        server: u32,
+        socket: &UdpSocket,
+        asked: &mut Asked,
+    ) -> Result<Found, NoMemory>
+        ensures ok { IfOk result (LooksAtServer server self.old self.new) }
+        ensures err { OnErr result (self.new ≡ self.old) }
+    {
+        if is_without_room(self.items.len(), self.bytes) {
+            return Ok(Found::Full);
+        }
+        settle(
+            self.alloc,
+            self.buffer.as_slice(),
+            self.held,
+            &mut self.items,
+        )?;
+        self.held = None;
+        match receive_into(socket, &mut self.buffer) {
             Moved::Done(count) => {
+                if !asked.takes(&self.buffer[..count]) {
+                    return Ok(Found::Stray);
+                }
                 self.held = Some(Held::HeldDatagram(server, count));
+                self.bytes = self.bytes.saturating_add(count);
                 Ok(Found::Came)
             }
             Moved::Blocked => Ok(Found::Blocked),
             Moved::Again => Ok(Found::Again),
-            Moved::Failed => Ok(Found::Failed),
+            Moved::Failed(failure) => {
+                self.failure = first_failure(self.failure, failure);
+                Ok(Found::Failed)
+            }
         }
     }
 
-    /// Looks at a link's stream for bytes or its end. For want of memory all is as before.
+    /// Looks at a link's stream for bytes or its end, and adds how many came to `brought`. For want of memory all is as before.
     pub(crate) fn look_at_link(
         &mut self,
         server: u32,
         link: u64,
         stream: &mut TcpStream,
+        brought: &mut u64,
     ) -> Result<Found, NoMemory>
         ensures ok { IfOk result (LooksAtLink server link self.old self.new) }
         ensures err { OnErr result (self.new ≡ self.old) }
     {
+        if is_without_room(self.items.len(), self.bytes) {
+            return Ok(Found::Full);
+        }
         settle(
             self.alloc,
             self.buffer.as_slice(),
@@ -183,22 +248,72 @@ impl Inbox {
         )?;
         self.held = None;
         self.items.reserve(1)?;
-        match moved_of(stream.read(&mut self.buffer)) {
+        match read_into(stream, &mut self.buffer) {
             Moved::Done(0) => {
-                self.items.push_back(Got::Ended(link))?;
+                add(&mut self.items, Got::Ended(link))?;
                 Ok(Found::Over)
             }
             Moved::Done(count) => {
                 self.held = Some(Held::HeldPiece(link, count));
+                self.bytes = self.bytes.saturating_add(count);
+                *brought = brought.saturating_add(count as u64);
                 Ok(Found::Came)
             }
             Moved::Blocked => Ok(Found::Blocked),
             Moved::Again => Ok(Found::Again),
-            Moved::Failed => {
-                self.items.push_back(Got::Failed(server, link))?;
+            Moved::Failed(failure) => {
+                add(&mut self.items, Got::Failed(server, link))?;
+                self.failure = first_failure(self.failure, failure);
                 Ok(Found::Failed)
             }
         }
+    }
+}
+
+/// Receives a datagram.
+fn receive_into(socket: &UdpSocket, buffer: &mut [u8]) -> Moved
+    ensures part { IsInBuffer (length buffer.new) result }
+    ensures length { length buffer.new ≡ length buffer.old }
+{
+    moved_of(socket.recv(buffer))
+}
+
+/// Reads a piece.
+#[tactic(auto, using(crate::proofs::InboxLemmas::piece_room))]
+fn read_into(stream: &mut TcpStream, buffer: &mut [u8]) -> Moved
+    requires { length buffer.old ≡ 65535 }
+    ensures part { IsInBuffer 16384 result }
+    ensures length { length buffer.new ≡ length buffer.old }
+{
+    moved_of(stream.read(&mut buffer[..PIECE_MOST]))
+}
+
+/// Adds an item. For want of memory the items are as before.
+#[tactic(auto, using(crate::proofs::InboxLemmas::bytes_behind))]
+fn add(items: &mut VecDeque<Got>, got: Got) -> Result<(), NoMemory>
+    ensures ok { OnOk result (items.new.items ≡ items.old.items ++ got ∷ []) }
+    ensures taken { OnOk result (All IsTaken items.old.items → IsTaken got → All IsTaken items.new.items) }
+    ensures bytes { OnOk result (byte_count items.new.items ≡ byte_count items.old.items + size_of_got got) }
+    ensures err { OnErr result (items.new.items ≡ items.old.items) }
+{
+    items.push_back(got)?;
+    Ok(())
+}
+
+/// Whether nothing more is taken behind so many items with so many bytes.
+fn is_without_room(items: usize, bytes: usize) -> bool
+    ensures { result ≡ is_room_taken items bytes }
+{
+    items >= ITEMS_MOST || bytes >= BYTES_MOST
+}
+
+/// How many bytes an item has.
+fn size_of(got: &Got) -> usize
+    ensures { result ≡ size_of_got got.now }
+{
+    match got {
+        Got::Datagram(_, bytes) | Got::Piece(_, bytes) => bytes.as_slice().len(),
+        Got::Ended(_) | Got::Nothing | Got::Failed(_, _) => 0,
     }
 }
 
@@ -223,7 +338,7 @@ fn other_than(held: Option<Held>, link: u64) -> Option<Held>
 fn copy_held(alloc: Global, buffer: &[u8], held: Option<Held>) -> Result<Option<Got>, NoMemory>
     requires { IsHeld buffer.now held }
     ensures got { IfOk result (λ got. option_to_list got ≡ held_items buffer.now held) }
-    ensures whole { IfOk result (λ got. IfSome got IsWhole) }
+    ensures taken { IfOk result (λ got. IfSome got IsTaken) }
 {
     Ok(match held {
         Some(Held::HeldDatagram(server, count)) => {
@@ -237,6 +352,7 @@ fn copy_held(alloc: Global, buffer: &[u8], held: Option<Held>) -> Result<Option<
 }
 
 /// Adds what the buffer holds. For want of memory the items are as before.
+#[tactic(auto, using(crate::proofs::InboxLemmas::bytes_of_all))]
 fn settle(
     alloc: Global,
     buffer: &[u8],
@@ -245,7 +361,8 @@ fn settle(
 ) -> Result<(), NoMemory>
     requires { IsHeld buffer.now held }
     ensures ok { OnOk result (items.new.items ≡ items.old.items ++ held_items buffer.now held) }
-    ensures whole { OnOk result (All IsWhole items.old.items → All IsWhole items.new.items) }
+    ensures taken { OnOk result (All IsTaken items.old.items → All IsTaken items.new.items) }
+    ensures bytes { OnOk result (byte_count items.new.items ≡ byte_count items.old.items + held_bytes held) }
     ensures err { OnErr result (items.new.items ≡ items.old.items) }
 {
     if let Some(got) = copy_held(alloc, buffer, held)? {

@@ -2,6 +2,7 @@
 
 ghost use Rattle.sock_engine.specs.Inbox.{BringsOnly, IsOfServer};
 
+use crate::asked::Asked;
 use crate::ends::{Moved, moved_of};
 use crate::inbox::{Found, Inbox, may_have_more};
 use crate::peer::any_of;
@@ -9,19 +10,21 @@ use dns_message::NoMemory;
 use libc::net as c;
 use mio::net::UdpSocket;
 use mio::{Interest, Registry, Token};
-use net_world::Sent;
+use std::alloc::Global;
 use std::io;
 use std::net::{Net, SocketAddr};
 use std::os::fd::AsRawFd;
 
-/// The receive buffer that is asked for, in bytes, so that 10,000 replies have room. The system may give less.
+/// The receive buffer that is asked for, in bytes, so that many replies have room. The system may give less.
 const RECEIVE_BUFFER: i32 = 8 << 20;
 
 /// How often a call is made that signals or told refusals cut off.
 const TRIES: u32 = 8;
 
-/// How many datagrams a look takes at most, so that one server leaves the others their turn.
-const LOOK_MOST: u32 = 4_096;
+/// How many datagrams a look takes at most. No more have room in the buffer that is asked for, of which the system makes
+/// twice as many bytes and counts some 770 for the shortest datagram: so what came before a look is taken by it, however many
+/// more come meanwhile.
+const LOOK_MOST: u32 = 32_768;
 
 /// A UDP socket that is connected to a server: only datagrams from that address and port come.
 #[derive(Drop)]
@@ -30,24 +33,23 @@ pub(crate) struct Port {
     token: usize,
     /// It may have something to receive. Only a receive that finds nothing clears it, since the poll tells a change once.
     ready: bool,
-    /// It has brought a reply for each query, as far as their numbers tell, and is left alone until a wait is over.
+    /// It has brought a reply for each query, and is left alone until the poll tells of it or a wait is over.
     rests: bool,
-    /// It has brought more than replies, so that one may stand behind what else came: it rests no longer.
-    crowded: bool,
     /// The system told a refusal that was not added to the inbox yet.
     refused: bool,
-    asked: u64,
-    answered: u64,
+    asked: Asked,
 }
 
 impl Port {
     /// Opens one, whose port the system draws. What came before it was connected is thrown away.
     pub(crate) fn open<R: Net>(
+        alloc: Global,
         rt: &R,
         registry: &Registry,
         peer: SocketAddr,
         token: usize,
     ) -> io::Result<Port> {
+        let asked = Asked::make(alloc)?;
         let mut socket = UdpSocket::bind(rt, any_of(peer))?;
         socket.connect(peer)?;
         forget_strangers(&socket);
@@ -58,30 +60,40 @@ impl Port {
             token,
             ready: false,
             rests: false,
-            crowded: false,
             refused: false,
-            asked: 0,
-            answered: 0,
+            asked,
         })
     }
 
     /// Sends a datagram. Where the system hands out an earlier refusal in its place, it is sent again, and the refusal is
-    /// told later, behind what has come. One for which there is no room is lost.
-    pub(crate) fn send(&mut self, bytes: &[u8]) -> Sent {
-        let mut refused = false;
+    /// told later, behind what has come. One for which the system has no room now isn't sent.
+    pub(crate) fn send(&mut self, bytes: &[u8]) -> Moved {
+        let (mut refused, mut cause) = (false, None);
         for _ in 0..TRIES {
             match moved_of(self.socket.send(bytes)) {
-                Moved::Done(_) | Moved::Blocked => {
-                    self.asked = self.asked.saturating_add(1);
+                Moved::Done(count) => {
+                    self.asked.note(bytes);
                     self.refused |= refused;
                     self.rests &= !refused;
-                    return Sent::Sent;
+                    return Moved::Done(count);
                 }
+                Moved::Blocked => return Moved::Blocked,
                 Moved::Again => {}
-                Moved::Failed => refused = true,
+                Moved::Failed(failure) => (refused, cause) = (true, failure),
             }
         }
-        Sent::Failed
+        self.asked.spend();
+        Moved::Failed(cause)
+    }
+
+    /// How many queries have had no reply.
+    pub(crate) fn unanswered(&self) -> u64 {
+        self.asked.unanswered()
+    }
+
+    /// Whether another socket is to serve the next query.
+    pub(crate) fn is_spent(&self) -> bool {
+        self.asked.is_spent()
     }
 
     /// Whether there may be something to receive.
@@ -100,35 +112,41 @@ impl Port {
         self.rests
     }
 
-    /// A wait is over: what came beside the replies is looked for now.
+    /// What came beside the replies is looked for now.
     pub(crate) fn end_rest(&mut self) {
         self.rests = false;
     }
 
-    /// Whether each datagram that was sent has its reply, as far as their numbers tell.
+    /// Whether each query has had a reply.
     pub(crate) fn is_answered(&self) -> bool {
-        self.answered >= self.asked
+        self.asked.is_answered()
     }
 
-    /// Notes that something may have come, where the poll told this token.
-    pub(crate) fn wake(&mut self, token: usize) {
-        if self.token == token {
-            self.suspect();
+    /// Notes that something may have come, where the poll told this token. Answers whether it did.
+    pub(crate) fn wake(&mut self, token: usize) -> bool {
+        if self.token != token {
+            return false;
         }
-    }
-
-    /// Notes that something may have come.
-    pub(crate) fn suspect(&mut self) {
         self.ready = true;
         self.rests = false;
+        true
     }
 
-    /// Moves what has come into the inbox, and behind it a refusal.
+    /// Moves what has come into the inbox, and behind it a refusal. It may rest behind the last reply, if it is let.
     #[tactic(auto, using(crate::proofs::BringsLemmas::none_brought, crate::proofs::BringsLemmas::one_brought, crate::proofs::BringsLemmas::both_brought))]
-    pub(crate) fn look(&mut self, server: u32, inbox: &mut Inbox) -> Result<(), NoMemory>
+    pub(crate) fn look(
+        &mut self,
+        server: u32,
+        may_rest: bool,
+        inbox: &mut Inbox,
+    ) -> Result<(), NoMemory>
         ensures { BringsOnly (IsOfServer server) inbox.old inbox.new }
     {
-        self.look_for_datagrams(server, inbox)?;
+        if !self.may_bring() {
+            return Ok(());
+        }
+        self.rests &= may_rest;
+        self.look_for_datagrams(server, may_rest, inbox)?;
         if self.refused {
             inbox.push_refusal(server)?;
             self.refused = false;
@@ -137,30 +155,31 @@ impl Port {
     }
 
     #[tactic(auto, using(crate::proofs::BringsLemmas::none_brought, crate::proofs::BringsLemmas::both_brought))]
-    fn look_for_datagrams(&mut self, server: u32, inbox: &mut Inbox) -> Result<(), NoMemory>
+    fn look_for_datagrams(
+        &mut self,
+        server: u32,
+        may_rest: bool,
+        inbox: &mut Inbox,
+    ) -> Result<(), NoMemory>
         ensures { BringsOnly (IsOfServer server) inbox.old inbox.new }
     {
         for _ in 0..LOOK_MOST {
             if !self.ready || self.rests || inbox.is_full() {
                 break;
             }
-            self.look_once(server, inbox)?;
+            self.look_once(server, may_rest, inbox)?;
         }
         Ok(())
     }
 
     #[tactic(auto, using(crate::proofs::BringsLemmas::none_brought, crate::proofs::BringsLemmas::one_brought))]
-    fn look_once(&mut self, server: u32, inbox: &mut Inbox) -> Result<(), NoMemory>
+    fn look_once(&mut self, server: u32, may_rest: bool, inbox: &mut Inbox) -> Result<(), NoMemory>
         ensures { BringsOnly (IsOfServer server) inbox.old inbox.new }
     {
-        let look = inbox.look_at_server(server, &self.socket)?;
-        if look == Found::Came {
-            self.crowded |= self.is_answered();
-            self.answered = self.answered.saturating_add(1).min(self.asked);
-            self.rests = self.is_answered() && !self.crowded;
-        }
+        let look = inbox.look_at_server(server, &self.socket, &mut self.asked)?;
         self.refused |= look == Found::Failed;
         self.ready = may_have_more(look);
+        self.rests = may_rest && self.ready && self.asked.is_answered();
         Ok(())
     }
 }

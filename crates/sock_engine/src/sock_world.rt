@@ -1,11 +1,14 @@
 //! The network, the clock and the random words of the system.
 
 ghost use Rattle.std.specs.Prelude.{◌≡◌, ◌≤◌, length, filter, not, IfOk, IsOk, IsOkAnd, OnErr};
+ghost use Rattle.std.specs.Option.{is_some};
 ghost use Rattle.net_world.specs.Cause.{is_not_sent, is_not_written, is_link_failed, is_not_waited};
 ghost use Rattle.net_world.specs.World.{IsPartOf, IsWhole, is_of_link};
-ghost use Rattle.sock_engine.specs.State.{fresh_state, CountsFault, CountsSend, CountsReceive, CountsWait, FailsUnmade, Keeps, ReadsOn};
+ghost use Rattle.sock_engine.specs.Inbox.{IsTaken, byte_count};
+ghost use Rattle.sock_engine.specs.State.{fresh_state, CountsFault, CountsSend, CountsReceive, CountsWait, FailsUnmade, GivesNext, Keeps, KeepsFirst, ReadsOn};
 
 use crate::clock::clock_millis;
+use crate::local_failure::{LocalFailure, first_failure};
 use crate::network::Network;
 use dns_message::NoMemory;
 use net_addr::ServerAddr;
@@ -16,7 +19,7 @@ use std::random::RandomSource;
 use std::time::Clock;
 
 /// The real World: a connected UDP socket for each server, a TCP stream for each link, the monotonic clock, and words of
-/// a generator that the system seeds. Contracts see how often it failed, and the clock's last reading.
+/// a generator that the system seeds. Contracts see how often it failed, what came and wasn't given yet, and the clock.
 #[derive(Drop)]
 pub struct SockWorld<R> {
     rt: R,
@@ -24,15 +27,16 @@ pub struct SockWorld<R> {
     faults: u64,
     wait_faults: u64,
     reading: u64,
+    local: Option<LocalFailure>,
 }
 
 impl<R> Model for SockWorld<R> {
     ghost use Rattle.std.specs.Option.{is_some};
-    ghost use Rattle.sock_engine.specs.State.{SockState, came_of};
+    ghost use Rattle.sock_engine.specs.State.{SockState, came_of, moment_of};
 
     ghost Value = { SockState };
 
-    ghost view = { λ w. record { works = is_some w.network; faults = w.faults; wait_faults = w.wait_faults; reading = w.reading; came = came_of w.network } };
+    ghost view = { λ w. record { works = is_some w.network; faults = w.faults; wait_faults = w.wait_faults; reading = w.reading; came = came_of w.network; moment = moment_of w.reading w.network; local = w.local } };
 }
 
 impl<R: Net + Clock + RandomSource + AllocGlobal> SockWorld<R> {
@@ -40,16 +44,27 @@ impl<R: Net + Clock + RandomSource + AllocGlobal> SockWorld<R> {
     pub fn make(rt: R) -> Result<SockWorld<R>, NoMemory>
     where
         R: Drop,
-        ensures { IfOk result (λ world. world ≡ fresh_state world.works) }
+        ensures fresh { IfOk result (λ world. world ≡ fresh_state world.local) }
     {
-        let network = Network::make(&rt)?;
+        let (network, local) = match Network::make(&rt)? {
+            Ok(network) => (Some(network), None),
+            Err(failure) => (None, Some(failure)),
+        };
         Ok(SockWorld {
             rt,
             network,
             faults: 0,
             wait_faults: 0,
             reading: 0,
+            local,
         })
+    }
+
+    /// What on this machine failed first, so that a call did, if anything did. That a server refused is no such failure.
+    pub fn local_failure(&self) -> Option<LocalFailure>
+        ensures { result ≡ self.now.local }
+    {
+        self.local
     }
 
     /// Tells the server's address from now on. A socket for another address of this server is closed.
@@ -62,11 +77,18 @@ impl<R: Net + Clock + RandomSource + AllocGlobal> SockWorld<R> {
         }
     }
 
-    /// Reads the clock, in milliseconds. A clock that can't be read stands still.
+    /// Reads the clock, in milliseconds. As long as something that was taken isn't given it stands still, so that nothing
+    /// expires by it whose reply has come; so does a clock that can't be read.
     pub fn now(&mut self) -> Result<u64, NoMemory>
         ensures { IsOkAnd result (ReadsOn self.old self.new) }
     {
-        self.reading = self.clock();
+        let clock = self.clock();
+        let moment = match &mut self.network {
+            Some(network) => network.now(&self.rt, clock),
+            None => clock,
+        };
+        self.reading = self.reading.max(moment);
+        self.note_failure();
         Ok(self.reading)
     }
 
@@ -91,6 +113,7 @@ impl<R: Net + Clock + RandomSource + AllocGlobal> SockWorld<R> {
             None => Sent::Failed,
         };
         self.faults = raise(is_unsent(sent), self.faults);
+        self.note_failure();
         Ok(sent)
     }
 
@@ -105,6 +128,7 @@ impl<R: Net + Clock + RandomSource + AllocGlobal> SockWorld<R> {
             None => Sent::Failed,
         };
         self.faults = raise(is_unsent(sent), self.faults);
+        self.note_failure();
         Ok(sent)
     }
 
@@ -119,21 +143,35 @@ impl<R: Net + Clock + RandomSource + AllocGlobal> SockWorld<R> {
             None => Wrote::Failed,
         };
         self.faults = raise(is_unwritten(wrote), self.faults);
+        self.note_failure();
         Ok(wrote)
     }
 
-    /// Receives the next datagram, or bytes or the end of a link.
+    /// Receives the next datagram, or bytes or the end of a link. A datagram that can't answer what was sent isn't received.
     pub fn receive(&mut self) -> Result<Got, NoMemory>
         ensures ok { IfOk result (CountsReceive self.old self.new) }
         ensures whole { IfOk result IsWhole }
+        ensures taken { IfOk result IsTaken }
+        ensures few { IfOk result (λ _. byte_count self.new.came ≤ 4259839) }
         ensures err { OnErr result (Keeps self.old self.new) }
     {
-        let got = match &mut self.network {
-            Some(network) => network.receive()?,
-            None => Got::Nothing,
-        };
+        let got = self.take_next()?;
         self.faults = raise(is_failure(&got), self.faults);
+        self.note_failure();
         Ok(got)
+    }
+
+    /// The next of what came.
+    fn take_next(&mut self) -> Result<Got, NoMemory>
+        ensures ok { IfOk result (GivesNext self.old self.new) }
+        ensures taken { IfOk result IsTaken }
+        ensures few { IfOk result (λ _. byte_count self.new.came ≤ 4259839) }
+        ensures err { OnErr result (Keeps self.old self.new) }
+    {
+        let Some(network) = &mut self.network else {
+            return Ok(Got::Nothing);
+        };
+        network.receive(&self.rt)
     }
 
     /// Closes the link. Nothing of it is received any more.
@@ -150,18 +188,30 @@ impl<R: Net + Clock + RandomSource + AllocGlobal> SockWorld<R> {
 
     /// Waits until something can be received, or until this moment of the clock. It may return before.
     pub fn wait(&mut self, until: u64) -> Result<Waited, NoMemory>
-        ensures ok { IsOkAnd result (CountsWait is_not_waited self.old self.new) }
+        ensures ok { IsOkAnd result (CountsWait self.old self.new) }
         ensures unmade { IfOk result (FailsUnmade is_not_waited self.old) }
     {
-        let now = self.clock();
+        let clock = self.clock();
         let waited = match &mut self.network {
-            Some(network) => network.wait(now, until),
+            Some(network) => network.wait(&self.rt, clock, until),
             None => Waited::Failed,
         };
         self.wait_faults = raise(is_unwaited(waited), self.wait_faults);
+        self.note_failure();
         Ok(waited)
     }
 
+    /// Takes over the network's first failure of this machine, if none is known yet.
+    fn note_failure(&mut self)
+        ensures state { self.new ≡ record self.old { local = self.new.local } }
+        ensures first { KeepsFirst self.old.local self.new.local }
+    {
+        if let Some(network) = &self.network {
+            self.local = first_failure(self.local, network.failure());
+        }
+    }
+
+    /// The system's clock, which is never behind what was shown.
     fn clock(&self) -> u64
         ensures { self.now.reading ≤ result }
     {

@@ -2,23 +2,32 @@
 //! so many messages: `tns --port N --zone PATH --count N`.
 #![tactic(auto)]
 
+mod advising;
 mod telling;
 
+use crate::advising::advice;
 use crate::telling::Telling;
+use item_list::NoMemory;
 use sock_engine::{RealFiles, RealSink, Streams, texts_of, words_of};
 use std::process::ExitCode;
 use test_nameserver::{OUT_OF_MEMORY, run};
 
 fn main(rt: HostRuntime) -> ExitCode {
     let _streams = Streams::hold(&rt);
+    let status = run_words(rt).unwrap_or(OUT_OF_MEMORY);
+    if let Some(text) = advice(status) {
+        // Standard error may be closed.
+        let _ = eprint!(rt; "{text}");
+    }
+    ExitCode::from(status)
+}
+
+/// Runs with the words of the command line. Answers the exit status.
+fn run_words(rt: HostRuntime) -> Result<u8, NoMemory> {
     let alloc = rt.alloc();
-    let Ok(owned) = words_of(&rt, alloc) else {
-        return ExitCode::from(OUT_OF_MEMORY);
-    };
-    let Ok(words) = texts_of(alloc, owned.as_slice()) else {
-        return ExitCode::from(OUT_OF_MEMORY);
-    };
-    ExitCode::from(run(
+    let owned = words_of(&rt, alloc)?;
+    let words = texts_of(alloc, owned.as_slice())?;
+    Ok(run(
         alloc,
         words.as_slice(),
         &mut RealFiles::make(rt),

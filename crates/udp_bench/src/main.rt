@@ -1,7 +1,7 @@
 //! What a query over a UDP socket costs through a channel and its runner, beside a bare loop that sends and receives.
 //! `serve PORT` answers what comes to this port of 127.0.0.1 until nothing comes for some seconds. `ask PORT WINDOW COUNT`
 //! sends COUNT queries there, WINDOW of them at once, by the bare loop and then through the channel, which keeps its journal;
-//! with one more word, as `untold`, it doesn't.
+//! with one more word, as `untold`, it doesn't. `channel PORT WINDOW COUNT` sends them through the channel alone.
 #![tactic(auto)]
 
 mod bare;
@@ -30,7 +30,12 @@ fn main(rt: HostRuntime) -> io::Result<()> {
             None => ask::<KeptJournal>(rt, &load),
             Some(_) => ask::<UntoldJournal>(rt, &load),
         },
-        _ => println!(rt; "udp_bench serve PORT, udp_bench ask PORT WINDOW COUNT [untold]"),
+        Some(task) if task.as_str() == "channel" => ask_through_channel(rt, &load),
+        _ => {
+            println!(rt;
+                "udp_bench serve PORT, udp_bench ask PORT WINDOW COUNT [untold], udp_bench channel PORT WINDOW COUNT"
+            )
+        }
     }
 }
 
@@ -47,5 +52,16 @@ fn ask<J: ChannelJournal>(rt: HostRuntime, load: &Load) -> io::Result<()> {
         channel.lost(load),
         channel.each(load).saturating_mul(100) / bare.each(load).max(1),
         channel.each_at_end(load)
+    )
+}
+
+/// Asks through the channel, which keeps its journal, and prints what a query cost.
+fn ask_through_channel(rt: HostRuntime, load: &Load) -> io::Result<()> {
+    let channel = channel::ask::<KeptJournal>(rt, load)?;
+    println!(rt;
+        "window {}: the channel {} ns a query, {} lost",
+        load.window,
+        channel.each(load),
+        channel.lost(load)
     )
 }

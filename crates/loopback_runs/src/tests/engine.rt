@@ -8,11 +8,26 @@ use std::alloc::Global;
 use std::net::{Ipv4Addr, SocketAddr};
 use std::test::*;
 
+mod clock;
 mod files;
 mod links;
 mod servers;
 mod sockets;
+mod strays;
 mod unmade;
+
+/// A query of a header and four bytes (RFC 1035, section 4.1.1).
+const QUERY: &[u8] = b"na\x01\0\0\x01\0\0\0\0\0\0name";
+
+/// The same with the bit QR: a reply, as an echo of it gives.
+const REPLY: &[u8] = b"na\x81\0\0\x01\0\0\0\0\0\0name";
+
+/// Other replies with its identifier.
+const ONE: &[u8] = b"na\x81\x80\0\x01\0\0\0\0\0\0one";
+
+const TWO: &[u8] = b"na\x81\x80\0\x01\0\0\0\0\0\0two";
+
+const THREE: &[u8] = b"na\x81\x80\0\x01\0\0\0\0\0\0three";
 
 /// A server on 127.0.0.1.
 fn local(port: u16) -> ServerAddr {
@@ -24,6 +39,13 @@ fn local(port: u16) -> ServerAddr {
 
 fn any_local() -> SocketAddr {
     SocketAddr::from((Ipv4Addr::LOCALHOST, 0))
+}
+
+/// Makes a reply of a query.
+fn set_reply(message: &mut [u8]) {
+    if let Some(flags) = message.get_mut(2) {
+        *flags |= 0x80;
+    }
 }
 
 /// What comes next, within some seconds.

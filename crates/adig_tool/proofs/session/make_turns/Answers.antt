@@ -18,7 +18,8 @@ returns-then-count_pending-eq0-clause-turns g c =
 pub returns-in_err-turn-clause-turns : goal.returns-in_err-turn-clause-turns
 returns-in_err-turn-clause-turns g c =
     let follows = made_following _ _ _ _ _ _ _ _ _ _ _ c.count_pending.ensures c.if-count_pending-eq0.false c.loop.invariant.made in
-    ends_cut _ _ _ _ _ _ _ _ _ _ c.from_residual.result _ c.turn.new.self _ c.from_residual.ensures.0 (omega (arith, c.loop-test.true)) c.in_err-turn.ensures.goes follows
+    ends_cut _ _ _ _ _ _ _ _ _ _ c.from_residual.result _ c.turn.new.self _ c.from_residual.ensures.0 (omega (arith, c.loop-test.true)) c.in_err-turn.ensures.goes
+    (asked_here _ _ _ c.count_pending.ensures c.if-count_pending-eq0.false c.loop.invariant.delivered) follows
 
 pub returns-in_err-pause-clause-turns : goal.returns-in_err-pause-clause-turns
 returns-in_err-pause-clause-turns g c =
@@ -27,7 +28,7 @@ returns-in_err-pause-clause-turns g c =
     (asked_here _ _ _ c.count_pending.ensures c.if-count_pending-eq0.false c.loop.invariant.delivered) follows in
     let called = made_then _ _ _ _ _ _ _ _ _ _ _ _ turned c.deliver_all-in-loop.ensures.delivers in
     let delivered = made_delivered _ _ _ _ _ _ _ _ _ c.deliver_all-in-loop.ensures.none_ready called in
-    ends_unpaused _ _ _ _ _ _ _ _ _ _ c.from_residual-in_err-pause.result _ _ c.from_residual-in_err-pause.ensures.0 (omega (arith, c.loop-test.true)) c.in_err-pause.ensures.pauses delivered
+    ends_unpaused _ _ _ _ _ _ _ _ _ _ c.from_residual-in_err-pause.result _ _ c.from_residual-in_err-pause.ensures.0 (omega arith) (omega (arith, c.loop-test.true)) c.in_err-pause.ensures.pauses delivered
 
 pub returns-in-WaitFault-clause-turns : goal.returns-in-WaitFault-clause-turns
 returns-in-WaitFault-clause-turns g c =

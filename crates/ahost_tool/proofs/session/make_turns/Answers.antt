@@ -1,6 +1,6 @@
 use Rattle.std.proofs.Common.{ap, arith, refl, ◌∙◌}
 use Rattle.std.specs.Prelude.{is_err}
-use Rattle.ahost_tool.proofs.LoopLemmas.{ends_completed, ends_cut, ends_failed, ends_stalled, ends_unpaused, ends_unset, made_none, made_paused, made_then, most_cut, most_turned, then_paused}
+use Rattle.ahost_tool.proofs.LoopLemmas.{asked_here, ends_completed, ends_cut, ends_failed, ends_stalled, ends_unpaused, ends_unset, made_none, made_paused, made_then, then_cut, then_paused, then_whole}
 use Rattle.ahost_tool.proofs.MoveLemmas.{quiet_all}
 use Rattle.owner_laws.proofs.Owner.{paused_ready}
 use Rattle.ahost_tool.proofs.PromptLemmas.{prompted_all}
@@ -33,7 +33,8 @@ returns-in_err-turn-clause-turns g c =
     let follows = counted_made _ _ _ _ _ _ _ _ _ _ _ c.requires.idle c.loop.invariant.made c.loop.invariant.sets c.count_pending.ensures c.if-count_pending-eq0.false c.loop.invariant.delivered in
     let counted = counted_sets _ _ _ _ _ _ _ _ _ _ _ c.requires.idle c.loop.invariant.made c.loop.invariant.sets c.count_pending.ensures c.if-count_pending-eq0.false c.loop.invariant.delivered in
     ends_cut _ c.loop.later _ _ _ _ _ _ _ _ c.from_residual.result _ c.turn.new.self _ c.from_residual.ensures.0 (omega (arith, c.loop-test.true)) c.in_err-turn.ensures.goes
-    (most_cut _ _ _ _ _ _ _ _ _ c.loop.runner c.turn.new.self _ c.in_err-turn.ensures.goes counted) follows
+    (asked_here _ _ _ c.count_pending.ensures c.if-count_pending-eq0.false c.loop.invariant.delivered) follows
+    (then_cut _ _ _ _ _ _ _ _ _ c.loop.runner c.turn.new.self _ c.in_err-turn.ensures.goes counted)
 
 -- ---- behind a turn
 
@@ -42,8 +43,8 @@ pub returns-in_err-set_later-clause-turns : goal.returns-in_err-set_later-clause
 returns-in_err-set_later-clause-turns g c =
     let counted = counted_sets _ _ _ _ _ _ _ _ _ _ _ c.requires.idle c.loop.invariant.made c.loop.invariant.sets c.count_pending.ensures c.if-count_pending-eq0.false c.loop.invariant.delivered in
     let turned = turned_made _ _ _ _ _ _ _ _ _ _ _ c.requires.idle c.loop.invariant.made c.loop.invariant.sets c.count_pending.ensures c.if-count_pending-eq0.false c.loop.invariant.delivered _ c.turn.new.self _ c.in_ok-turn.field-0 c.in_ok-turn.ensures.goes c.in_ok-turn.ensures.reading in
-    ends_unset _ c.loop.later _ _ _ _ _ _ _ _ c.from_residual-in_err-set_later.result _ c.set_later.result _ c.from_residual-in_err-set_later.ensures.0 (ap is_err c.in_err-set_later.was) (omega (arith, c.loop-test.true)) c.set_later.ensures.sets
-    (most_turned _ _ _ _ _ _ _ _ _ c.loop.runner c.turn.new.self _ c.in_ok-turn.field-0 c.in_ok-turn.ensures.goes counted) turned
+    ends_unset _ c.loop.later _ _ _ _ _ _ _ _ c.from_residual-in_err-set_later.result _ c.set_later.result c.loop.counter _ c.from_residual-in_err-set_later.ensures.0 (ap is_err c.in_err-set_later.was) (omega arith) (omega (arith, c.loop-test.true)) (omega arith)
+    c.set_later.ensures.sets turned (then_whole _ _ _ _ _ _ _ _ _ c.loop.runner c.turn.new.self _ c.in_ok-turn.field-0 c.in_ok-turn.ensures.goes counted)
 
 -- the rest of an iteration goes so
 pub loop-preserved : goal.loop-preserved
@@ -63,7 +64,7 @@ pub returns-in_err-pause-clause-turns : goal.returns-in_err-pause-clause-turns
 returns-in_err-pause-clause-turns g c =
     let one = round _ _ _ _ _ _ _ _ _ _ _ c.requires.idle c.loop.invariant.made c.loop.invariant.sets c.count_pending.ensures c.if-count_pending-eq0.false c.loop.invariant.delivered _ c.turn.new.self _ c.in_ok-turn.field-0 c.in_ok-turn.ensures.goes c.in_ok-turn.ensures.reading
     c.in_ok-set_later.field-0 _ c.in_ok-set_later.ensures.sets _ c.deliver_all-in-loop.ensures.delivers c.deliver_all-in-loop.ensures.none_ready in
-    ends_unpaused _ c.loop.later _ _ _ _ _ _ _ _ c.from_residual-in_err-pause.result _ _ c.from_residual-in_err-pause.ensures.0 (omega (arith, c.loop-test.true)) c.in_err-pause.ensures.pauses one.sets.sets.at_most one.made
+    ends_unpaused _ _ _ _ _ _ _ _ _ _ c.from_residual-in_err-pause.result _ _ c.from_residual-in_err-pause.ensures.0 (omega arith) (omega (arith, c.loop-test.true)) c.in_err-pause.ensures.pauses one.made one.sets
 
 pub returns-in-WaitFault-clause-turns : goal.returns-in-WaitFault-clause-turns
 returns-in-WaitFault-clause-turns g c =

@@ -78,5 +78,6 @@ fn does_nothing<W: World>(world: &mut W) -> Result<bool, NoMemory> {
 fn without_a_generator_all_fails(rt: HostRuntime) -> Result<(), Fail> {
     let mut world = SockWorld::make(Unseeded(rt))?;
     assert!(rt; does_nothing(&mut world)?);
+    assert!(rt; world.local_failure() == Some(LocalFailure::Other(0)));
     Ok(())
 }

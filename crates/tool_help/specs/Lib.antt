@@ -1,0 +1,4 @@
+pub mod Advice
+pub mod Help
+pub mod Screen
+pub mod Taken
