@@ -109,39 +109,15 @@ fn counted<R: Threads + Wait + Sync>(
     Some(lock.close(seat).marks)
 }
 
-/// How many of the marks are this seat's.
-fn marks_of(marks: &[u64], seat: u64) -> u64 {
-    let mut own = 0u64;
-    for by in marks {
-        if *by == seat {
-            own = own.wrapping_add(1);
-        }
-    }
-    own
-}
-
-/// Whether each of so many seats counts so many times, and nobody else counts.
-fn each_counts<R: Threads + Wait + Sync>(
-    rt: &R,
-    alloc: Global,
-    count: u64,
-    times: u64,
-) -> Result<bool, Fail>
-    requires { (0 < count) × (count ≤ 64) }
-{
-    let marks = counted(rt, alloc, count, times).ok_or("there is memory")?;
-    for seat in 0..count {
-        if marks_of(marks.as_slice(), seat) != times {
-            return Ok(false);
-        }
-    }
-    Ok(marks.len() as u64 == count.wrapping_mul(times))
-}
-
 #[test]
 fn each_seat_counts_its_own(rt: HostRuntime) -> Result<(), Fail> {
-    assert!(rt; each_counts(&rt, rt.alloc(), 1, 1000)?);
-    assert!(rt; each_counts(&rt, rt.alloc(), 4, 1000)?);
-    assert!(rt; each_counts(&rt, rt.alloc(), 64, 20)?);
+    for (seats, times) in [(1, 1000), (4, 1000), (64, 20)] {
+        let marks = counted(&rt, rt.alloc(), seats, times).ok_or("there is memory")?;
+        assert_eq!(rt; marks.len() as u64, seats * times, "{seats} seats");
+        for seat in 0..seats {
+            let own = marks.iter().filter(|by| **by == seat).count();
+            assert_eq!(rt; own as u64, times, "seat {seat} of {seats}");
+        }
+    }
     Ok(())
 }

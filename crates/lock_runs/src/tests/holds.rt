@@ -123,16 +123,6 @@ fn counted<R: Threads + Wait + Sync>(rt: &R, alloc: Global) -> Option<Vec<u64>> 
     Some(lock.close(seat).marks)
 }
 
-/// Whether all of the marks are this seat's.
-fn are_all(marks: &[u64], seat: u64) -> bool {
-    for by in marks {
-        if *by != seat {
-            return false;
-        }
-    }
-    true
-}
-
 // no contract says that the turns of a hold, or of a row, stand together
 #[test]
 fn nobody_takes_a_turn_within_a_hold(rt: HostRuntime) -> Result<(), Fail> {
@@ -140,7 +130,7 @@ fn nobody_takes_a_turn_within_a_hold(rt: HostRuntime) -> Result<(), Fail> {
     assert_eq!(rt; marks.len() as u64, 4 * HOLDS as u64 * TURNS);
     for held in marks.chunks(TURNS as usize) {
         let first = held[0];
-        assert!(rt; are_all(held, first));
+        assert!(rt; held.iter().all(|by| *by == first), "{held:?}");
     }
     Ok(())
 }

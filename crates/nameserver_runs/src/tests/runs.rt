@@ -216,7 +216,7 @@ const MESSAGES: &[Case] = &[
 #[test]
 fn runs_end_with_their_messages(rt: HostRuntime) -> Result<(), Fail> {
     for (scene, end) in MESSAGES {
-        assert!(rt; ends_so(rt.alloc(), scene, end)?);
+        assert!(rt; ends_so(rt.alloc(), scene, end)?, "{}", scene.line);
     }
     Ok(())
 }
@@ -274,7 +274,7 @@ const FAILURES: &[Case] = &[
 #[test]
 fn failures_end_a_run(rt: HostRuntime) -> Result<(), Fail> {
     for (scene, end) in FAILURES {
-        assert!(rt; ends_so(rt.alloc(), scene, end)?);
+        assert!(rt; ends_so(rt.alloc(), scene, end)?, "{}", scene.line);
     }
     Ok(())
 }
@@ -308,7 +308,7 @@ const FILES: &[Case] = &[
 #[test]
 fn files_decide(rt: HostRuntime) -> Result<(), Fail> {
     for (scene, end) in FILES {
-        assert!(rt; ends_so(rt.alloc(), scene, end)?);
+        assert!(rt; ends_so(rt.alloc(), scene, end)?, "{}", scene.zone);
     }
     Ok(())
 }
@@ -359,7 +359,7 @@ const REFUSED: &str = "
 fn words_are_refused(rt: HostRuntime) -> Result<(), Fail> {
     for line in REFUSED.split('\n') {
         let scene = Scene { line, ..PLAIN };
-        assert!(rt; ends_so(rt.alloc(), &scene, &USAGE_END)?);
+        assert!(rt; ends_so(rt.alloc(), &scene, &USAGE_END)?, "{line}");
     }
     Ok(())
 }

@@ -281,7 +281,7 @@ fn bad_line(alloc: Global, text: &str) -> u64 {
 #[test]
 fn lines_are_records(rt: HostRuntime) -> Result<(), Fail> {
     for (text, count) in RECORDS {
-        assert!(rt; records_in(rt.alloc(), text)? == *count);
+        assert!(rt; records_in(rt.alloc(), text)? == *count, "{text}");
     }
     Ok(())
 }
@@ -289,7 +289,7 @@ fn lines_are_records(rt: HostRuntime) -> Result<(), Fail> {
 #[test]
 fn bad_lines_are_found(rt: HostRuntime) {
     for (text, line) in BAD_LINES {
-        assert!(rt; bad_line(rt.alloc(), text) == *line);
+        assert!(rt; bad_line(rt.alloc(), text) == *line, "{text}");
     }
 }
 
