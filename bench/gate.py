@@ -115,9 +115,19 @@ def edits_of(crate):
     return len([it for it in os.listdir(folder) if it.endswith(".edit")]) if os.path.isdir(folder) else 0
 
 
+def has(crate, kind):
+    """Whether there is such work in a crate."""
+    source = os.path.join(ROOT, "crates", crate, "src")
+    if kind == "edits":
+        return edits_of(crate) > 0
+    if kind == "tests":
+        return any("#[cfg(test)]" in read(os.path.join(source, file)) for file in ("lib.rt", "main.rt"))
+    return os.path.isfile(os.path.join(source, "main.rt" if kind == "program" else "lib.rt"))
+
+
 def cell(crate, row, kind):
-    """The seconds of a kind of work; a dash where the crate's edits were not measured."""
-    if kind == "edits" and kind not in row and edits_of(crate):
+    """The seconds of a kind of work; a dash where there is such work that was not measured."""
+    if kind not in row and has(crate, kind):
         return "-"
     return f"{row.get(kind, 0):.0f}"
 
@@ -140,7 +150,8 @@ def page(times, verdict, minutes):
         "# What the gate costs",
         "",
         "Written by `bench/gate.py`, which runs the gate and meters its processes; don't edit it by hand. Seconds are those of a processor, on the machine "
-        "where it ran: compare rows with each other, and not with another machine's. A dash stands where a crate's edits were not measured.",
+        "where it ran, and grow with what else runs there: compare rows with each other, and not with another machine's. A dash stands where there is such work "
+        "that was not measured.",
         "",
         f"The gate's last words: {'; '.join(f'`{line}`' for line in verdict) or 'none, since it was ended'}. {minutes:.0f} minutes by the clock in the last run; "
         f"{whole / 60:.0f} processor minutes in all, {whole / 60 / max(code, 1) * 1000:.1f} for 1,000 of the {code:,} lines of code.",
@@ -185,7 +196,8 @@ def main(words):
     for crate, row in meter.sums().items():
         for kind, seconds in row.items():
             times.setdefault(crate, {})[kind] = seconds
-    times = {crate: row for crate, row in times.items() if os.path.isdir(os.path.join(ROOT, "crates", crate))}
+    crates = sorted(os.listdir(os.path.join(ROOT, "crates")))
+    times = {crate: times.get(crate, {}) for crate in crates}
     if kept:
         with open(kept, "w") as file:
             json.dump(times, file, indent=1)
