@@ -15,7 +15,7 @@ const C0: Key = Key { number: 3, leg: 0 };
 
 const C1: Key = Key { number: 3, leg: 1 };
 
-const D0: Key = Key { number: 4, leg: 0 };
+const E0: Key = Key { number: 4, leg: 0 };
 
 /// A change to the legs in flight.
 #[derive(Clone, Copy)]
@@ -95,14 +95,14 @@ const ORDERS: [(Turn, &[(u16, Key)]); 14] = [
     (Begin(2, C1), &[(9, A0), (4, B0), (6, C0), (2, C1)]),
     (End(9, Some(A0)), &[(4, B0), (6, C0), (2, C1)]),
     (End(2, Some(C1)), &[(4, B0), (6, C0)]),
-    (Begin(9, D0), &[(4, B0), (6, C0), (9, D0)]),
-    (Begin(2, A0), &[(4, B0), (6, C0), (9, D0), (2, A0)]),
-    (End(6, Some(C0)), &[(4, B0), (9, D0), (2, A0)]),
-    (Begin(6, C1), &[(4, B0), (9, D0), (2, A0), (6, C1)]),
-    (End(6, Some(C1)), &[(4, B0), (9, D0), (2, A0)]),
-    (End(6, None), &[(4, B0), (9, D0), (2, A0)]),
-    (End(2, Some(A0)), &[(4, B0), (9, D0)]),
-    (End(4, Some(B0)), &[(9, D0)]),
+    (Begin(9, E0), &[(4, B0), (6, C0), (9, E0)]),
+    (Begin(2, A0), &[(4, B0), (6, C0), (9, E0), (2, A0)]),
+    (End(6, Some(C0)), &[(4, B0), (9, E0), (2, A0)]),
+    (Begin(6, C1), &[(4, B0), (9, E0), (2, A0), (6, C1)]),
+    (End(6, Some(C1)), &[(4, B0), (9, E0), (2, A0)]),
+    (End(6, None), &[(4, B0), (9, E0), (2, A0)]),
+    (End(2, Some(A0)), &[(4, B0), (9, E0)]),
+    (End(4, Some(B0)), &[(9, E0)]),
 ];
 
 // At the end an identifier begins again while it is in use.
@@ -130,35 +130,35 @@ const INDEXED: [(&[Turn], &[(u16, Key)]); 6] = [
             Begin(4, B0),
             Begin(6, C0),
             Begin(2, C1),
-            Begin(7, D0),
+            Begin(7, E0),
             End(9, Some(A0)),
             End(4, Some(B0)),
         ],
-        &[(6, C0), (2, C1), (7, D0)],
+        &[(6, C0), (2, C1), (7, E0)],
     ),
     // Where all are in the map already, nothing is left to put there.
-    (&[], &[(6, C0), (2, C1), (7, D0)]),
+    (&[], &[(6, C0), (2, C1), (7, E0)]),
     // One of the map ends out of order, and two begin behind it, one with the identifier of an earlier attempt.
     (
         &[End(2, Some(C1)), End(2, None), Begin(9, B0), Begin(11, A0)],
-        &[(6, C0), (7, D0), (9, B0), (11, A0)],
+        &[(6, C0), (7, E0), (9, B0), (11, A0)],
     ),
     // A leg in the map gives its identifier to another, and one that isn't there yet does too.
     (
         &[
             Begin(7, C1),
-            Begin(5, D0),
+            Begin(5, E0),
             Begin(3, C0),
             Begin(3, B0),
             End(11, Some(A0)),
         ],
-        &[(6, C0), (7, C1), (9, B0), (5, D0), (3, B0)],
+        &[(6, C0), (7, C1), (9, B0), (5, E0), (3, B0)],
     ),
     // All end, the last ones first.
     (
         &[
             End(3, Some(B0)),
-            End(5, Some(D0)),
+            End(5, Some(E0)),
             End(9, Some(B0)),
             End(7, Some(C1)),
             End(6, Some(C0)),
@@ -241,7 +241,7 @@ fn a_leg_that_waits_again_goes_ahead_of_later_requests(rt: HostRuntime) -> Resul
         }
     }
     assert_eq!(rt; waiting.first(), None);
-    waiting.put(D0)?;
+    waiting.put(E0)?;
     waiting.put(C0)?;
     waiting.clear();
     assert_eq!(rt; waiting.first(), None);
