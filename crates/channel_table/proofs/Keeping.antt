@@ -1,5 +1,5 @@
 -- What a table keeps true of its fields, behind one entry more.
-use Rattle.std.proofs.Common.{◌≡◌, ◌∙◌, ℕ, ◌+◌, ◌≤◌, ◌*◌, Bool, true, false, List, [], ◌∷◌, ◌++◌, Some, None, refl, ap, sym, subst, map, cond, arith, length, ◌^◌, deque_len, deque_capacity}
+use Rattle.std.proofs.Common.{◌≡◌, ◌∙◌, ℕ, ◌+◌, ◌≤◌, Bool, true, false, List, [], ◌∷◌, ◌++◌, Some, None, refl, ap, sym, subst, map, cond, arith, length, ◌^◌, deque_len, deque_capacity}
 use Rattle.std.proofs.lemmas.List.{append-nil, length-map, length_push}
 use Rattle.std.specs.Prelude.{◌≢◌}
 use Rattle.chan_types.specs.declared.journal.Entry.{Entry}

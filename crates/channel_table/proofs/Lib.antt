@@ -49,3 +49,6 @@ mod FailSteps
 mod FailedRows
 mod KeptTable
 mod LeaveLemmas
+mod NumberedEntries
+mod TokenLemmas
+mod PlacedTokens

@@ -246,7 +246,7 @@ answered_so setting number (Address host family nosort) answer opens = opens
 answered_so setting number (Reverse address) answer opens = absurd cc
 
 -- which has its number
-known_number : (setting : Setting) (number : ℕ) (spec : Spec) (answer : Answer) → Opens setting number spec (Answered answer) → answer.number ≡ number
+pub known_number : (setting : Setting) (number : ℕ) (spec : Spec) (answer : Answer) → Opens setting number spec (Answered answer) → answer.number ≡ number
 known_number setting number (Query text kind class) answer opens = by_read (name_text text) opens
   where
     by_read : (read : Option (Name × Bool)) → OpensRead itself read kind class (Answered answer) → answer.number ≡ number

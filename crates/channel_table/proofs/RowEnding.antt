@@ -40,7 +40,7 @@ pub other_leg : (request number k leg : ℕ) → (request == number) ≡ false �
 other_leg request number k leg other = ap (λ b. b && (k == leg)) other
 
 module _ {T : Type 0} where
-  other_rows : (number : ℕ) (rows : List (Row T)) → occurrences number (map number_of rows) ≡ 0 → AllByRecursion (IsOther number) rows
+  pub other_rows : (number : ℕ) (rows : List (Row T)) → occurrences number (map number_of rows) ≡ 0 → AllByRecursion (IsOther number) rows
   other_rows number [] none = tt
   other_rows number (r ∷ rows) none = by_test (r.number == number) refl none (other_rows number rows)
     where

@@ -87,7 +87,7 @@ both_numbered setting request nosort name left right = by_test (has_item (addres
     by_test true = refl
     by_test false = refl
 
-ends_numbered : (options : Options) (request : ℕ) (aim : Aim) (name : Name) (left right : Option LegEnd) → IfSome (answer_of_ends options request aim name left right) (λ (a : Answer). a.number ≡ request)
+pub ends_numbered : (options : Options) (request : ℕ) (aim : Aim) (name : Name) (left right : Option LegEnd) → IfSome (answer_of_ends options request aim name left right) (λ (a : Answer). a.number ≡ request)
 ends_numbered options request Reply name None right = tt
 ends_numbered options request Reply name (Some end) right = refl
 ends_numbered options request (Addresses Family.Any nosort) name None right = tt

@@ -10,15 +10,20 @@ use Rattle.channel_model.specs.Setting.{Setting}
 use Rattle.resolv_options.specs.Values.{AreWithinLimits}
 use Rattle.channel_table.specs.Counted.{AreCounted}
 use Rattle.channel_table.specs.Rows.{TableStands}
+use Rattle.channel_table.specs.Tokens.{Shown, tokens_of}
 use Rattle.channel_table.specs.declared.table.Table.TheInside.{Inside}
 
 -- the setting of a table
 abbrev pub setting_of : {T J : Type 0} → Inside T J → Setting
 setting_of t = record { options = t.options; hosts = t.hosts }
 
--- what contracts see, where this is what a journal was told
+-- the setting and the journal, where this is what a journal was told
 abbrev pub seen_of : {T J : Type 0} → (J → List Entry) → Inside T J → Seen
 seen_of told t = record { setting = setting_of t; journal = told t.journal }
+
+-- and with the tokens of its rows and its tickets
+abbrev pub shown_of : {T J : Type 0} → (J → List Entry) → Inside T J → Shown T
+shown_of told t = record { setting = setting_of t; journal = told t.journal; tokens = tokens_of t.rows t.ready.items }
 
 -- how many entries more may have to be told without memory: a Take and a Cancel of each request, and a Destroy
 abbrev pub still_to_tell : {T J : Type 0} → Inside T J → ℕ

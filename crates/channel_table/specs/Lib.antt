@@ -4,6 +4,7 @@ pub mod Searching
 pub mod Sides
 pub mod Rows
 pub mod Counted
+pub mod Tokens
 pub mod Kept
 pub mod Soonest
 pub mod Opening

@@ -24,12 +24,13 @@ impl<T: Token, J: ChannelJournal> Model for Alone<T, J> {
     ghost use Rattle.std.specs.Coded.{codes};
     ghost use Rattle.chan_types.specs.PlanCode.{moves_code};
     ghost use Rattle.channel_table.specs.Calling.{Owned, owned};
+    ghost use Rattle.channel_table.specs.Tokens.{seen};
 
     ghost Value = { Owned };
 
     ghost coded = { Prim.hlevel (codes, moves_code) };
 
-    ghost view = { λ alone. owned alone.voice alone.table };
+    ghost view = { λ alone. owned alone.voice (seen alone.table) };
 }
 
 impl<T: Token, J: ChannelJournal> Alone<T, J> {

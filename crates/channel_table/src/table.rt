@@ -1,5 +1,6 @@
 //! The table of a channel.
 
+ghost use Rattle.std.specs.FinMap as map;
 ghost use Rattle.std.specs.Prelude.{◌≡◌, ◌≤◌, [], IfOk, length};
 ghost use Rattle.channel_model.specs.Servers.{keyed_from};
 
@@ -33,7 +34,9 @@ use std::collections::VecDeque;
 use std::marker::Model;
 
 /// What the requests of a channel have come to, and its journal, which is kept or which only proofs see. Contracts see its
-/// setting and its journal: what its calls answer is what the journal means. No call reads the journal.
+/// setting and its journal: what its calls answer is what the journal means. No call reads the journal. They see too the
+/// tokens of the requests that are pending or ready, by their numbers: accept adds one, take gives it back, and no other
+/// call touches them.
 #[derive(Drop)]
 pub struct Table<T: Token, J: ChannelJournal = KeptJournal> {
     alloc: Global,
@@ -64,15 +67,15 @@ pub struct Table<T: Token, J: ChannelJournal = KeptJournal> {
 impl<T: Token, J: ChannelJournal> Model for Table<T, J> {
     ghost use Rattle.std.specs.Coded.{codes};
     ghost use Rattle.chan_types.specs.PlanCode.{moves_code};
-    ghost use Rattle.channel_model.specs.Seen.{Seen};
+    ghost use Rattle.channel_table.specs.Tokens.{Shown, tokens_code};
 
-    ghost Value = { Seen };
+    ghost Value = { Shown T };
 
-    ghost coded = { Prim.hlevel (codes, moves_code) };
+    ghost coded = { Prim.hlevel (codes, moves_code, tokens_code) };
 
-    ghost use Rattle.channel_table.specs.Kept.{seen_of, IsKept};
+    ghost use Rattle.channel_table.specs.Kept.{shown_of, IsKept};
 
-    ghost view = { seen_of J.told };
+    ghost view = { shown_of J.told };
 
     ghost invariant = { IsKept T.plan J.told J.room };
 }
@@ -81,7 +84,7 @@ impl<T: Token, J: ChannelJournal> Table<T, J> {
     /// A table without a request. It has the room for its Destroy.
     pub fn make(alloc: Global, options: Options, hosts: Hosts) -> Result<Table<T, J>, NoMemory>
         ensures { IfOk result (λ table. table
-            ≡ record { setting = record { options = options; hosts = hosts }; journal = [] }) }
+            ≡ record { setting = record { options = options; hosts = hosts }; journal = []; tokens = map.empty }) }
     {
         let count = options.servers().len() as u32;
         let list = opening_list(alloc, options.servers().as_slice())?;

@@ -3,6 +3,7 @@ use Rattle.std.specs.Prelude.{ℕ, Bool, false, List, Option}
 use Rattle.chan_types.specs.Plans.{Plan}
 use Rattle.chan_types.specs.declared.command.Command.{Command}
 use Rattle.chan_types.specs.declared.orders.Orders.{Orders}
+use Rattle.chan_types.specs.declared.refusal.Refusal.{Refusal}
 
 -- a hand: the orders that callbacks go by, and the commands that were given and aren't performed yet, the first one first
 pub record HandState : Type 0 where
@@ -13,17 +14,28 @@ pub record HandState : Type 0 where
 abbrev pub no_orders : Orders
 no_orders = record { follow = false; first = false; quit = false }
 
--- a callback: its script, and whether the caller gave its body
+-- a callback: its script, whether the caller gave its body, and who it is: that body's name, or its script's tag
 pub record CallbackState : Type 0 where
   pub plan : Plan
   pub boxed : Bool
+  pub name : ℕ
 
--- what remains of a callback: the number of the answer that it was told, and whether the caller gave its body
+-- what remains of a callback: the number of the answer that it was told, whether the caller gave its body, and who it was
 pub record CalledState : Type 0 where
   pub number : ℕ
   pub boxed : Bool
+  pub name : ℕ
 
--- a body that performs its script: the script, and the number of the answer that it was told
+-- what remains of this callback behind its call with the answer of this number
+abbrev pub called_with : ℕ → CallbackState → CalledState
+called_with number callback = record { number = number; boxed = callback.boxed; name = callback.name }
+
+-- a callback that is this script alone
+abbrev pub script_alone : Plan → CallbackState
+script_alone script = record { plan = script; boxed = false; name = script.tag }
+
+-- a body that performs its script: the script, the number of the answer that it was told, and why its request was refused
 pub record ScriptedState : Type 0 where
   pub plan : Plan
   pub told : Option ℕ
+  pub refusal : Option Refusal

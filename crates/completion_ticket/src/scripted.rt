@@ -10,11 +10,12 @@ use crate::hand::Hand;
 use chan_types::{Act, Addr, Answer, Need, Orders, Refusal, Script, Spec, Status, Step, When};
 use std::marker::Model;
 
-/// Gives the commands of a script, and does nothing else.
+/// Gives the commands of a script, and does nothing else. Its name is the script's tag.
 #[derive(Drop)]
 pub struct Scripted {
     script: Script,
     called: Option<u64>,
+    refusal: Option<Refusal>,
 }
 
 impl Model for Scripted {
@@ -26,7 +27,7 @@ impl Model for Scripted {
 
     ghost coded = { Prim.hlevel (codes, moves_code) };
 
-    ghost view = { λ scripted. record { plan = scripted.script; told = scripted.called } };
+    ghost view = { λ scripted. record { plan = scripted.script; told = scripted.called; refusal = scripted.refusal } };
 }
 
 impl Scripted {
@@ -34,19 +35,24 @@ impl Scripted {
 
     /// A body with this script, which was told nothing. It takes no memory.
     pub fn new(script: Script) -> Scripted
-        ensures { result ≡ record { plan = script; told = None } }
+        ensures { result ≡ record { plan = script; told = None; refusal = None } }
     {
         Scripted {
             script,
             called: None,
+            refusal: None,
         }
     }
 }
 
 impl Done for Scripted {
+    ghost name = { λ scripted. scripted.plan.tag };
+
     ghost plan = { λ scripted. scripted.plan };
 
     ghost told = { λ scripted. scripted.told };
+
+    ghost refusal = { λ scripted. scripted.refusal };
 
     fn script(&self) -> &Script {
         &self.script
@@ -64,7 +70,9 @@ impl Done for Scripted {
         }
     }
 
-    fn refused(&mut self, _why: Refusal) {}
+    fn refused(&mut self, why: Refusal) {
+        self.refusal = Some(why);
+    }
 }
 
 /// Gives what the step commands, if it is for this answer and its order was given.

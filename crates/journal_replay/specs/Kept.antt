@@ -3,6 +3,7 @@ use Rattle.std.specs.Prelude.{◌≡◌}
 use Rattle.channel_model.specs.Journal.{past_of}
 use Rattle.channel_model.specs.Seen.{Seen}
 use Rattle.channel_model.specs.Servers.{greatest_key, servers_at}
+use Rattle.channel_table.specs.Tokens.{seen}
 use Rattle.journal_replay.specs.declared.keys.Keys.{Keys}
 use Rattle.journal_replay.specs.declared.replay.Replay.{Replay}
 
@@ -14,4 +15,4 @@ pub record KnowsKeys (keys : Keys) (table : Seen) : Type 0 where
 -- so they have in a replay, and queries have the case that its setting says
 pub record IsKept (replay : Replay) : Type 0 where
   pub draws : replay.draws ≡ replay.table.setting.options.flags.mix
-  pub keys : KnowsKeys replay.keys replay.table
+  pub keys : KnowsKeys replay.keys (seen replay.table)

@@ -4,6 +4,7 @@ ghost use Rattle.std.specs.Prelude.{◌≡◌, ◌≤◌, IfOk, None, length};
 ghost use Rattle.channel_model.specs.Completion.{fate, occurrences, taken};
 ghost use Rattle.channel_model.specs.Journal.{past_of};
 ghost use Rattle.channel_model.specs.Lawful.{IsAllowed, IsLawful};
+ghost use Rattle.channel_table.specs.Tokens.{seen};
 ghost use Rattle.journal_replay.specs.Checks.{setting_of};
 ghost use Rattle.journal_replay.specs.Fates.{Passes};
 ghost use Rattle.journal_replay.specs.Kept.{IsKept};
@@ -46,7 +47,7 @@ fn next(
 ) -> Result<Option<Answer>, NoMemory>
     requires kept { IsKept replay.old }
     requires allowed { IsAllowed replay.old.table.setting (past_of replay.old.table.journal) what.now }
-    ensures passes { IfOk result (Passes number what.now replay.old.table replay.new.table) }
+    ensures passes { IfOk result (Passes number what.now (seen replay.old.table) (seen replay.new.table)) }
     ensures kept { IfOk result (λ answer. answer ≡ None → IsKept replay.new) }
 {
     match what {

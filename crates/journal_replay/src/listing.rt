@@ -2,6 +2,7 @@
 
 ghost use Rattle.std.specs.Prelude.{◌≡◌, IfOk, IsTrue, map};
 ghost use Rattle.chan_types.specs.declared.journal.What.TheVariants.{Servers};
+ghost use Rattle.channel_table.specs.Tokens.{seen};
 ghost use Rattle.journal_replay.specs.Kept.{KnowsKeys};
 ghost use Rattle.journal_replay.specs.Replays.{Follows};
 
@@ -23,9 +24,9 @@ pub(crate) fn set(
     keys: &mut Keys,
     list: &[ServerKey],
 ) -> Result<bool, NoMemory>
-    requires { KnowsKeys keys.old table.old }
-    ensures follows { IfOk result (Follows (Servers list.now) table.old table.new) }
-    ensures kept { IfOk result (λ is_allowed. IsTrue is_allowed → KnowsKeys keys.new table.new) }
+    requires { KnowsKeys keys.old (seen table.old) }
+    ensures follows { IfOk result (Follows (Servers list.now) (seen table.old) (seen table.new)) }
+    ensures kept { IfOk result (λ is_allowed. IsTrue is_allowed → KnowsKeys keys.new (seen table.new)) }
 {
     if list.is_empty() || list.len() > MOST {
         return Ok(false);

@@ -3,6 +3,7 @@
 ghost use Rattle.std.specs.Prelude.{◌≡◌, ◌≤◌, [], IfOk, IsTrue, length};
 ghost use Rattle.channel_model.specs.Meanings.{Takes};
 ghost use Rattle.channel_model.specs.Seen.{Happens};
+ghost use Rattle.channel_table.specs.Tokens.{seen};
 ghost use Rattle.journal_replay.specs.Checks.{setting_of};
 ghost use Rattle.journal_replay.specs.Kept.{IsKept};
 ghost use Rattle.journal_replay.specs.Replays.{Follows, plan_of};
@@ -32,7 +33,7 @@ impl Replay {
     /// The empty journal of a channel with these options and the hosts file of these bytes.
     pub(crate) fn make(alloc: Global, options: &Options, hosts: &[u8]) -> Result<Replay, NoMemory>
         requires few { length hosts.now ≤ 4194304 }
-        ensures empty { IfOk result (λ replay. replay.table
+        ensures empty { IfOk result (λ replay. seen replay.table
             ≡ record { setting = setting_of options.now hosts.now; journal = [] }) }
         ensures kept { IfOk result IsKept }
     {
@@ -53,7 +54,7 @@ impl Replay {
     /// made.
     pub(crate) fn follow(&mut self, what: &What) -> Result<bool, NoMemory>
         requires { IsKept self.old }
-        ensures follows { IfOk result (Follows what.now self.old.table self.new.table) }
+        ensures follows { IfOk result (Follows what.now (seen self.old.table) (seen self.new.table)) }
         ensures kept { IfOk result (λ is_allowed. IsTrue is_allowed → IsKept self.new) }
     {
         match what {
@@ -113,7 +114,7 @@ impl Replay {
 
     /// Moves out the first ready request.
     pub(crate) fn take(&mut self) -> Option<Ticket<Recorded>>
-        ensures { Happens (Takes plan_of result) 0 0 self.old.table self.new.table }
+        ensures { Happens (Takes plan_of result) 0 0 (seen self.old.table) (seen self.new.table) }
     {
         self.table.take(0)
     }

@@ -3,6 +3,7 @@
 ghost use Rattle.std.specs.Prelude.{◌≡◌, IfOk};
 ghost use Rattle.std.specs.Bool.{then_some};
 ghost use Rattle.chan_types.specs.declared.journal.What.TheVariants.{Accept, Arrive, Cancel, Destroy, Expire, Fault, Take};
+ghost use Rattle.channel_table.specs.Tokens.{seen};
 ghost use Rattle.journal_replay.specs.Replays.{Follows, IsBegun, start_of};
 
 use crate::recorded::Recorded;
@@ -32,7 +33,7 @@ pub(crate) fn accept(
     spec: &Spec,
     script: &Script,
 ) -> Result<bool, NoMemory>
-    ensures { IfOk result (Follows (Accept number spec.now script.now) table.old table.new) }
+    ensures { IfOk result (Follows (Accept number spec.now script.now) (seen table.old) (seen table.new)) }
 {
     let spec = spec.copy(alloc)?;
     let token = Recorded {
@@ -49,14 +50,14 @@ pub(crate) fn accept(
 
 /// All pending requests are cancelled, if there are some.
 pub(crate) fn cancel(table: &mut Table<Recorded>) -> bool
-    ensures { Follows Cancel table.old table.new result }
+    ensures { Follows Cancel (seen table.old) (seen table.new) result }
 {
     table.cancel(0, 0) != 0
 }
 
 /// The channel is destroyed, if it wasn't yet.
 pub(crate) fn destroy(table: &mut Table<Recorded>) -> bool
-    ensures { Follows Destroy table.old table.new result }
+    ensures { Follows Destroy (seen table.old) (seen table.new) result }
 {
     table.destroy(0, 0)
 }
@@ -64,7 +65,7 @@ pub(crate) fn destroy(table: &mut Table<Recorded>) -> bool
 /// The first ready request is taken.
 #[tactic(auto, using(crate::proofs::FollowLemmas::untaken_refuses))]
 pub(crate) fn take(table: &mut Table<Recorded>, number: u64) -> bool
-    ensures { Follows (Take number) table.old table.new result }
+    ensures { Follows (Take number) (seen table.old) (seen table.new) result }
 {
     match table.take(0) {
         Some(ticket) => ticket.number() == number,
@@ -82,7 +83,7 @@ pub(crate) fn start(
 ) -> Result<bool, NoMemory>
     requires draws { draws ≡ table.old.setting.options.flags.mix }
     requires word { word ≡ attempt.id }
-    ensures { IfOk result (Follows (start_of attempt) table.old table.new) }
+    ensures { IfOk result (Follows (start_of attempt) (seen table.old) (seen table.new)) }
 {
     let bits = attempt.mix.unwrap_or(0);
     let begun = table.start(0, word, bits, attempt.moment)?;
@@ -131,7 +132,7 @@ pub(crate) fn arrive(
     link: u64,
     bytes: &[u8],
 ) -> Result<bool, NoMemory>
-    ensures { IfOk result (Follows (Arrive server link bytes.now) table.old table.new) }
+    ensures { IfOk result (Follows (Arrive server link bytes.now) (seen table.old) (seen table.new)) }
 {
     let _landed = table.arrive(0, server, link, bytes)?;
     Ok(true)
@@ -145,7 +146,7 @@ pub(crate) fn expire(
     leg: u8,
     moment: u64,
 ) -> Result<bool, NoMemory>
-    ensures { IfOk result (Follows (Expire number leg moment) table.old table.new) }
+    ensures { IfOk result (Follows (Expire number leg moment) (seen table.old) (seen table.new)) }
 {
     match table.expire(0, moment)? {
         Lapse::Expired {
@@ -163,7 +164,7 @@ pub(crate) fn fault(
     link: u64,
     moment: u64,
 ) -> Result<bool, NoMemory>
-    ensures { IfOk result (Follows (Fault server link moment) table.old table.new) }
+    ensures { IfOk result (Follows (Fault server link moment) (seen table.old) (seen table.new)) }
 {
     let _failed = table.fault(0, server, link, moment)?;
     Ok(true)

@@ -21,6 +21,7 @@ use Rattle.chan_types.proofs.answer.Answer.TheSendSync as answer
 use Rattle.chan_types.proofs.orders.Need.TheSendSync as need
 use Rattle.chan_types.proofs.orders.Orders.TheSendSync as orders
 use Rattle.chan_types.proofs.orders.When.TheSendSync as when
+use Rattle.chan_types.proofs.refusal.Refusal.TheSendSync as refusal
 use Rattle.chan_types.proofs.spec.Spec.TheSendSync as spec
 use Rattle.chan_types.proofs.status.Status.TheSendSync as status
 use Rattle.chan_types.proofs.server_key.ServerKey.TheSendSync as server_key
@@ -106,7 +107,7 @@ journal_send = search (entry_send, owners, crosses, script.crosses, sendable) de
 
 -- a body that performs its script may go to another thread
 scripted_send : IsSend Scripted.the_row
-scripted_send = search (crosses, script.crosses, sendable) depth 60 fits 20000
+scripted_send = search (refusal.the_send, owners, crosses, script.crosses, sendable) depth 60 fits 20000
 
 module _ (B : RattleType) (g : done.Ghosts B.Denot) (b : IsSend B) where
   -- what stands in a callback may go to another thread, whoever gave it

@@ -5,6 +5,7 @@ use Rattle.chan_types.specs.declared.journal.What.{What}
 use Rattle.channel_model.specs.Meanings.{Meaning, TellsBusy, TellsCounts, TellsDue}
 use Rattle.channel_model.specs.Seen.{Happens, Seen, entries_of}
 use Rattle.channel_model.specs.declared.answers.Counts.{Counts}
+use Rattle.channel_table.specs.Tokens.{Shown}
 use Rattle.seat_lock.specs.History.{AddsAtMostOne}
 
 -- what a call adds is one entry of its seat at most
@@ -15,9 +16,9 @@ does_adds meaning seat by old new happens = by_added happens.added happens.journ
     by_added None is = (None, is, tt)
     by_added (Some what) is = (Some (record { seat = seat; by = by; what = what }), is, refl)
 
--- the same, where the state before is another's
-pub adds_from : (seat by : ℕ) (was old new : Seen) (added : Option What) → old ≡ was → new.journal ≡ old.journal ++ entries_of seat by added → AddsAtMostOne (λ (e : Entry). e.seat) seat was.journal new.journal
-adds_from seat by was old new added same is = by_added added (is ∙ ap (λ (s : Seen). s.journal ++ entries_of seat by added) same)
+-- the same of a table, where the state before is another's
+pub adds_from : {T : Type 0} (seat by : ℕ) (was old new : Shown T) (added : Option What) → old ≡ was → new.journal ≡ old.journal ++ entries_of seat by added → AddsAtMostOne (λ (e : Entry). e.seat) seat was.journal new.journal
+adds_from {T} seat by was old new added same is = by_added added (is ∙ ap (λ (s : Shown T). s.journal ++ entries_of seat by added) same)
   where
     by_added : (added : Option What) → new.journal ≡ was.journal ++ entries_of seat by added → AddsAtMostOne (λ (e : Entry). e.seat) seat was.journal new.journal
     by_added None is = (None, is, tt)

@@ -28,7 +28,7 @@ use Rattle.channel_model.specs.declared.answers.Refused.{Refused}
 use Rattle.channel_model.proofs.Theorems.{all_became_append, all_became_longer, position_after}
 use Rattle.channel_model.proofs.Theorems.{own-others}
 use Rattle.shared_channel.specs.Passes.{PassView, belongings_code, belongings_of, desk_of, pass_of}
-use Rattle.completion_ticket.specs.States.{CallbackState}
+use Rattle.completion_ticket.specs.States.{CallbackState, script_alone}
 use Rattle.hosts_file.specs.declared.hosts.Hosts.{Hosts}
 use Rattle.resolv_options.specs.declared.options.Options.{Options}
 use Rattle.seat_lock.specs.History.{SeatView}
@@ -277,10 +277,10 @@ destroy_performed false by old new few call = passed_one (Destroys false) Comman
 
 -- a request that is asked, by the reply: it was accepted, it was refused as closed, or it was lost
 pub ask_performed : (spec : Spec) (script : Plan) (reply : Result ℕ (Refused CallbackState)) (by : ℕ) (old middle new : PassView) → old.lost < 2 ^ 64
-    → Calls (Accepts plan_of spec (record { plan = script; boxed = false }) reply) by (desk_of old) (desk_of middle)
+    → Calls (Accepts plan_of spec (script_alone script) reply) by (desk_of old) (desk_of middle)
     → new ≡ record middle { lost = min (middle.lost + lost_by reply) (2 ^ 64 - 1) } → Performs (Ask spec script ∷ []) by old new
 ask_performed spec script (Ok number) by old middle new few call is =
-    subst (Performs (Ask spec script ∷ []) by old) (sym (is ∙ unlost)) (left_one (Accepts plan_of spec (record { plan = script; boxed = false }) (Ok number)) (Ask spec script) by old middle few call
+    subst (Performs (Ask spec script ∷ []) by old) (sym (is ∙ unlost)) (left_one (Accepts plan_of spec (script_alone script) (Ok number)) (Ask spec script) by old middle few call
     (Accept number spec script) call.meant.0 tt (number, refl) (ap not call.meant.1))
   where
     kept_is : middle.lost ≡ old.lost
@@ -291,7 +291,7 @@ ask_performed spec script (Ok number) by old middle new few call is =
 ask_performed spec script (Err refused) by old middle new few call is = by_why refused.why refl is
   where
     meaning : Meaning
-    meaning = Accepts plan_of spec (record { plan = script; boxed = false }) (Err refused)
+    meaning = Accepts plan_of spec (script_alone script) (Err refused)
 
     kept_is : middle.lost ≡ old.lost
     kept_is = ap (λ p. p.lost) (rest_of old middle call.desk)
@@ -356,7 +356,7 @@ view_lost seat p q calls count_before further = ap (λ (s : Options × Hosts). r
 
 -- a request that is asked, by the reply and by the count behind it
 pub asked : (spec : Spec) (script : Plan) (token : CallbackState) (reply : Result ℕ (Refused CallbackState)) (by : ℕ) (old middle : PassView) (seat : SeatView Entry (Options × Hosts)) (p q : IsSome seat.setting) (calls : List Answer) (count_before count further : ℕ)
-    → token ≡ record { plan = script; boxed = false } → pass_of seat p calls count_before ≡ middle → count ≡ lost_by reply → further ≡ min (count_before + count) (2 ^ 64 - 1) → old.lost < 2 ^ 64
+    → token ≡ script_alone script → pass_of seat p calls count_before ≡ middle → count ≡ lost_by reply → further ≡ min (count_before + count) (2 ^ 64 - 1) → old.lost < 2 ^ 64
     → Calls (Accepts plan_of spec token reply) by (desk_of old) (desk_of middle) → Performs (Ask spec script ∷ []) by old (pass_of seat q calls further)
 asked spec script token reply by old middle seat p q calls count_before count further token_is view_is count_is further_is few call =
     ask_performed spec script reply by old middle (pass_of seat q calls further) few (subst (λ t. Calls (Accepts plan_of spec t reply) by (desk_of old) (desk_of middle)) token_is call)

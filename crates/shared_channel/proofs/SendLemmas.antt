@@ -19,6 +19,7 @@ use Rattle.chan_types.proofs.answer.Answer.TheSendSync as answer
 use Rattle.chan_types.proofs.orders.Need.TheSendSync as need
 use Rattle.chan_types.proofs.orders.Orders.TheSendSync as orders
 use Rattle.chan_types.proofs.orders.When.TheSendSync as when
+use Rattle.chan_types.proofs.refusal.Refusal.TheSendSync as refusal
 use Rattle.chan_types.proofs.spec.Spec.TheSendSync as spec
 use Rattle.chan_types.proofs.status.Status.TheSendSync as status
 use Rattle.chan_types.proofs.server_key.ServerKey.TheSendSync as server_key
@@ -90,7 +91,7 @@ pub hand_send : IsSend Hand.the_row
 hand_send = search (crosses, script.crosses, sendable) depth 60 fits 20000
 
 pub callback_send : IsSend (Callback.the_row Scripted.the_row Impl.ghosts)
-callback_send = search (crosses, script.crosses, sendable) depth 60 fits 20000
+callback_send = search (refusal.the_send, owners, crosses, script.crosses, sendable) depth 60 fits 20000
 
 -- a callback that is a script
 abbrev pub Told : RattleType

@@ -5,15 +5,15 @@ use Rattle.chan_types.specs.declared.orders.Orders.{Orders}
 use Rattle.chan_types.specs.declared.ticket.Ticket.{Ticket}
 use Rattle.channel_model.specs.Known.{Calls}
 use Rattle.channel_model.specs.Meanings.{Takes}
-use Rattle.completion_ticket.specs.States.{CallbackState, CalledState}
+use Rattle.completion_ticket.specs.States.{CallbackState, CalledState, called_with}
 use Rattle.shared_channel.specs.Passes.{PassView, desk_of}
 use Rattle.shared_channel.specs.Performing.{Performs}
 use Rattle.shared_channel.specs.Under.{plan_of}
 
 -- a ticket was spent through a pass: its callback was told its answer, which is noted, and then the commands that the callback's script gives were performed
 pub record Spends (orders : Orders) (ticket : Ticket CallbackState) (old : PassView) (called : CalledState) (new : PassView) : Type 0 where
-  -- what is left of the callback has the request's number, and a body exactly where the callback had one
-  pub is_called : called ≡ record { number = ticket.call.number; boxed = ticket.token.boxed }
+  -- what is left of the callback has the request's number, and is the callback that the ticket had: by its name, and with a body exactly where that had one
+  pub is_called : called ≡ called_with ticket.call.number ticket.token
   pub calls : new.calls ≡ old.calls ++ ticket.call ∷ []
   pub performed : Performs (gives ticket.token.plan ticket.call orders) ticket.call.number (record old { calls = new.calls }) new
 

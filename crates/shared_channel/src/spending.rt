@@ -3,6 +3,7 @@
 ghost use Rattle.std.specs.Prelude.{◌≡◌, ◌<◌, ◌^◌, ◌∷◌, ◌++◌, [], length};
 ghost use Rattle.chan_types.specs.Gives.{gives};
 ghost use Rattle.channel_table.specs.Commanded.{lost_by};
+ghost use Rattle.completion_ticket.specs.States.{called_with};
 ghost use Rattle.shared_channel.specs.Performing.{Performs};
 ghost use Rattle.shared_channel.specs.Spending.{DeliversOne, Spends};
 
@@ -54,7 +55,7 @@ fn tell<B: Done + Drop>(
     orders: Orders,
 ) -> Called<B>
     requires { length hand.old.commands ≡ 0 }
-    ensures called { result ≡ record { number = ticket.call.number; boxed = ticket.token.boxed } }
+    ensures called { result ≡ called_with ticket.call.number ticket.token }
     ensures account { account.new ≡ record account.old { calls = account.old.calls ++ ticket.call ∷ [] } }
     ensures hand { hand.new.commands ≡ gives ticket.token.plan ticket.call orders }
 {

@@ -10,6 +10,7 @@ ghost use Rattle.channel_table.specs.Places.{Places};
 ghost use Rattle.channel_table.specs.Rows.{number_of};
 ghost use Rattle.addr_lookup.specs.Channels.{set_to};
 ghost use Rattle.channel_model.specs.Seen.{Happens};
+ghost use Rattle.channel_table.specs.Tokens.{KeepsToken, seen};
 
 use super::Table;
 use super::moving::make_room;
@@ -56,7 +57,8 @@ struct Prepared {
 impl<T: Token, J: ChannelJournal> Table<T, J> {
     /// Accepts a request, and answers its number. A text that can't be asked is accepted too, and completes at once.
     pub fn accept(&mut self, seat: u64, by: u64, spec: Spec, token: T) -> Result<u64, Refused<T>>
-        ensures { Happens (Accepts T.plan spec token result) seat by self.old self.new }
+        ensures done { Happens (Accepts T.plan spec token result) seat by (seen self.old) (seen self.new) }
+        ensures tokens { KeepsToken token result self.old.tokens self.new.tokens }
     {
         if self.closed {
             return Err(Refused {

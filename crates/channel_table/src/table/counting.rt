@@ -4,6 +4,7 @@ ghost use Rattle.std.specs.Prelude.{◌≡◌, ◌<◌, ◌≤◌, cond, count_b
 ghost use Rattle.std.specs.List.{sum_by};
 ghost use Rattle.channel_model.specs.Meanings.{TellsCounts};
 ghost use Rattle.channel_model.specs.Seen.{Happens};
+ghost use Rattle.channel_table.specs.Tokens.{seen};
 ghost use Rattle.channel_table.specs.Listing.{has_left};
 ghost use Rattle.channel_table.specs.Sides.{is_flying, is_forced, waits};
 ghost use Rattle.channel_table.specs.Sought.{is_sought, sought_in};
@@ -23,7 +24,7 @@ use std::collections::VecDeque;
 impl<T: Token, J: ChannelJournal> Table<T, J> {
     /// How much is pending, ready, waiting and in flight.
     pub fn counts(&self) -> Counts
-        ensures { Happens (TellsCounts result) 0 0 self.now self.now }
+        ensures { Happens (TellsCounts result) 0 0 (seen self.now) (seen self.now) }
     {
         Counts {
             pending: self.rows.len() as u64,

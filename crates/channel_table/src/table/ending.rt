@@ -6,6 +6,7 @@ ghost use Rattle.channel_model.specs.Meanings.{Cancels, Destroys};
 ghost use Rattle.channel_table.specs.Ends.{EndsRow};
 ghost use Rattle.channel_table.specs.Rows.{ended_with};
 ghost use Rattle.channel_model.specs.Seen.{Happens};
+ghost use Rattle.channel_table.specs.Tokens.{seen};
 
 use super::Table;
 use crate::held::{Held, row_at, take_at};
@@ -23,7 +24,8 @@ use std::mem;
 impl<T: Token, J: ChannelJournal> Table<T, J> {
     /// Completes every pending request as cancelled, and answers how many there were. It takes no memory.
     pub fn cancel(&mut self, seat: u64, by: u64) -> u64
-        ensures { Happens (Cancels result) seat by self.old self.new }
+        ensures done { Happens (Cancels result) seat by (seen self.old) (seen self.new) }
+        ensures tokens { self.new.tokens ≡ self.old.tokens }
     {
         let count = self.rows.len() as u64;
         if count == 0 {
@@ -42,7 +44,8 @@ impl<T: Token, J: ChannelJournal> Table<T, J> {
     /// Destroys the channel and completes every pending request so. Answers whether it was the first to do so. It takes
     /// no memory.
     pub fn destroy(&mut self, seat: u64, by: u64) -> bool
-        ensures { Happens (Destroys result) seat by self.old self.new }
+        ensures done { Happens (Destroys result) seat by (seen self.old) (seen self.new) }
+        ensures tokens { self.new.tokens ≡ self.old.tokens }
     {
         if self.closed {
             return false;

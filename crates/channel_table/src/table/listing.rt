@@ -4,6 +4,7 @@ ghost use Rattle.std.specs.Prelude.{◌≡◌, ◌+◌, ◌<◌, ◌≤◌, ◌^
 ghost use Rattle.std.specs.VecDeque.{deque_len};
 ghost use Rattle.channel_model.specs.Meanings.{SetsServers};
 ghost use Rattle.channel_model.specs.Seen.{Happens};
+ghost use Rattle.channel_table.specs.Tokens.{seen};
 ghost use Rattle.channel_model.specs.Servers.{greatest_of, has_key, rekeyed, same_address, same_server, without_key};
 ghost use Rattle.channel_table.specs.Listing.{kept_in, leg_set, row_set};
 
@@ -28,7 +29,8 @@ impl<T: Token, J: ChannelJournal> Table<T, J> {
     pub fn set_servers(&mut self, seat: u64, servers: &[ServerAddr]) -> Result<u64, SetFault>
         requires some { 1 ≤ length servers.now }
         requires few { length servers.now ≤ 8 }
-        ensures { Happens (SetsServers servers.now result) seat 0 self.old self.new }
+        ensures done { Happens (SetsServers servers.now result) seat 0 (seen self.old) (seen self.new) }
+        ensures tokens { self.new.tokens ≡ self.old.tokens }
     {
         if self.closed {
             return Err(SetFault::Closed);

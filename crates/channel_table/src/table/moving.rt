@@ -4,6 +4,7 @@ ghost use Rattle.std.specs.List.{list_any};
 ghost use Rattle.std.specs.Prelude.{◌≡◌, ◌≤◌, ◌+◌, ◌*◌, ◌==◌, ◌<◌, ◌^◌, IfOk, IsTrue, None, OnOk, length};
 ghost use Rattle.channel_model.specs.Meanings.{Arrives, Expires, Fails};
 ghost use Rattle.channel_model.specs.Seen.{Happens};
+ghost use Rattle.channel_table.specs.Tokens.{seen};
 ghost use Rattle.query_machine.specs.Servers.{recounted};
 ghost use Rattle.channel_table.specs.Arriving.{recount_by};
 ghost use Rattle.channel_table.specs.Ends.{attempts_with, server_of};
@@ -27,7 +28,8 @@ impl<T: Token, J: ChannelJournal> Table<T, J> {
         link: u64,
         bytes: &[u8],
     ) -> Result<Landed, NoMemory>
-        ensures { Happens (Arrives server link bytes.now result) seat 0 self.old self.new }
+        ensures done { Happens (Arrives server link bytes.now result) seat 0 (seen self.old) (seen self.new) }
+        ensures tokens { self.new.tokens ≡ self.old.tokens }
     {
         let found = self
             .rows
@@ -74,7 +76,8 @@ impl<T: Token, J: ChannelJournal> Table<T, J> {
 
     /// Lets the attempt that is due first expire, if it is due at this moment. It takes no memory where none is due.
     pub fn expire(&mut self, seat: u64, at: u64) -> Result<Lapse, NoMemory>
-        ensures { Happens (Expires at result) seat 0 self.old self.new }
+        ensures done { Happens (Expires at result) seat 0 (seen self.old) (seen self.new) }
+        ensures tokens { self.new.tokens ≡ self.old.tokens }
     {
         if !self.rows.is_due(at) {
             return Ok(Lapse::NotDue);
@@ -125,7 +128,8 @@ impl<T: Token, J: ChannelJournal> Table<T, J> {
 
     /// Fails the attempts that are in flight on this server over this link, and answers how many there were.
     pub fn fault(&mut self, seat: u64, server: u32, link: u64, at: u64) -> Result<u64, NoMemory>
-        ensures { Happens (Fails server link at result) seat 0 self.old self.new }
+        ensures done { Happens (Fails server link at result) seat 0 (seen self.old) (seen self.new) }
+        ensures tokens { self.new.tokens ≡ self.old.tokens }
     {
         let most = most_attempts(&self.options, &self.list);
         make_room(&mut self.journal, self.rows.len(), self.ready.len())?;

@@ -4,6 +4,7 @@ ghost use Rattle.std.specs.Prelude.{◌≡◌, ◌<◌, IfSome};
 ghost use Rattle.channel_table.specs.DueSides.{IsDueOf, due_side, is_due};
 ghost use Rattle.channel_model.specs.Meanings.{TellsBusy, TellsDue};
 ghost use Rattle.channel_model.specs.Seen.{Happens};
+ghost use Rattle.channel_table.specs.Tokens.{seen};
 ghost use Rattle.channel_table.specs.Soonest.{IsSoonest, is_sooner, sooner, sooner_row};
 
 use super::Table;
@@ -19,14 +20,14 @@ use timeout_queue::Key;
 impl<T: Token, J: ChannelJournal> Table<T, J> {
     /// Whether an attempt is in flight on this server over this link.
     pub fn link_busy(&self, server: u32, link: u64) -> bool
-        ensures { Happens (TellsBusy server link result) 0 0 self.now self.now }
+        ensures { Happens (TellsBusy server link result) 0 0 (seen self.now) (seen self.now) }
     {
         self.rows.any_over(server, link)
     }
 
     /// When the next attempt in flight is due.
     pub fn next_due(&self) -> Option<u64>
-        ensures { Happens (TellsDue result) 0 0 self.now self.now }
+        ensures { Happens (TellsDue result) 0 0 (seen self.now) (seen self.now) }
     {
         self.rows.first_due()
     }

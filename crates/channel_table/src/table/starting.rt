@@ -7,6 +7,7 @@ ghost use Rattle.channel_model.specs.Flight.{asked_with};
 ghost use Rattle.channel_model.specs.Meanings.{Starts};
 ghost use Rattle.channel_model.specs.Past.{query_for};
 ghost use Rattle.channel_model.specs.Seen.{Happens};
+ghost use Rattle.channel_table.specs.Tokens.{seen};
 ghost use Rattle.channel_model.specs.Servers.{address_of, has_key};
 ghost use Rattle.dns_message.specs.Spelling.{message_bytes};
 ghost use Rattle.query_machine.specs.Legs.{attempt_from};
@@ -44,7 +45,8 @@ impl<T: Token, J: ChannelJournal> Table<T, J> {
     /// Begins an attempt of the first waiting leg at this moment, with an identifier from this word upwards, and its
     /// letters in the case of the bits of `mix`, where the channel is set so and the query goes over UDP.
     pub fn start(&mut self, seat: u64, word: u16, mix: u16, at: u64) -> Result<Begun, NoMemory>
-        ensures { Happens (Starts word mix at result) seat 0 self.old self.new }
+        ensures done { Happens (Starts word mix at result) seat 0 (seen self.old) (seen self.new) }
+        ensures tokens { self.new.tokens ≡ self.old.tokens }
     {
         let Some(idle) = self.rows.find_idle() else {
             return Ok(Begun::Idle);

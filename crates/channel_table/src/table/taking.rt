@@ -4,6 +4,7 @@ ghost use Rattle.std.specs.Prelude.{◌≡◌, ◌+◌, ◌∷◌, ◌<◌};
 ghost use Rattle.std.specs.VecDeque.{deque_capacity, deque_len};
 ghost use Rattle.channel_model.specs.Meanings.{Takes};
 ghost use Rattle.channel_model.specs.Seen.{Happens};
+ghost use Rattle.channel_table.specs.Tokens.{GivesToken, seen};
 
 use super::Table;
 use chan_types::{Entry, Ticket, Token, What};
@@ -13,7 +14,8 @@ use std::collections::VecDeque;
 impl<T: Token, J: ChannelJournal> Table<T, J> {
     /// Moves out the first ready request. It takes no memory.
     pub fn take(&mut self, seat: u64) -> Option<Ticket<T>>
-        ensures { Happens (Takes T.plan result) seat 0 self.old self.new }
+        ensures done { Happens (Takes T.plan result) seat 0 (seen self.old) (seen self.new) }
+        ensures tokens { GivesToken result self.old.tokens self.new.tokens }
     {
         if self.ready.is_empty() {
             return None;

@@ -1,6 +1,6 @@
 //! A body that records its calls, and what scripts command, as tables.
 
-ghost use Rattle.std.specs.Prelude.{◌≡◌, [], None};
+ghost use Rattle.std.specs.Prelude.{◌≡◌, [], IfSome, None, Some, is_some, true};
 
 use chan_types::{
     Act, Addr, AddrList, Answer, Bytes, Command, Name, Need, NoMemory, Orders, Refusal, Script,
@@ -29,9 +29,13 @@ struct Recorder {
 }
 
 impl Done for Recorder {
+    ghost name = { λ recorder. recorder.inner.plan.tag };
+
     ghost plan = { λ recorder. recorder.inner.plan };
 
     ghost told = { λ recorder. recorder.inner.told };
+
+    ghost refusal = { λ recorder. recorder.inner.refusal };
 
     fn script(&self) -> &Script {
         self.inner.script()
@@ -54,6 +58,7 @@ impl Done for Recorder {
         self.record
             .refusals
             .fetch_add(why.number() as u64, Ordering::SeqCst);
+        self.inner.refused(why);
     }
 }
 
@@ -87,8 +92,13 @@ fn answer(
 /// What callbacks with a body may do: go to another thread.
 fn goes_to_threads<T: Send>(_: &T) {}
 
-/// Calls a callback with this body. Answers its script's tag before the call, and the number and origin of what remains.
-fn call_body<B: Done + Send + Drop>(body: B, answer: &Answer, hand: &mut Hand) -> (u64, u64, bool)
+/// Calls a callback with this body. Answers its script's tag before the call, the number and origin of what remains, and
+/// what the body then says it was told.
+fn call_body<B: Done + Send + Drop>(
+    body: B,
+    answer: &Answer,
+    hand: &mut Hand,
+) -> (u64, u64, bool, Option<u64>)
     requires fresh { B.told body ≡ None }
     requires room { hand.old.commands ≡ [] }
 {
@@ -96,14 +106,51 @@ fn call_body<B: Done + Send + Drop>(body: B, answer: &Answer, hand: &mut Hand) -
     goes_to_threads(&callback);
     let tag = callback.script().tag();
     let called = callback.call(answer, hand);
-    (tag, called.number(), called.boxed())
+    let (number, boxed) = (called.number(), called.boxed());
+    (tag, number, boxed, told_by(called.into_body()))
 }
 
-/// Refuses a callback with this body.
-fn refuse_body<B: Done + Drop>(body: B, why: Refusal)
+/// What this body says it was told, if there is one.
+fn told_by<B: Done + Drop>(body: Option<B>) -> Option<u64> {
+    match body {
+        Some(body) => body.called(),
+        None => None,
+    }
+}
+
+/// Refuses a callback with this body, and hands it back: it is the same one, and knows the refusal.
+fn refuse_body<B: Done + Drop>(body: B, why: Refusal) -> Option<B>
     requires { B.told body ≡ None }
+    ensures given { is_some result ≡ true }
+    ensures told { IfSome result (λ back. B.refusal back ≡ Some why) }
+    ensures name { IfSome result (λ back. B.name back ≡ B.name body) }
 {
-    Callback::of(body).refuse(why);
+    Callback::of(body).refuse(why)
+}
+
+/// Calls two callbacks, the second one first, each with an answer of its own, and hands both bodies back: of each it is
+/// known who it is, and what it was told.
+fn call_both<B: Done + Drop>(
+    first: B,
+    second: B,
+    one: &Answer,
+    other: &Answer,
+    hand: &mut Hand,
+    other_hand: &mut Hand,
+) -> (Option<B>, Option<B>)
+    requires fresh { B.told first ≡ None }
+    requires fresh_too { B.told second ≡ None }
+    requires room { hand.old.commands ≡ [] }
+    requires room_too { other_hand.old.commands ≡ [] }
+    ensures given { (is_some result.0 ≡ true) × (is_some result.1 ≡ true) }
+    ensures first { IfSome result.0
+        (λ body. (B.name body ≡ B.name first) × (B.told body ≡ Some one.now.number)) }
+    ensures second { IfSome result.1
+        (λ body. (B.name body ≡ B.name second) × (B.told body ≡ Some other.now.number)) }
+{
+    let late = Callback::of(second).call(other, other_hand);
+    let early = Callback::of(first).call(one, hand);
+    (early.into_body(), late.into_body())
 }
 
 // A box is called once, with the answer of its request, and knows that answer's number afterwards. No other box is.
@@ -128,14 +175,46 @@ fn a_box_is_called_once(rt: HostRuntime) -> Result<(), Fail> {
     assert_eq!(rt; body.called(), None);
     let mut hand = Hand::make(alloc)?;
     let told = answer(alloc, 7, Status::Cancelled, &[])?;
-    assert_eq!(rt; call_body(body, &told, &mut hand), (9, 7, true));
+    assert_eq!(rt; call_body(body, &told, &mut hand), (9, 7, true, Some(7)));
     assert_eq!(rt; first.calls.load(Ordering::SeqCst), 1);
     assert_eq!(rt; first.number.load(Ordering::SeqCst), 7);
     assert_eq!(rt; first.code.load(Ordering::SeqCst), 24);
     assert_eq!(rt; first.refusals.load(Ordering::SeqCst), 0);
-    refuse_body(unused, Refusal::NoMemory);
+    assert_eq!(rt; told_by(refuse_body(unused, Refusal::NoMemory)), None);
     assert_eq!(rt; other.calls.load(Ordering::SeqCst), 0);
     assert_eq!(rt; other.refusals.load(Ordering::SeqCst), 2);
+    Ok(())
+}
+
+// Of two boxes the second one is called first: each is told its own request's answer.
+#[test]
+fn each_box_is_told_its_own(rt: HostRuntime) -> Result<(), Fail> {
+    let alloc = rt.alloc();
+    let (record, other_record) = (blank_record(alloc)?, blank_record(alloc)?);
+    let first: Box<dyn Done + Send + Drop> = Box::new(
+        alloc,
+        Recorder {
+            inner: Scripted::new(Script::blank(alloc, 1)),
+            record: Arc::try_clone(&record)?,
+        },
+    )?;
+    let second: Box<dyn Done + Send + Drop> = Box::new(
+        alloc,
+        Recorder {
+            inner: Scripted::new(Script::blank(alloc, 1)),
+            record: Arc::try_clone(&other_record)?,
+        },
+    )?;
+    let one = answer(alloc, 7, Status::Success, &[])?;
+    let other = answer(alloc, 8, Status::TimedOut, &[])?;
+    let (mut hand, mut other_hand) = (Hand::make(alloc)?, Hand::make(alloc)?);
+    let (early, late) = call_both(first, second, &one, &other, &mut hand, &mut other_hand);
+    assert_eq!(rt; told_by(early), Some(7));
+    assert_eq!(rt; told_by(late), Some(8));
+    assert_eq!(rt; record.number.load(Ordering::SeqCst), 7);
+    assert_eq!(rt; record.code.load(Ordering::SeqCst), 0);
+    assert_eq!(rt; other_record.number.load(Ordering::SeqCst), 8);
+    assert_eq!(rt; other_record.code.load(Ordering::SeqCst), 12);
     Ok(())
 }
 
@@ -238,8 +317,7 @@ const CASES: [(Status, Orders, &[Addr], &[(u8, u64)]); 5] = [
 fn scripts_command_by_answer_and_orders(rt: HostRuntime) -> Result<(), Fail> {
     let alloc = rt.alloc();
     let script = four_steps(alloc)?;
-    for row in CASES.iter() {
-        let (status, orders, addresses, expected) = *row;
+    for (status, orders, addresses, expected) in CASES {
         let mut hand = Hand::make(alloc)?;
         hand.set(orders);
         let callback: Callback<Recorder> = Callback::scripted(script.copy(alloc)?);

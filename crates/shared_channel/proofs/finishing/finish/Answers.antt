@@ -1,6 +1,7 @@
 use Rattle.std.proofs.Common.{◌∙◌, ◌≡◌, ap, length, subst, sym}
 use Rattle.channel_model.specs.Journal.{accepted, past_of}
-use Rattle.channel_model.specs.Seen.{Seen}
+use Rattle.channel_table.specs.Tokens.{Shown}
+use Rattle.completion_ticket.specs.States.{CallbackState}
 use Rattle.chan_types.specs.declared.journal.Entry.{Entry}
 use Rattle.std.specs.Prelude.{List}
 use Rattle.shared_channel.specs.Finishing.{EmptiesChannel, IsJoined}
@@ -40,7 +41,7 @@ returns g c =
     let emptied : EmptiesChannel c.args.orders all last = record { is_first = c.destroy.result; destroyed = c.destroy.new.self; destroys = c.destroy.ensures.done; delivered = c.deliver_all.ensures } in
     let is : last ≡ pass_of here.seat here.is_set here.calls here.lost = sym (c.account-2.view_is ∙ c.account.view_is ∙ c.leave.ensures) in
     let log = c.close-table.result.table.value.journal in
-    let journal : c.into_journal-journal.result ≡ log = c.into_journal-journal.ensures ∙ c.close.ensures ∙ ap (λ (s : Seen). s.journal) c.into_inner.ensures in
+    let journal : c.into_journal-journal.result ≡ log = c.into_journal-journal.ensures ∙ c.close.ensures ∙ ap (λ (s : Shown CallbackState). s.journal) c.into_inner.ensures in
     finishes c.args.orders c.args.channel passes all last c.requires.all joined emptied here.seat here.is_set here.calls here.lost is c.requires.settled log c.close-table.ensures.history _ journal
     (c.accepted_count-accepted.ensures ∙ ap (λ (l : List Entry). length (accepted (past_of l))) (c.entries.ensures ∙ journal))
     (sym (ap (λ (p : PassView). p.calls) is)) (sym (ap (λ (p : PassView). p.lost) is))

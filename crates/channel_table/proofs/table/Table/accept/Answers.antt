@@ -12,6 +12,7 @@ use Rattle.channel_table.specs.Opening.{Opens}
 use Rattle.channel_table.specs.declared.table.accepting.Opening.{Opening}
 use Rattle.item_list.specs.declared.no_memory.NoMemory.{NoMemory}
 use Rattle.channel_model.specs.Meanings.{Accepts}
+use Rattle.channel_table.proofs.PlacedTokens.{tokens_placed}
 use Rattle.channel_table.proofs.table.Table.accept.Goals as goal
 
 pub place-requires-clause-newer : goal.place-requires-clause-newer
@@ -36,8 +37,8 @@ invariant_of-self g c =
     _ _ p.room p.fits c.add.ensures.room (omega (arith, c.in-Ok-place.ensures.most, c.in-Ok-place.ensures.len, c.len.ensures, few_closed c.self.inside.closed))
     (omega (arith, p.room_ready, c.in-Ok-place.ensures.len, c.place.ensures.capacity, c.len.ensures))
 
-pub returns-in-Ok-place : goal.returns-in-Ok-place
-returns-in-Ok-place g c =
+pub returns-in-Ok-place-clause-done : goal.returns-in-Ok-place-clause-done
+returns-in-Ok-place-clause-done g c =
     let past : Past = past_of (g.J.ChannelJournal.told c.self.inside.journal) in
     let next : c.self.inside.accepted + 1 ≡ length (accepted past) + 1 = omega (arith, c.self.invariant.accepts) in
     let p = c.in-Ok.ensures in
@@ -46,3 +47,13 @@ returns-in-Ok-place g c =
     rw (← c.self.view_is) (happens_one g.T.Token.plan g.J.ChannelJournal.told g.J.ChannelJournal.room (Accepts g.T.Token.plan c.args.spec c.args.token (Ok (c.self.inside.accepted + 1))) c.self.inside _ c.args.seat c.args.by
     (Accept (c.self.inside.accepted + 1) c.args.spec (g.T.Token.plan c.args.token)) refl added (invariant_of-self g c)
     (refl, c.self.invariant.destroyed ∙ c.if-self.false, next))
+
+pub returns-in-Ok-place-clause-tokens : goal.returns-in-Ok-place-clause-tokens
+returns-in-Ok-place-clause-tokens g c =
+    let past : Past = past_of (g.J.ChannelJournal.told c.self.inside.journal) in
+    let next : c.self.inside.accepted + 1 ≡ length (accepted past) + 1 = omega (arith, c.self.invariant.accepts) in
+    let p = c.in-Ok.ensures in
+    let opens : Opens (setting_of c.self.inside) (c.self.inside.accepted + 1) c.args.spec c.in-Ok.prepared.opening =
+    subst (λ (r : Result Opening NoMemory). IfOk r (Opens (setting_of c.self.inside) (c.self.inside.accepted + 1) c.args.spec)) p.opening c.opening_of-opening.ensures in
+    rw (← c.self.view_is) (tokens_placed g.T.Token.plan (setting_of c.self.inside) past c.self.invariant.lawful.allowed (c.self.inside.accepted + 1) next c.args.token c.self.inside.rows c.place.new.rows c.self.inside.ready.items c.place.new.ready.items c.self.invariant.stands
+    c.self.inside.options.flags c.args.spec c.in-Ok.prepared.opening opens (rw (c.of-aim.ensures, p.same.1) at c.in-Ok-place.ensures.places))

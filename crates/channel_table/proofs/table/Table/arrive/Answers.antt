@@ -27,6 +27,7 @@ use Rattle.channel_table.specs.Kept.{setting_of}
 use Rattle.channel_table.specs.Rows.{side_at}
 use Rattle.channel_table.specs.Sides.{at_side}
 use Rattle.channel_table.specs.declared.row.Row.{Row}
+use Rattle.channel_table.proofs.TokenLemmas.{apart, each_off, numbered_by, tokens_moved}
 use Rattle.channel_table.proofs.table.Table.arrive.Goals as goal
 
 pub find_landing-requires : goal.find_landing-requires
@@ -41,18 +42,18 @@ pub most_attempts-most-requires-clause-few : goal.most_attempts-most-requires-cl
 most_attempts-most-requires-clause-few g c =
     list_few (setting_of c.self.inside) (past_of (g.J.ChannelJournal.told c.self.inside.journal)) c.self.inside.list c.self.inside.servers c.self.inside.greatest_key c.self.inside.greatest_link c.self.inside.started c.self.invariant.counted c.self.invariant.limits c.self.invariant.lawful.allowed
 
-pub returns-in_err-make_room : goal.returns-in_err-make_room
-returns-in_err-make_room g c =
+pub returns-in_err-make_room-clause-done : goal.returns-in_err-make_room-clause-done
+returns-in_err-make_room-clause-done g c =
     rw (← c.self.view_is) (happens_same g.T.Token.plan g.J.ChannelJournal.told g.J.ChannelJournal.room (Arrives c.args.server c.args.link c.args.bytes.now c.from_residual-in_err-make_room.result) c.self.inside (g.J.ChannelJournal.told c.make_room.new.journal) c.args.seat 0 c.make_room.ensures.told c.self.invariant
     (arrives_failed c.args.server c.args.link c.args.bytes.now c.from_residual-in_err-make_room.result (setting_of c.self.inside) (past_of (g.J.ChannelJournal.told c.self.inside.journal)) c.from_residual-in_err-make_room.ensures.0))
 
-pub returns-in_err-reply-in-Some : goal.returns-in_err-reply-in-Some
-returns-in_err-reply-in-Some g c =
+pub returns-in_err-reply-in-Some-clause-done : goal.returns-in_err-reply-in-Some-clause-done
+returns-in_err-reply-in-Some-clause-done g c =
     rw (← c.self.view_is) (happens_same g.T.Token.plan g.J.ChannelJournal.told g.J.ChannelJournal.room (Arrives c.args.server c.args.link c.args.bytes.now c.from_residual-in_err-reply-in-Some.result) c.self.inside (g.J.ChannelJournal.told c.make_room.new.journal) c.args.seat 0 c.make_room.ensures.told c.self.invariant
     (arrives_failed c.args.server c.args.link c.args.bytes.now c.from_residual-in_err-reply-in-Some.result (setting_of c.self.inside) (past_of (g.J.ChannelJournal.told c.self.inside.journal)) c.from_residual-in_err-reply-in-Some.ensures.0))
 
-pub returns-in_err-answer-in-Some : goal.returns-in_err-answer-in-Some
-returns-in_err-answer-in-Some g c =
+pub returns-in_err-answer-in-Some-clause-done : goal.returns-in_err-answer-in-Some-clause-done
+returns-in_err-answer-in-Some-clause-done g c =
     rw (← c.self.view_is) (happens_same g.T.Token.plan g.J.ChannelJournal.told g.J.ChannelJournal.room (Arrives c.args.server c.args.link c.args.bytes.now c.from_residual-in_err-answer-in-Some.result) c.self.inside (g.J.ChannelJournal.told c.make_room.new.journal) c.args.seat 0 c.make_room.ensures.told c.self.invariant
     (arrives_failed c.args.server c.args.link c.args.bytes.now c.from_residual-in_err-answer-in-Some.result (setting_of c.self.inside) (past_of (g.J.ChannelJournal.told c.self.inside.journal)) c.from_residual-in_err-answer-in-Some.ensures.0))
 
@@ -74,8 +75,8 @@ invariant_of-self-in-None g c =
     _ _ room.room room.fits c.arrive.ensures.room (omega (arith, c.len.ensures, c.len-2.ensures, few_closed c.self.inside.closed))
     c.self.invariant.room_ready)
 
-pub returns-in-None : goal.returns-in-None
-returns-in-None g c =
+pub returns-in-None-clause-done : goal.returns-in-None-clause-done
+returns-in-None-clause-done g c =
     let past : Past = past_of (g.J.ChannelJournal.told c.self.inside.journal) in
     let setting : Setting = setting_of c.self.inside in
     let none : list_any (row_lands setting.options.flags c.args.server c.args.link c.args.bytes.now) c.self.inside.rows ≡ false = rw (c.flags.ensures.value, c.in-None.is) at c.in_ok-found.ensures in
@@ -125,8 +126,8 @@ invariant_of-self-in-Some g c =
     _ _ room.room room.fits c.arrive-in-Some.ensures.room (omega (arith, c.len.ensures, c.len-2.ensures, c.end_row.ensures.fewer, c.end_row.ensures.len, few_closed c.self.inside.closed))
     (omega (arith, c.self.invariant.room_ready, c.end_row.ensures.len, c.end_row.ensures.capacity))
 
-pub returns-in_ok-end_row-in-Some : goal.returns-in_ok-end_row-in-Some
-returns-in_ok-end_row-in-Some g c =
+pub returns-in_ok-end_row-in-Some-clause-done : goal.returns-in_ok-end_row-in-Some-clause-done
+returns-in_ok-end_row-in-Some-clause-done g c =
     let past : Past = past_of (g.J.ChannelJournal.told c.self.inside.journal) in
     let setting : Setting = setting_of c.self.inside in
     let found = rw (c.flags.ensures.value, c.in-Some.is) at c.in_ok-found.ensures in
@@ -144,7 +145,22 @@ pub invariant_of-self-in_err-end_row-in-Some : goal.invariant_of-self-in_err-end
 invariant_of-self-in_err-end_row-in-Some g c =
     kept_grown g.T.Token.plan g.J.ChannelJournal.told g.J.ChannelJournal.room c.self.inside _ (rw (c.in_err-end_row-in-Some.ensures.err.0, c.in_err-end_row-in-Some.ensures.err.1) refl) c.make_room.ensures.told c.make_room.ensures.kept c.self.invariant
 
-pub returns-in_err-end_row-in-Some : goal.returns-in_err-end_row-in-Some
-returns-in_err-end_row-in-Some g c =
+pub returns-in_err-end_row-in-Some-clause-done : goal.returns-in_err-end_row-in-Some-clause-done
+returns-in_err-end_row-in-Some-clause-done g c =
     rw (← c.self.view_is) (happens_same g.T.Token.plan g.J.ChannelJournal.told g.J.ChannelJournal.room (Arrives c.args.server c.args.link c.args.bytes.now c.from_residual-in_err-end_row-in-Some.result) c.self.inside (g.J.ChannelJournal.told c.make_room.new.journal) c.args.seat 0 c.make_room.ensures.told c.self.invariant
     (arrives_failed c.args.server c.args.link c.args.bytes.now c.from_residual-in_err-end_row-in-Some.result (setting_of c.self.inside) (past_of (g.J.ChannelJournal.told c.self.inside.journal)) c.from_residual-in_err-end_row-in-Some.ensures.0))
+
+pub returns-in_ok-end_row-in-Some-clause-tokens : goal.returns-in_ok-end_row-in-Some-clause-tokens
+returns-in_ok-end_row-in-Some-clause-tokens g c =
+    let found = rw (c.flags.ensures.value, c.in-Some.is) at c.in_ok-found.ensures in
+    let ends = c.in_ok-end_row-in-Some.ensures.ends in
+    let same = get_or_read c.self.inside.rows c.in-Some.landing.index c.row.result.now found.inside c.row.ensures ends.row ∙ ends.is ends.row in
+    let numbered = numbered_by c.self.inside.options (at_side c.in-Some.landing.is_second) c.in-Some.landing.judged c.args.bytes.now c.most_attempts-most.result c.row.result.now ends.row c.in_ok-answer-in-Some.answer same (rw c.at.ensures at c.in_ok-answer-in-Some.ensures) in
+    rw (← c.self.view_is) (tokens_moved _ _ _ _ _ c.in_ok-answer-in-Some.answer c.in-Some.landing.index c.self.inside.rows c.self.inside.ready.items c.end_row.new.self c.end_row.new.ready.items ends numbered
+    (apart g.T.Token.plan (setting_of c.self.inside) (past_of (g.J.ChannelJournal.told c.self.inside.journal)) c.self.invariant.lawful.allowed c.self.inside.rows c.self.inside.ready.items c.self.invariant.stands) (each_off g.T.Token.plan (setting_of c.self.inside) (past_of (g.J.ChannelJournal.told c.self.inside.journal)) c.self.inside.rows c.self.inside.ready.items c.self.invariant.stands.each_row c.self.invariant.stands.each_ticket))
+
+pub returns-in-None-clause-tokens : goal.returns-in-None-clause-tokens
+returns-in-None-clause-tokens g c = rw (← c.self.view_is, c.index_flights.ensures) refl
+
+pub returns-in_err-end_row-in-Some-clause-tokens : goal.returns-in_err-end_row-in-Some-clause-tokens
+returns-in_err-end_row-in-Some-clause-tokens g c = rw (← c.self.view_is, c.in_err-end_row-in-Some.ensures.err.0, c.in_err-end_row-in-Some.ensures.err.1) refl

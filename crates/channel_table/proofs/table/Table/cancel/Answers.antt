@@ -10,6 +10,7 @@ use Rattle.channel_table.proofs.TableSteps.{table_ended}
 use Rattle.channel_table.specs.Kept.{setting_of}
 use Rattle.channel_model.specs.Meanings.{Cancels}
 use Rattle.channel_table.specs.Rows.{number_of}
+use Rattle.channel_table.proofs.TokenLemmas.{each_off, tokens_ended}
 use Rattle.channel_table.proofs.table.Table.cancel.Goals as goal
 
 pub invariant_of-self : goal.invariant_of-self
@@ -26,10 +27,14 @@ invariant_of-self g c =
     _ _ c.self.invariant.room c.self.invariant.fits c.add.ensures.room (omega (arith, c.if-count-eq0.false, c.len-count.ensures, c.complete_all.ensures.ready_len, ap length c.complete_all.ensures.none))
     (omega (arith, c.self.invariant.room_ready, c.complete_all.ensures.ready_len, ap length c.complete_all.ensures.none, c.complete_all.ensures.capacity))
 
-pub returns : goal.returns
-returns g c =
+pub returns-clause-done : goal.returns-clause-done
+returns-clause-done g c =
     let past : Past = past_of (g.J.ChannelJournal.told c.self.inside.journal) in
     let count : c.len-count.result ≡ length (pending (setting_of c.self.inside) past) =
     omega (arith, c.len-count.ensures, pending_count number_of (pending (setting_of c.self.inside) past) c.self.inside.rows c.self.invariant.stands.stand.pending_are) in
     rw (← c.self.view_is) (happens_one g.T.Token.plan g.J.ChannelJournal.told g.J.ChannelJournal.room (Cancels c.len-count.result) c.self.inside _ c.args.seat c.args.by Cancel refl c.add.ensures.told (invariant_of-self g c)
     (record { all_pending = count; entry = rw (ne_eqb c.len-count.result 0 c.if-count-eq0.false) refl }))
+
+pub returns-clause-tokens : goal.returns-clause-tokens
+returns-clause-tokens g c =
+    rw (← c.self.view_is, c.complete_all.ensures.none, c.complete_all.ensures.tickets) (tokens_ended Cancelled c.self.inside.rows c.self.inside.ready.items (each_off g.T.Token.plan (setting_of c.self.inside) (past_of (g.J.ChannelJournal.told c.self.inside.journal)) c.self.inside.rows c.self.inside.ready.items c.self.invariant.stands.each_row c.self.invariant.stands.each_ticket))

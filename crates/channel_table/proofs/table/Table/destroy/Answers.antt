@@ -7,6 +7,7 @@ use Rattle.channel_table.proofs.Keeping.{happens_one, kept_more, no_more}
 use Rattle.channel_table.proofs.TableSteps.{table_ended}
 use Rattle.channel_table.specs.Kept.{setting_of}
 use Rattle.channel_model.specs.Meanings.{Destroys}
+use Rattle.channel_table.proofs.TokenLemmas.{each_off, tokens_ended}
 use Rattle.channel_table.proofs.table.Table.destroy.Goals as goal
 
 pub invariant_of-self : goal.invariant_of-self
@@ -22,7 +23,11 @@ invariant_of-self g c =
     _ _ c.self.invariant.room c.self.invariant.fits c.add.ensures.room (omega (arith, open_, c.complete_all.ensures.ready_len, ap length c.complete_all.ensures.none))
     (omega (arith, c.self.invariant.room_ready, c.complete_all.ensures.ready_len, ap length c.complete_all.ensures.none, c.complete_all.ensures.capacity))
 
-pub returns : goal.returns
-returns g c =
+pub returns-clause-done : goal.returns-clause-done
+returns-clause-done g c =
     rw (← c.self.view_is) (happens_one g.T.Token.plan g.J.ChannelJournal.told g.J.ChannelJournal.room (Destroys _) c.self.inside _ c.args.seat c.args.by Destroy refl c.add.ensures.told (invariant_of-self g c)
     (record { answer = rw (c.self.invariant.destroyed, c.if-self.false) refl; entry = refl }))
+
+pub returns-clause-tokens : goal.returns-clause-tokens
+returns-clause-tokens g c =
+    rw (← c.self.view_is, c.complete_all.ensures.none, c.complete_all.ensures.tickets) (tokens_ended Destruction c.self.inside.rows c.self.inside.ready.items (each_off g.T.Token.plan (setting_of c.self.inside) (past_of (g.J.ChannelJournal.told c.self.inside.journal)) c.self.inside.rows c.self.inside.ready.items c.self.invariant.stands.each_row c.self.invariant.stands.each_ticket))

@@ -33,10 +33,11 @@ use Rattle.channel_table.specs.Sides.{at_side, flying_of, leg_of_side}
 use Rattle.channel_table.specs.Soonest.{due_of_side, dues}
 use Rattle.channel_table.specs.declared.side.Side.{Side}
 use Rattle.channel_table.specs.declared.row.Row.{Row}
+use Rattle.channel_table.proofs.TokenLemmas.{apart, each_off, numbered_by, tokens_moved}
 use Rattle.channel_table.proofs.table.Table.expire.Goals as goal
 
-pub returns-then-not-is_due : goal.returns-then-not-is_due
-returns-then-not-is_due g c =
+pub returns-then-not-is_due-clause-done : goal.returns-then-not-is_due-clause-done
+returns-then-not-is_due-clause-done g c =
     let past : Past = past_of (g.J.ChannelJournal.told c.self.inside.journal) in
     let told = first_due_rows g.T.Token.plan (setting_of c.self.inside) past c.self.inside.rows c.self.inside.ready.items c.self.invariant.stands in
     let later = due_later c.args.at (least (dues c.self.inside.rows)) (sym c.is_due.ensures ∙ c.if-not-is_due.true) in
@@ -51,8 +52,8 @@ pub most_attempts-most-requires-clause-few : goal.most_attempts-most-requires-cl
 most_attempts-most-requires-clause-few g c =
     list_few (setting_of c.self.inside) (past_of (g.J.ChannelJournal.told c.self.inside.journal)) c.self.inside.list c.self.inside.servers c.self.inside.greatest_key c.self.inside.greatest_link c.self.inside.started c.self.invariant.counted c.self.invariant.limits c.self.invariant.lawful.allowed
 
-pub returns-in_err-make_room-in-Some : goal.returns-in_err-make_room-in-Some
-returns-in_err-make_room-in-Some g c =
+pub returns-in_err-make_room-in-Some-clause-done : goal.returns-in_err-make_room-in-Some-clause-done
+returns-in_err-make_room-in-Some-clause-done g c =
     let told = first_due_rows g.T.Token.plan (setting_of c.self.inside) (past_of (g.J.ChannelJournal.told c.self.inside.journal)) c.self.inside.rows c.self.inside.ready.items c.self.invariant.stands in
     let is = told ∙ c.in-Some.ensures.1 in
     rw (← c.self.view_is) (happens_same g.T.Token.plan g.J.ChannelJournal.told g.J.ChannelJournal.room (Expires c.args.at c.from_residual.result) c.self.inside (g.J.ChannelJournal.told c.make_room.new.journal) c.args.seat 0 c.make_room.ensures.told c.self.invariant
@@ -104,15 +105,15 @@ invariant_of-self-then-first-at g c =
     _ _ room.room room.fits c.add.ensures.room (omega (arith, c.len.ensures, c.len-in-Some.ensures, c.end_row.ensures.fewer, c.end_row.ensures.len, few_closed c.self.inside.closed))
     (omega (arith, c.self.invariant.room_ready, c.end_row.ensures.len, c.end_row.ensures.capacity))
 
-pub returns-in_err-answer-in-Some : goal.returns-in_err-answer-in-Some
-returns-in_err-answer-in-Some g c =
+pub returns-in_err-answer-in-Some-clause-done : goal.returns-in_err-answer-in-Some-clause-done
+returns-in_err-answer-in-Some-clause-done g c =
     let told = first_due_rows g.T.Token.plan (setting_of c.self.inside) (past_of (g.J.ChannelJournal.told c.self.inside.journal)) c.self.inside.rows c.self.inside.ready.items c.self.invariant.stands in
     let is = told ∙ c.in-Some.ensures.1 in
     rw (← c.self.view_is) (happens_same g.T.Token.plan g.J.ChannelJournal.told g.J.ChannelJournal.room (Expires c.args.at c.from_residual-in_err-answer-in-Some.result) c.self.inside (g.J.ChannelJournal.told c.make_room.new.journal) c.args.seat 0 c.make_room.ensures.told c.self.invariant
     (expires_failed c.args.at c.from_residual-in_err-answer-in-Some.result (setting_of c.self.inside) (past_of (g.J.ChannelJournal.told c.self.inside.journal)) c.from_residual-in_err-answer-in-Some.ensures.0 (rw is c.if-first-at.true)))
 
-pub returns-in_ok-end_row-in-Some : goal.returns-in_ok-end_row-in-Some
-returns-in_ok-end_row-in-Some g c =
+pub returns-in_ok-end_row-in-Some-clause-done : goal.returns-in_ok-end_row-in-Some-clause-done
+returns-in_ok-end_row-in-Some-clause-done g c =
     let past : Past = past_of (g.J.ChannelJournal.told c.self.inside.journal) in
     let setting : Setting = setting_of c.self.inside in
     let found = c.in-Some.ensures in
@@ -121,16 +122,16 @@ returns-in_ok-end_row-in-Some g c =
     rw (← c.self.view_is) (happens_one g.T.Token.plan g.J.ChannelJournal.told g.J.ChannelJournal.room (Expires c.args.at (Ok (Expired c.in-Some.first.number c.in-Some.first.leg_number))) c.self.inside _ c.args.seat 0 (Expire c.in-Some.first.number c.in-Some.first.leg_number c.args.at) refl
     (c.add.ensures.told ∙ ap (λ es. es ++ record { seat = c.args.seat; by = 0; what = Expire c.in-Some.first.number c.in-Some.first.leg_number c.args.at } ∷ []) c.make_room.ensures.told) (invariant_of-self-then-first-at g c) (refl, may))
 
-pub returns-in-Some-2 : goal.returns-in-Some-2
-returns-in-Some-2 g c =
+pub returns-in-Some-2-clause-done : goal.returns-in-Some-2-clause-done
+returns-in-Some-2-clause-done g c =
     let past : Past = past_of (g.J.ChannelJournal.told c.self.inside.journal) in
     let told = first_due_rows g.T.Token.plan (setting_of c.self.inside) past c.self.inside.rows c.self.inside.ready.items c.self.invariant.stands in
     let is = told ∙ c.in-Some.ensures.1 in
     let means : Expires c.args.at (Ok NotDue) (setting_of c.self.inside) past None = (refl, rw is c.if-first-at.false) in
     rw (← c.self.view_is) (happens_nothing g.T.Token.plan g.J.ChannelJournal.told g.J.ChannelJournal.room (Expires c.args.at (Ok NotDue)) c.self.inside c.args.seat 0 c.self.invariant means)
 
-pub returns-in-None : goal.returns-in-None
-returns-in-None g c =
+pub returns-in-None-clause-done : goal.returns-in-None-clause-done
+returns-in-None-clause-done g c =
     let past : Past = past_of (g.J.ChannelJournal.told c.self.inside.journal) in
     let told = first_due_rows g.T.Token.plan (setting_of c.self.inside) past c.self.inside.rows c.self.inside.ready.items c.self.invariant.stands in
     let none = told ∙ ap least c.in-None.ensures in
@@ -141,9 +142,21 @@ pub invariant_of-self-in_err-end_row-in-Some : goal.invariant_of-self-in_err-end
 invariant_of-self-in_err-end_row-in-Some g c =
     kept_grown g.T.Token.plan g.J.ChannelJournal.told g.J.ChannelJournal.room c.self.inside _ (rw (c.in_err-end_row-in-Some.ensures.err.0, c.in_err-end_row-in-Some.ensures.err.1) refl) c.make_room.ensures.told c.make_room.ensures.kept c.self.invariant
 
-pub returns-in_err-end_row-in-Some : goal.returns-in_err-end_row-in-Some
-returns-in_err-end_row-in-Some g c =
+pub returns-in_err-end_row-in-Some-clause-done : goal.returns-in_err-end_row-in-Some-clause-done
+returns-in_err-end_row-in-Some-clause-done g c =
     let told = first_due_rows g.T.Token.plan (setting_of c.self.inside) (past_of (g.J.ChannelJournal.told c.self.inside.journal)) c.self.inside.rows c.self.inside.ready.items c.self.invariant.stands in
     let is = told ∙ c.in-Some.ensures.1 in
     rw (← c.self.view_is) (happens_same g.T.Token.plan g.J.ChannelJournal.told g.J.ChannelJournal.room (Expires c.args.at c.from_residual-in_err-end_row-in-Some.result) c.self.inside (g.J.ChannelJournal.told c.make_room.new.journal) c.args.seat 0 c.make_room.ensures.told c.self.invariant
     (expires_failed c.args.at c.from_residual-in_err-end_row-in-Some.result (setting_of c.self.inside) (past_of (g.J.ChannelJournal.told c.self.inside.journal)) c.from_residual-in_err-end_row-in-Some.ensures.0 (rw is c.if-first-at.true)))
+
+pub returns-in_ok-end_row-in-Some-clause-tokens : goal.returns-in_ok-end_row-in-Some-clause-tokens
+returns-in_ok-end_row-in-Some-clause-tokens g c =
+    let found = c.in-Some.ensures in
+    let ends = c.in_ok-end_row-in-Some.ensures.ends in
+    let same = get_or_read c.self.inside.rows c.in-Some.first.index c.row-in-Some.result.now found.0.inside c.row-in-Some.ensures ends.row ∙ ends.is ends.row in
+    let numbered = numbered_by c.self.inside.options (at_side c.in-Some.first.is_second) (Failed TimedOut) [] c.most_attempts-most.result c.row-in-Some.result.now ends.row c.in_ok-answer-in-Some.answer same (rw c.at.ensures at c.in_ok-answer-in-Some.ensures) in
+    rw (← c.self.view_is) (tokens_moved _ _ _ _ _ c.in_ok-answer-in-Some.answer c.in-Some.first.index c.self.inside.rows c.self.inside.ready.items c.end_row.new.self c.end_row.new.ready.items ends numbered
+    (apart g.T.Token.plan (setting_of c.self.inside) (past_of (g.J.ChannelJournal.told c.self.inside.journal)) c.self.invariant.lawful.allowed c.self.inside.rows c.self.inside.ready.items c.self.invariant.stands) (each_off g.T.Token.plan (setting_of c.self.inside) (past_of (g.J.ChannelJournal.told c.self.inside.journal)) c.self.inside.rows c.self.inside.ready.items c.self.invariant.stands.each_row c.self.invariant.stands.each_ticket))
+
+pub returns-in_err-end_row-in-Some-clause-tokens : goal.returns-in_err-end_row-in-Some-clause-tokens
+returns-in_err-end_row-in-Some-clause-tokens g c = rw (← c.self.view_is, c.in_err-end_row-in-Some.ensures.err.0, c.in_err-end_row-in-Some.ensures.err.1) refl

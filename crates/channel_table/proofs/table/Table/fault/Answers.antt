@@ -13,6 +13,7 @@ use Rattle.channel_model.proofs.Theorems.{each-then}
 use Rattle.channel_table.specs.Failing.{IsUnanswered}
 use Rattle.channel_table.specs.Kept.{setting_of}
 use Rattle.channel_table.specs.Rows.{RowStands}
+use Rattle.channel_table.proofs.TokenLemmas.{apart, each_off, tokens_failed}
 use Rattle.channel_table.proofs.table.Table.fault.Goals as goal
 
 pub most_attempts-most-requires-clause-some : goal.most_attempts-most-requires-clause-some
@@ -46,8 +47,8 @@ invariant_of-self-2 g c =
     _ _ room.room room.fits c.add.ensures.room (omega (arith, c.len.ensures, c.len-2.ensures, c.fail_all.ensures.fewer, c.fail_all.ensures.len, few_closed c.self.inside.closed))
     (omega (arith, c.self.invariant.room_ready, c.fail_all.ensures.len, c.fail_all.ensures.capacity))
 
-pub returns : goal.returns
-returns g c =
+pub returns-clause-done : goal.returns-clause-done
+returns-clause-done g c =
     let what : What = Fault c.args.server c.args.link c.args.at in
     let entry : Entry = record { seat = c.args.seat; by = 0; what = what } in
     rw (← c.self.view_is) (happens_by g.T.Token.plan g.J.ChannelJournal.told g.J.ChannelJournal.room (Fails c.args.server c.args.link c.args.at (Ok c.in_ok-count.count)) c.self.inside (g.J.ChannelJournal.told c.add.new.self) c.args.seat 0 what (entry_added entry c.add.ensures.told c.make_room.ensures.told) c.self.invariant tt
@@ -56,3 +57,11 @@ returns g c =
 pub invariant_of-self-in_err-count : goal.invariant_of-self-in_err-count
 invariant_of-self-in_err-count g c =
     kept_grown g.T.Token.plan g.J.ChannelJournal.told g.J.ChannelJournal.room c.self.inside _ (rw (c.in_err-count.ensures.err.0, c.in_err-count.ensures.err.1) refl) c.make_room.ensures.told c.make_room.ensures.kept c.self.invariant
+
+pub returns-clause-tokens : goal.returns-clause-tokens
+returns-clause-tokens g c =
+    rw (← c.self.view_is) (tokens_failed _ _ _ _ c.self.inside.rows _ c.self.inside.ready.items _ c.in_ok-count.ensures.fails
+    (apart g.T.Token.plan (setting_of c.self.inside) (past_of (g.J.ChannelJournal.told c.self.inside.journal)) c.self.invariant.lawful.allowed c.self.inside.rows c.self.inside.ready.items c.self.invariant.stands) (each_off g.T.Token.plan (setting_of c.self.inside) (past_of (g.J.ChannelJournal.told c.self.inside.journal)) c.self.inside.rows c.self.inside.ready.items c.self.invariant.stands.each_row c.self.invariant.stands.each_ticket))
+
+pub returns-in_err-count-clause-tokens : goal.returns-in_err-count-clause-tokens
+returns-in_err-count-clause-tokens g c = rw (← c.self.view_is, c.in_err-count.ensures.err.0, c.in_err-count.ensures.err.1) refl

@@ -15,6 +15,7 @@ use Rattle.channel_table.proofs.Keeping.{few_closed, happens_by, happens_same, k
 use Rattle.channel_table.proofs.Listing.{counted_set, keys_apart, keys_are, may_become, set_count, sets_failed, set_length, table_set}
 use Rattle.channel_table.specs.Kept.{setting_of}
 use Rattle.channel_table.specs.Listing.{left_in, row_set}
+use Rattle.channel_table.proofs.TokenLemmas.{tokens_set}
 use Rattle.channel_table.proofs.table.Table.set_servers.Goals as goal
 
 pub renew-requires-clause-some : goal.renew-requires-clause-some
@@ -50,8 +51,8 @@ invariant_of-self-in_err-renew g c =
       room_ready = c.self.invariant.room_ready;
     }
 
-pub returns-in_err-renew : goal.returns-in_err-renew
-returns-in_err-renew g c =
+pub returns-in_err-renew-clause-done : goal.returns-in_err-renew-clause-done
+returns-in_err-renew-clause-done g c =
     let past : Past = past_of (g.J.ChannelJournal.told c.self.inside.journal) in
     let setting : Setting = setting_of c.self.inside in
     let open_ : is_destroyed past ≡ false = c.self.invariant.destroyed ∙ c.if-self.false in
@@ -83,8 +84,8 @@ invariant_of-self-2 g c =
     _ _ room.room room.fits c.add.ensures.room (omega (arith, c.len.ensures, c.len-2.ensures, c.set_list.ensures.len, few_closed c.self.inside.closed))
     (omega (arith, c.self.invariant.room_ready, c.set_list.ensures.len))
 
-pub returns : goal.returns
-returns g c =
+pub returns-clause-done : goal.returns-clause-done
+returns-clause-done g c =
     let past : Past = past_of (g.J.ChannelJournal.told c.self.inside.journal) in
     let setting : Setting = setting_of c.self.inside in
     let addresses = c.args.servers.now in
@@ -101,3 +102,8 @@ returns g c =
     let means : SetsServers addresses (Ok c.count_left-count.result) setting past (Some what) = subst (λ (l : List ServerKey). SetsServers addresses (Ok c.count_left-count.result) setting past (Some (Servers l))) (sym is)
     (refl, subst (MaySet setting past) is may, subst (λ (l : List ServerKey). c.count_left-count.result ≡ length (filter (λ (a : Attempt). not (has_key a.server l)) (in_flight setting past))) is told, λ full. omega (arith, few, full)) in
     rw (← c.self.view_is) (happens_by g.T.Token.plan g.J.ChannelJournal.told g.J.ChannelJournal.room (SetsServers addresses (Ok c.count_left-count.result)) c.self.inside (g.J.ChannelJournal.told c.add.new.self) c.args.seat 0 what added c.self.invariant may means)
+
+pub returns-clause-tokens : goal.returns-clause-tokens
+returns-clause-tokens g c =
+    let rows : c.set_list.new.self ≡ map (row_set c.in_ok-list.list) c.self.inside.rows = c.set_list.ensures.rows ∙ ap (λ (l : List ServerKey). map (row_set l) c.self.inside.rows) c.as_slice-4.ensures in
+    rw (← c.self.view_is, rows) (tokens_set c.in_ok-list.list c.self.inside.rows c.self.inside.ready.items)

@@ -36,10 +36,11 @@ use Rattle.channel_table.specs.Sides.{leg_of_side}
 use Rattle.channel_table.specs.declared.side.Side.{Side}
 use Rattle.channel_table.specs.Starting.{link_with}
 use Rattle.channel_table.specs.declared.row.Row.{Row}
+use Rattle.channel_table.proofs.TokenLemmas.{tokens_begun}
 use Rattle.channel_table.proofs.table.Table.start.Goals as goal
 
-pub returns-in_default : goal.returns-in_default
-returns-in_default g c =
+pub returns-in_default-clause-done : goal.returns-in_default-clause-done
+returns-in_default-clause-done g c =
     let past : Past = past_of (g.J.ChannelJournal.told c.self.inside.journal) in
     let setting : Setting = setting_of c.self.inside in
     let rows : List (Row g.row.T.Denot) = c.self.inside.rows in
@@ -49,8 +50,8 @@ returns-in_default g c =
     let means : Starts c.args.word c.args.mix c.args.at (Ok Idle) setting past None = (refl, told ∙ none) in
     rw (← c.self.view_is) (happens_nothing g.T.Token.plan g.J.ChannelJournal.told g.J.ChannelJournal.room (Starts c.args.word c.args.mix c.args.at (Ok Idle)) c.self.inside c.args.seat 0 c.self.invariant means)
 
-pub returns-in_default-free_id : goal.returns-in_default-free_id
-returns-in_default-free_id g c =
+pub returns-in_default-free_id-clause-done : goal.returns-in_default-free_id-clause-done
+returns-in_default-free_id-clause-done g c =
     let past : Past = past_of (g.J.ChannelJournal.told c.self.inside.journal) in
     let setting : Setting = setting_of c.self.inside in
     let rows : List (Row g.row.T.Denot) = c.self.inside.rows in
@@ -95,8 +96,8 @@ address_of-address-requires g c =
     let there = chosen_there setting past c.self.inside.list c.self.inside.servers c.self.inside.greatest_key c.self.inside.greatest_link c.self.inside.started c.self.invariant.counted leg c.self.invariant.limits c.self.invariant.lawful.allowed in
     rw c.as_slice.ensures (subst (λ (s : ℕ). has_key s c.self.inside.list ≡ true) (sym server) there)
 
-pub returns-in_err-message : goal.returns-in_err-message
-returns-in_err-message g c =
+pub returns-in_err-message-clause-done : goal.returns-in_err-message-clause-done
+returns-in_err-message-clause-done g c =
     let past : Past = past_of (g.J.ChannelJournal.told c.self.inside.journal) in
     let setting : Setting = setting_of c.self.inside in
     let rows : List (Row g.row.T.Denot) = c.self.inside.rows in
@@ -108,8 +109,8 @@ returns-in_err-message g c =
     (some_wait g.T.Token.plan setting past rows tickets c.self.invariant.stands (leg_of c.in-Some.idle.number c.in-Some.idle.leg_number) found.firsts)
     (some_free g.T.Token.plan setting past rows tickets c.self.invariant.stands c.args.word c.in-Some-free_id.id free)))
 
-pub returns-in_err-make_room : goal.returns-in_err-make_room
-returns-in_err-make_room g c =
+pub returns-in_err-make_room-clause-done : goal.returns-in_err-make_room-clause-done
+returns-in_err-make_room-clause-done g c =
     let past : Past = past_of (g.J.ChannelJournal.told c.self.inside.journal) in
     let setting : Setting = setting_of c.self.inside in
     let rows : List (Row g.row.T.Denot) = c.self.inside.rows in
@@ -182,8 +183,8 @@ invariant_of-self-2 g c =
     _ _ room.room room.fits c.add.ensures.room (omega (arith, c.len.ensures, c.len-2.ensures, c.begin.ensures.len, ap length c.find_idle.ensures.same, few_closed c.self.inside.closed))
     (omega (arith, c.self.invariant.room_ready, c.begin.ensures.len, ap length c.find_idle.ensures.same))
 
-pub returns : goal.returns
-returns g c =
+pub returns-clause-done : goal.returns-clause-done
+returns-clause-done g c =
     let past : Past = past_of (g.J.ChannelJournal.told c.self.inside.journal) in
     let setting : Setting = setting_of c.self.inside in
     let rows : List (Row g.row.T.Denot) = c.self.inside.rows in
@@ -234,8 +235,8 @@ pub invariant_of-self-in_err-begin : goal.invariant_of-self-in_err-begin
 invariant_of-self-in_err-begin g c =
     kept_grown g.T.Token.plan g.J.ChannelJournal.told g.J.ChannelJournal.room c.self.inside _ (rw (c.in_err-begin.ensures.err, c.find_idle.ensures.same) refl) c.make_room.ensures.told c.make_room.ensures.kept c.self.invariant
 
-pub returns-in_err-begin : goal.returns-in_err-begin
-returns-in_err-begin g c =
+pub returns-in_err-begin-clause-done : goal.returns-in_err-begin-clause-done
+returns-in_err-begin-clause-done g c =
     let past : Past = past_of (g.J.ChannelJournal.told c.self.inside.journal) in
     let setting : Setting = setting_of c.self.inside in
     let rows : List (Row g.row.T.Denot) = c.self.inside.rows in
@@ -246,3 +247,23 @@ returns-in_err-begin g c =
     (starts_failed c.args.word c.args.mix c.args.at c.from_residual-in_err-begin.result setting past c.from_residual-in_err-begin.ensures.0
     (some_wait g.T.Token.plan setting past rows tickets c.self.invariant.stands (leg_of c.in-Some.idle.number c.in-Some.idle.leg_number) found.firsts)
     (some_free g.T.Token.plan setting past rows tickets c.self.invariant.stands c.args.word c.in-Some-free_id.id free)))
+
+pub returns-in_default-clause-tokens : goal.returns-in_default-clause-tokens
+returns-in_default-clause-tokens g c = rw (← c.self.view_is, c.find_idle.ensures.same) refl
+
+pub returns-in_default-free_id-clause-tokens : goal.returns-in_default-free_id-clause-tokens
+returns-in_default-free_id-clause-tokens g c = rw (← c.self.view_is, c.find_idle.ensures.same) refl
+
+pub returns-in_err-message-clause-tokens : goal.returns-in_err-message-clause-tokens
+returns-in_err-message-clause-tokens g c = rw (← c.self.view_is, c.find_idle.ensures.same) refl
+
+pub returns-in_err-make_room-clause-tokens : goal.returns-in_err-make_room-clause-tokens
+returns-in_err-make_room-clause-tokens g c = rw (← c.self.view_is, c.find_idle.ensures.same) refl
+
+pub returns-in_err-begin-clause-tokens : goal.returns-in_err-begin-clause-tokens
+returns-in_err-begin-clause-tokens g c = rw (← c.self.view_is, c.in_err-begin.ensures.err, c.find_idle.ensures.same) refl
+
+pub returns-clause-tokens : goal.returns-clause-tokens
+returns-clause-tokens g c =
+    let begins = rw c.find_idle.ensures.same at c.in_ok-begin.ensures.begins in
+    rw (← c.self.view_is) (tokens_begun _ _ _ c.self.inside.rows c.begin.new.self c.self.inside.ready.items begins)

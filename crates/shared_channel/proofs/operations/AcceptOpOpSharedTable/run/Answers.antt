@@ -3,4 +3,4 @@ use Rattle.shared_channel.proofs.operations.AcceptOpOpSharedTable.run.Goals as g
 
 pub returns-clause-adds : goal.returns-clause-adds
 returns-clause-adds g c =
-    adds_from c.args.seat c.args.self.by c.args.state.now.table.value c.deref_mut.result.now c.accept.new.self c.accept.ensures.added c.deref_mut.ensures.value c.accept.ensures.journal
+    adds_from c.args.seat c.args.self.by c.args.state.now.table.value c.deref_mut.result.now c.accept.new.self c.accept.ensures.done.added c.deref_mut.ensures.value c.accept.ensures.done.journal

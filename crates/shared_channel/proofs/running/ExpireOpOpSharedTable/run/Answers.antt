@@ -2,4 +2,4 @@ use Rattle.shared_channel.proofs.Adding.{adds_from}
 use Rattle.shared_channel.proofs.running.ExpireOpOpSharedTable.run.Goals as goal
 
 pub returns-clause-adds : goal.returns-clause-adds
-returns-clause-adds g c = adds_from c.args.seat 0 c.args.state.now.table.value c.deref_mut.result.now c.expire.new.self c.expire.ensures.added c.deref_mut.ensures.value c.expire.ensures.journal
+returns-clause-adds g c = adds_from c.args.seat 0 c.args.state.now.table.value c.deref_mut.result.now c.expire.new.self c.expire.ensures.done.added c.deref_mut.ensures.value c.expire.ensures.done.journal
