@@ -68,51 +68,9 @@ def case(name, wrong, right=None):
     CASES.append((name, wrong, right))
 
 
-case("the wait before the last turn of a stalled run is missing: that turn stands behind the Destroy",
-     run(SILENT, SERVES + TURN + IDLE, STALLED, 2),
-     run(SILENT, SERVES + TURN + [WAIT] + IDLE + [WAIT], STALLED, 2))
-
-case("the same in a run that wanted memory",
-     run(SILENT, SERVES + TURN + IDLE[:2], NO_MEMORY, 9),
-     run(SILENT, SERVES + TURN + [WAIT] + IDLE[:2], NO_MEMORY, 9))
-
-case("a run that wanted memory goes on to receive behind a message that it didn't note",
-     run(entries(ACCEPT, END, TAKE), SERVES + [Now(0), Receive(Datagram(0, b"")), Receive(Nothing())], NO_MEMORY, 9),
-     run(entries(ACCEPT, END, TAKE), SERVES + [Now(0), Receive(Datagram(0, b""))], NO_MEMORY, 9))
-
-case("a run that wanted memory draws a word behind the failure of a datagram that it didn't note",
-     run(SILENT, SERVES + TURN[:3] + [Send(0, query(7), False), Word(8)], NO_MEMORY, 9),
-     run(SILENT, SERVES + TURN[:3] + [Send(0, query(7), False)], NO_MEMORY, 9))
-
 case("a request is accepted though the servers weren't all told",
      run(entries(ACCEPT, END, TAKE), [], NO_MEMORY, 9),
      run(entries(END), [], NO_MEMORY, 9))
-
-GONE = Servers(Channel(PLAIN).keys_for([OTHER]))
-case("a wait without end, though a leg waits where it is made: its reason and its moment are taken at two positions",
-     run(entries(ACCEPT, START, GONE, END, TAKE), SERVES + TURN + [Wait(LONG, True)], STALLED, 1, later=[OTHER]),
-     run(entries(ACCEPT, START, GONE, END, TAKE), SERVES + TURN, STALLED, 1, later=[OTHER]))
-
-CANCELS = Script(0, (Step(ALWAYS, NOTHING, CancelAct()),))
-REPLY = b"\0\7\x81\x80\0\1\0\0\0\0\0\0" + query(7)[12:]
-PAIR = ((ASK, CANCELS), (ASK, BLANK))
-ANSWERED = entries(
-    Accept(1, ASK, CANCELS), Accept(2, ASK, BLANK), START, Start(2, 0, 0, 0, 9, None, 0), Arrive(0, 0, REPLY), TAKE,
-    Cancel(), Take(2), END, by=[(6, 1)])
-ASKED = [Now(0), Receive(Nothing()), Word(7), Send(0, query(7), True), Word(9), Send(0, query(9, number=2), True),
-         Word(8), Wait(2000, True), Now(5), Receive(Datagram(0, REPLY)), Receive(Nothing()), Word(8)]
-case("a run whose requests are over makes another turn and waits without end: between a Take and its callback's "
-     "Cancel",
-     run(ANSWERED, SERVES + ASKED + IDLE + [Wait(LONG, True)], COMPLETED, 9, askings=PAIR),
-     run(ANSWERED, SERVES + ASKED, COMPLETED, 9, askings=PAIR))
-
-ONION = Query(b"x.onion.", 1, 1)
-BOTH = ((ASK, BLANK), (ONION, BLANK))
-case("a ready request is taken before all that is asked is accepted",
-     run(entries(Accept(1, ONION, BLANK), Take(1), Accept(2, ASK, BLANK), END, Take(2)), SERVES, STALLED, 0,
-         askings=BOTH[::-1]),
-     run(entries(Accept(1, ONION, BLANK), Accept(2, ASK, BLANK), Take(1), END, Take(2)), SERVES, STALLED, 0,
-         askings=BOTH[::-1]))
 
 FIRST, SECOND = Send(0, query(7), True), Send(0, query(9, number=2), True)
 TWO = [Now(0), Receive(Nothing()), Word(7), Word(9), FIRST, SECOND, Word(8)]
@@ -131,6 +89,48 @@ case("a write of nothing, and of a byte that nobody asked to send, where nothing
      run(ON_LINK, SERVES + OVER + [WAIT], STALLED, 1, setting=TCP))
 
 # What the definitions refuse since they were made tighter.
+
+ONION = Query(b"x.onion.", 1, 1)
+BOTH = ((ASK, BLANK), (ONION, BLANK))
+case("a ready request is taken before all that is asked is accepted",
+     run(entries(Accept(1, ONION, BLANK), Take(1), Accept(2, ASK, BLANK), END, Take(2)), SERVES, STALLED, 0,
+         askings=BOTH[::-1]),
+     run(entries(Accept(1, ONION, BLANK), Accept(2, ASK, BLANK), Take(1), END, Take(2)), SERVES, STALLED, 0,
+         askings=BOTH[::-1]))
+
+case("the wait before the last turn of a stalled run is missing: that turn stands behind the Destroy",
+     run(SILENT, SERVES + TURN + IDLE, STALLED, 2),
+     run(SILENT, SERVES + TURN + [WAIT] + IDLE + [WAIT], STALLED, 2))
+
+case("the same in a run that wanted memory",
+     run(SILENT, SERVES + TURN + IDLE[:2], NO_MEMORY, 9),
+     run(SILENT, SERVES + TURN + [WAIT] + IDLE[:2], NO_MEMORY, 9))
+
+case("a run that wanted memory goes on to receive behind a message that it didn't note",
+     run(entries(ACCEPT, END, TAKE), SERVES + [Now(0), Receive(Datagram(0, b"")), Receive(Nothing())], NO_MEMORY, 9),
+     run(entries(ACCEPT, END, TAKE), SERVES + [Now(0), Receive(Datagram(0, b""))], NO_MEMORY, 9))
+
+case("a run that wanted memory draws a word behind the failure of a datagram that it didn't note",
+     run(SILENT, SERVES + TURN[:3] + [Send(0, query(7), False), Word(8)], NO_MEMORY, 9),
+     run(SILENT, SERVES + TURN[:3] + [Send(0, query(7), False)], NO_MEMORY, 9))
+
+GONE = Servers(Channel(PLAIN).keys_for([OTHER]))
+case("a wait without end, though a leg waits where it is made: its reason and its moment are taken at two positions",
+     run(entries(ACCEPT, START, GONE, END, TAKE), SERVES + TURN + [Wait(LONG, True)], STALLED, 1, later=[OTHER]),
+     run(entries(ACCEPT, START, GONE, END, TAKE), SERVES + TURN, STALLED, 1, later=[OTHER]))
+
+CANCELS = Script(0, (Step(ALWAYS, NOTHING, CancelAct()),))
+REPLY = b"\0\7\x81\x80\0\1\0\0\0\0\0\0" + query(7)[12:]
+PAIR = ((ASK, CANCELS), (ASK, BLANK))
+ANSWERED = entries(
+    Accept(1, ASK, CANCELS), Accept(2, ASK, BLANK), START, Start(2, 0, 0, 0, 9, None, 0), Arrive(0, 0, REPLY), TAKE,
+    Cancel(), Take(2), END, by=[(6, 1)])
+ASKED = [Now(0), Receive(Nothing()), Word(7), Send(0, query(7), True), Word(9), Send(0, query(9, number=2), True),
+         Word(8), Wait(2000, True), Now(5), Receive(Datagram(0, REPLY)), Receive(Nothing()), Word(8)]
+case("a run whose requests are over makes another turn and waits without end: between a Take and its callback's "
+     "Cancel",
+     run(ANSWERED, SERVES + ASKED + IDLE + [Wait(LONG, True)], COMPLETED, 9, askings=PAIR),
+     run(ANSWERED, SERVES + ASKED, COMPLETED, 9, askings=PAIR))
 
 case("a run that wanted memory makes its first turn before anything is asked",
      run(entries(Arrive(0, 0, b""), ACCEPT, END, TAKE), SERVES + [Now(0), Receive(Datagram(0, b""))], NO_MEMORY, 9),

@@ -26,10 +26,6 @@ from written.progress import Progress
 from written.promise import Promise
 
 
-# What the rules refuse and the definitions let through, as cases.py shows.
-KNOWN = {"calls behind what wasn't noted"}
-
-
 class Differs(Exception):
     """A case is told otherwise by the models, and that was all that was asked."""
 
@@ -44,9 +40,7 @@ class Tally:
     def note(self, seed, kind, by_rules, as_written):
         """One case: what refuses it by the rules, and as it is written. Both lists are empty where it is lawful."""
         self.counts["lawful" if kind == "lawful" else "spoiled"] += 1
-        if by_rules and not as_written and set(by_rules) <= KNOWN:
-            self.counts["known, refused by the rules alone"] += 1
-        elif bool(by_rules) != bool(as_written):
+        if bool(by_rules) != bool(as_written):
             self.differ.append((seed, kind, by_rules, as_written))
         elif by_rules:
             self.counts["refused by both"] += 1

@@ -70,8 +70,8 @@ def loop(desk, network, askings, later, limit, slice_=LONGEST):
         runner = Runner(desk, network)
         for spec, script in askings:
             desk.accept(spec, script)
+        desk.deliver()
         while True:
-            desk.deliver()
             if not desk.look(lambda channel: channel.pending()):
                 return COMPLETED, turns
             if turns == limit:

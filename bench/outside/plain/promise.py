@@ -1,5 +1,5 @@
 """What a run of a tool promises, by the rules: the names of the rules that are broken."""
-from values import Accept, Cancel, Destroy, Nothing, Receive, Servers, Wait, Word
+from values import Accept, Cancel, Destroy, Servers, Wait
 from . import commands, traffic, turns
 from .channel import Channel, after, first_unlawful
 
@@ -25,6 +25,9 @@ def requests_broken(run, is_adig):
                if entry.by == 0 and isinstance(entry.what, Accept)]
     if askings != run.askings and (run.end != NO_MEMORY or askings != run.askings[:len(askings)]):
         found.append("asked")
+    asked_by_nobody = [entry.by == 0 and isinstance(entry.what, Accept) for entry in run.journal]
+    if any(later and not earlier for earlier, later in zip(asked_by_nobody, asked_by_nobody[1:])):
+        found.append("asked before all else")
     if any(entry.seat for entry in run.journal):
         found.append("one seat")
     if is_adig and any(entry.by for entry in run.journal):
@@ -106,34 +109,20 @@ def servers_broken(run, replay):
 
 
 def cut_broken(run):
-    """Of a run that wanted memory. What refuses it but for its first turn, or its last calls, is told apart."""
-    replay, why = cut_replay(run, run.log)
+    """Of a run that wanted memory. That its first turn alone refuses it is told apart."""
+    replay, why = cut_replay(run)
     if replay is None:
-        shorter = run.log[:-1]
-        while shorter and tells_nothing(run.log[len(shorter)]):
-            if cut_replay(run, shorter)[0] and not notes_all(run):
-                return ["calls behind what wasn't noted"]
-            shorter = shorter[:-1]
         return [f"turns: {why}"]
     found = []
     waits = [call.woken for call in run.log if isinstance(call, Wait)]
     if not all(waits[:-1]) or waits and not waits[-1] and not isinstance(run.log[-1], Wait):
         found.append("a failed wait")
-    if cut_replay(run, run.log, begins=True)[0] is None:
+    if cut_replay(run, begins=True)[0] is None:
         found.append("a first turn where nothing is asked")
     return found + ["the number of turns"] * (replay.turns > run.limit) + servers_broken(run, replay)
 
 
-def cut_replay(run, log, begins=False):
-    ways = run.setting, run.journal, 0, log, LONGEST, begins
+def cut_replay(run, begins=False):
+    ways = run.setting, run.journal, 0, run.log, LONGEST, begins
     whole, why = turns.course(*ways)
     return (whole, None) if whole else turns.cut_course(*ways)
-
-
-def notes_all(run):
-    """The journal notes each message and fault that the log tells."""
-    return not {"messages", "faults"} & set(traffic.agrees(run.setting, run.journal, 0, run.log))
-
-
-def tells_nothing(call):
-    return isinstance(call, Word) or call == Receive(Nothing())

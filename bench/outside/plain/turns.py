@@ -2,9 +2,9 @@
 
 The replay goes through the log call by call, and through the seat's own turn entries one by one, in the order in
 which a turn makes them. Entries of other seats may stand anywhere between, the seat's own Accepts, Takes and
-commands only between turns. A look takes the first position at which it may have seen what it saw. Not said by the
-rules, and so left open here too: where between the queries of its Starts a turn draws their words, and where in a
-part it closes the links that it lost there.
+commands only right behind a turn: not from where it found nothing ready up to the next one's end. A look takes the
+first position at which it may have seen what it saw. Not said by the rules, and so left open here too: where between
+the queries of its Starts a turn draws their words, and where in a part it closes the links that it lost there.
 """
 from dataclasses import dataclass
 
@@ -65,7 +65,7 @@ class Replay:
         self.at, self.used, self.low, self.queue, self.lost = 0, 0, 0, [], set()
         self.held, self.unread, self.unwritten = {}, {}, {}
         self.known = set(range(len(setting.options.servers)))
-        self.turns, self.ends = 0, []
+        self.turns, self.reading, self.ends = 0, 0, []
         self.is_whole = False  # the last turn was made whole
         self.channel_at = {}
 
@@ -124,50 +124,52 @@ class Replay:
             if self.call(Serve) != Serve(key, address):
                 raise Broken("a server is told otherwise")
         while self.peek() is not None:
-            if self.turns:
-                self.between()
-            self.turn()
+            self.go_on()
             self.is_whole = True
         if self.used != len(self.own):
             raise Broken("turn entries behind the last turn")
 
-    def between(self):
-        """What stands between two turns, and the wait, if there is one; or the wait behind the last turn."""
-        begin, places = self.low, [self.low]
-        last = self.log[self.at:] and all(isinstance(call, Wait) for call in self.log[self.at:])
-        if isinstance(self.peek(), Wait):
-            wait = self.call(Wait)
-            latest = min(self.reading + self.slice, MOST_MOMENT)
-            places.append(self.see(lambda view: not view.skips, "a position that calls for a wait"))
-            places.append(self.see(lambda view: wait.until == min(latest, latest if view.first_due is None
-                                                                  else view.first_due), "the wait's moment"))
-        elif not last:
-            places.append(self.see(lambda view: view.skips, "a position that skips the wait"))
-        if self.peek() is not None:
-            places.append(self.see(lambda view: not view.ready, "nothing ready"))
-            places.append(self.see(lambda view: view.pending, "something pending"))
-        self.ends.append((begin, self.top()))
-        self.low = max(places)
-
-    def turn(self):
-        """A turn, in the first stretch of the journal, between what else its seat did, in which it can be."""
-        if self.peek() is None:
-            return
-        self.reading = self.call(Now).reading
-        self.turns, self.is_whole = self.turns + 1, False
+    def go_on(self):
+        """A wait, if there is one, and a turn, if one follows: in the first stretch of the journal, between what else
+        its seat did, in which both can be."""
+        rests, reading, wait = self.turns > 0, self.reading, None
+        if rests:
+            self.ends.append((self.low, self.top()))
+            wait = self.call(Wait) if isinstance(self.peek(), Wait) else None
+        goes = self.peek() is not None
+        if goes:
+            self.reading = self.call(Now).reading
+            self.turns, self.is_whole = self.turns + 1, False
         ends = [at for at in self.work if at >= self.low] + [len(self.journal)]
         kept, furthest = self.kept(), (-1, None)
         for begin, end in zip([self.low] + [at + 1 for at in ends], ends):
             self.restore(kept)
             self.low, self.end = begin, end
             try:
-                self.parts()
+                if rests:
+                    self.rest(reading, wait, goes)
+                if goes:
+                    self.parts()
                 break
             except Broken as broken:
                 furthest = max(furthest, (self.at, str(broken)), key=lambda pair: pair[0])
         else:
             raise Broken(furthest[1])
         self.end = len(self.journal)
+
+    def rest(self, reading, wait, goes):
+        """The looks between two turns, one behind the other; behind the last turn those of its wait alone."""
+        if goes:
+            self.look(lambda view: not view.ready, "nothing ready")
+        if wait:
+            latest = min(reading + self.slice, MOST_MOMENT)
+            self.look(lambda view: not view.skips, "a position that calls for a wait")
+            self.look(lambda view: wait.until == min(latest, latest if view.first_due is None else view.first_due),
+                      "the wait's moment")
+        elif goes:
+            self.look(lambda view: view.skips, "a position that skips the wait")
+        if goes:
+            self.look(lambda view: view.pending, "something pending")
 
     def kept(self):
         return (self.at, self.used, dict(self.held), dict(self.unread), dict(self.unwritten), set(self.known))
@@ -318,19 +320,25 @@ class Replay:
             if (call.server, call.bytes) != (what.server, query):
                 raise Broken("another datagram")
             if not call.sent:
-                self.entry(Fault(what.server, 0, self.reading))
+                self.fails(call, what)
             return
         if is_new:
             call = self.asks(Connect)
             if (call.server, call.link) != (what.server, what.link):
                 raise Broken("another link")
             if not call.sent:
-                self.entry(Fault(what.server, what.link, self.reading))
+                self.fails(call, what)
                 return
             self.held[what.link], self.unread[what.link], self.unwritten[what.link] = what.server, b"", b""
         if what.link not in self.held:
             raise Broken("a Start over a link that isn't held")
         self.unwritten[what.link] += bytes([len(query) // 256, len(query) % 256]) + query
+
+    def fails(self, call, what):
+        """The query couldn't be asked, which is noted; or its call is the last of all."""
+        if self.used == len(self.own) and call is not self.log[-1]:
+            raise Broken("calls behind what wasn't noted")
+        self.entry(Fault(what.server, what.link, self.reading))
 
     def links_before(self, place):
         return {entry.what.link for entry in self.journal[:place] if isinstance(entry.what, Start)}

@@ -33,15 +33,36 @@ class Course:
         latest, due = min(reading + self.slice, 2 ** 64 - 1), self.model.first_due(past)
         return latest if due is None else min(due[0], latest)
 
-    def is_timely(self, reading, rest, i, k):
-        return rest is None or (
-            self.turns.somewhere(lambda past: not self.skips(past), i, k)
-            and self.turns.somewhere(lambda past: rest.until == self.wakes_at(reading, past), i, k))
+    def soon(self, test, i, k):
+        """The test holds at the position i, or at a later one up to k, before the seat's next entry."""
+        while not test(i):
+            if i == k or self.journal[i].seat == self.seat:
+                return False
+            i += 1
+        return True
 
-    def goes_on(self, rest, i, k):
-        return (self.turns.somewhere(lambda past: len(self.model.ready(past)) == 0, i, k)
-                and self.turns.somewhere(lambda past: len(self.model.pending(past)) != 0, i, k)
-                and (rest is not None or self.turns.somewhere(self.skips, i, k)))
+    def waits_there(self, reading, until, test, i, k):
+        return not self.skips(self.pasts[i]) and self.soon(
+            lambda at: until == self.wakes_at(reading, self.pasts[at]) and test(at), i, k)
+
+    def rests_there(self, reading, rest, test, i, k):
+        def soon_test(at):
+            return self.soon(test, at, k)
+        if rest is None:
+            return self.skips(self.pasts[i]) and soon_test(i)
+        return self.waits_there(reading, rest.until, soon_test, i, k)
+
+    def is_timely(self, reading, rest, i, k):
+        return rest is None or any(self.waits_there(reading, rest.until, lambda at: True, here, k)
+                                   for here in range(i, k + 1))
+
+    def goes_on(self, reading, rest, i, k):
+        def wanted(at):
+            return (len(self.model.pending(self.pasts[at])) != 0
+                    and all(entry.seat != self.seat for entry in self.journal[at:k]))
+        return any(len(self.model.ready(self.pasts[here])) == 0
+                   and self.soon(lambda at: self.rests_there(reading, rest, wanted, at, k), here, k)
+                   for here in range(i, k + 1))
 
     def firsts(self):
         """The standings at which the first turn may begin, with the turns made: none."""
@@ -57,10 +78,10 @@ class Course:
                 if not has_no_turn(self.journal[k:m]):
                     break
                 if self.is_timely(reading, None, k, m):
-                    yield (m, l), self.goes_on(None, k, m)
+                    yield (m, l), self.goes_on(reading, None, k, m)
                 if l < len(self.log) and isinstance(self.log[l], Wait):
                     if self.is_timely(reading, self.log[l], k, m):
-                        yield (m, l + 1), self.goes_on(self.log[l], k, m)
+                        yield (m, l + 1), self.goes_on(reading, self.log[l], k, m)
 
     def reached(self, starts):
         """The standings behind so many whole turns, each with whether the run goes on there: a list by turns."""

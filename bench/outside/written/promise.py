@@ -1,6 +1,6 @@
 """What a run of ahost promises: ahost_tool/specs/Promise.antt and Session.antt; of adig: adig_tool/specs/Promise.antt
 and Answered.antt. Each clause that doesn't hold is named by its field."""
-from values import Address, Cancel, Connect, Datagram, Destroy, Entry, Orders, Receive, Search, Send, Servers
+from values import Accept, Address, Cancel, Connect, Datagram, Destroy, Entry, Orders, Receive, Search, Send, Servers
 from . import edns, message, names, requests
 from .commands import Commands, accepted_for, closing_position
 from .course import Course
@@ -23,6 +23,10 @@ def is_ruled(entry):
 
 
 # ---- adig_tool/specs/Entries.antt
+
+def is_asking(entry):
+    return entry.seat == 0 and entry.by == 0 and isinstance(entry.what, Accept)
+
 
 def is_own(entry):
     return entry.seat == 0 and entry.by == 0 and not isinstance(entry.what, (Cancel, Servers))
@@ -94,6 +98,11 @@ class Promise:
                 "none_failed": run.end == WAIT_FAULT or course.no_wait_failed()}
         return found + [name for name, holds in checks.items() if not holds]
 
+    def asks_first(self):
+        return any(
+            all(map(is_asking, self.journal[:at])) and not accepted_for(0, self.journal[at:])
+            for at in range(len(self.journal) + 1))
+
     def broken(self):
         run, model = self.run, self.model
         if model.first_unlawful(self.journal) is not None:
@@ -107,6 +116,7 @@ class Promise:
             "ruled": all(map(is_ruled, self.journal)),
             "asked_all": self.memory_wanting or askings == run.askings,
             "asked_at_most": askings == run.askings[:len(askings)],
+            "asked_first": self.asks_first(),
             "obeyed": bool(lost), "none_lost": self.memory_wanting or 0 in lost,
             "called_once": all(numbers.count(n) == accepted.count(n) for n in set(numbers) | set(accepted)),
             "called_with_fates": all(model.fate(answer.number, self.past) == answer for answer in run.calls),

@@ -240,12 +240,8 @@ class Traffic:
     # ---- CutShort.antt
 
     def stops_short(self, name, notes, j, l):
-        for at in range(j, l):
-            until, whole = self.told(name, j, at), self.told(name, j, l)
-            if (not self.told(name, at + 1, l) and notes[:len(until)] == until
-                    and whole[:len(notes)] == notes):
-                return True
-        return False
+        until, whole = self.told(name, j, max(j, l - 1)), self.told(name, j, l)
+        return j < l and notes[:len(until)] == until and whole[:len(notes)] == notes
 
     def falls_short(self, name, notes, j, l):
         return notes == self.told(name, j, l) or self.stops_short(name, notes, j, l)

@@ -1,6 +1,6 @@
 -- Turns of a session with what stands between them, one behind the other, and how they come to their end.
-use Rattle.std.proofs.Common.{◌≡◌, ◌≢◌, ◌∙◌, ℕ, ◌+◌, ◌-◌, ◌≤◌, List, [], ◌∷◌, ◌++◌, Bool, true, length, refl, ap, sym, subst, arith}
-use Rattle.std.specs.Prelude.{Err, Ok, Option, Result, is_err, min, ◌^◌}
+use Rattle.std.proofs.Common.{◌≡◌, ◌≢◌, ◌∙◌, ℕ, ◌+◌, ◌-◌, ◌≤◌, List, [], ◌∷◌, ◌++◌, Bool, true, length, refl, ap, sym, subst, inl, inr, ⊎_elim, arith}
+use Rattle.std.specs.Prelude.{Err, Ok, Option, Result, is_err, min, ◌^◌, ◌⊎◌}
 use Rattle.std.proofs.lemmas.List.{append-nil, append_assoc}
 use Rattle.item_list.specs.declared.no_memory.NoMemory.{NoMemory}
 use Rattle.net_world.specs.declared.answers.Waited.TheVariants.{Failed as NotWaited}
@@ -73,8 +73,8 @@ made_none a calls r l = record { answers = []; works = works_none a; calls_are =
 
 module _ (turns : ℕ) (a : Owned) (ca : List Answer) (before : Running) (l : Option (List WorldCall)) where
   -- what was ready was called
-  pub made_then : (reach : Reach) (b c : Owned) (cb cc_ : List Answer) (r : Running) (m : Option (List WorldCall)) → Made reach turns a b ca cb before r l m → Delivers b c cb cc_ → Made reach turns a c ca cc_ before r l m
-  made_then reach b c cb cc_ r m x d =
+  pub made_then : (reach : Reach) (b c : Owned) (cb cc_ : List Answer) (r : Running) (m : Option (List WorldCall)) → (turns ≡ 0) ⊎ (reach ≡ turned) → Made reach turns a b ca cb before r l m → Delivers b c cb cc_ → Made reach turns a c ca cc_ before r l m
+  made_then reach b c cb cc_ r m may x d =
       let goes = works_go_on [] d.answers b c d.works in
       let quiet : has_no_turn goes.since ≡ true = ap has_no_turn d.takes_only ∙ takes_no_turn d.answers in
       record {
@@ -82,7 +82,8 @@ module _ (turns : ℕ) (a : Owned) (ca : List Answer) (before : Running) (l : Op
         works = works_trans [] [] x.answers d.answers a b c x.works d.works;
         calls_are = d.calls_are ∙ ap (λ q. q ++ d.answers) x.calls_are ∙ append_assoc ca x.answers d.answers;
         told = λ log since.
-            runs_behind longest_slice turns 0 log m reach (known_by_owner b) (known_by_owner c) r goes (ap has_no_turn (works_own [] d.answers b c d.works) ∙ quiet) (x.told log since);
+            runs_behind longest_slice turns 0 log m reach (known_by_owner b) (known_by_owner c) r goes (ap has_no_turn (works_own [] d.answers b c d.works) ∙ quiet)
+            (⊎_elim (λ none. inl none) (λ just. inr (inl just)) may) (x.told log since);
         well = λ log since. well_behind turns b log m (x.well log since) c d.works.entries d.works.setting d.works.seen;
       }
 

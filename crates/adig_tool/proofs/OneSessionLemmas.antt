@@ -1,5 +1,5 @@
 -- A whole session: it begins, its request is accepted, and turns are made.
-use Rattle.std.proofs.Common.{◌≡◌, ◌∙◌, ℕ, ◌==◌, ◌&&◌, ◌||◌, Bool, true, false, List, [], ◌∷◌, ◌++◌, map, not, refl, ap, sym, subst, arith}
+use Rattle.std.proofs.Common.{◌≡◌, ◌∙◌, ℕ, ◌==◌, ◌&&◌, ◌||◌, Bool, true, false, List, [], ◌∷◌, ◌++◌, map, not, refl, ap, sym, subst, inl, arith}
 use Rattle.std.specs.Prelude.{Err, Ok, Option, Result, Some, is_err, option_map}
 use Rattle.std.specs.List.{AllByRecursion, list_all}
 use Rattle.std.proofs.lemmas.Bool.{and_from, and_parts}
@@ -106,7 +106,7 @@ module _ (spec : Spec) (turns : ℕ) (a : Owned) (empty : a.seen ≡ []) (calls 
   session_asked result b c calls_new running n asked since made =
       let w = asked.0 in
       let goes = works_go_on (first_request spec ∷ []) [] a b w in
-      let behind = runs_behind longest_slice 0 0 l m rested (known_by_owner a) (known_by_owner b) running goes (ap has_no_turn (works_own (first_request spec ∷ []) [] a b w) ∙ asked.1) since in
+      let behind = runs_behind longest_slice 0 0 l m rested (known_by_owner a) (known_by_owner b) running goes (ap has_no_turn (works_own (first_request spec ∷ []) [] a b w) ∙ asked.1) (inl refl) since in
       session_of spec turns result (first_request spec ∷ []) made.answers calls_new a c l n empty
       (works_trans (first_request spec ∷ []) [] [] made.answers a b c w made.works) (made.calls_are ∙ ap (λ q. q ++ made.answers) uncalled) (has_accepted result) made.left (made.told l behind)
     where

@@ -35,10 +35,10 @@ accepts_none a = record {
 }
 
 -- one was
-pub accepts_one : (spec : Spec) (script : Plan) (number : ℕ) (a b : Owned) → a.voice ≡ 0 → Calls (Accepts plan_of spec (record { plan = script; boxed = true }) (Ok number)) a.voice (known_by_owner a) (known_by_owner b) →
+pub accepts_one : (spec : Spec) (script : Plan) (name number : ℕ) (a b : Owned) → a.voice ≡ 0 → Calls (Accepts plan_of spec (record { plan = script; boxed = true; name = name }) (Ok number)) a.voice (known_by_owner a) (known_by_owner b) →
     (done : Unit {0}) → AcceptsAll (askings (spec ∷ []) (script ∷ [])) (Ok done) a b
-accepts_one spec script number a b nobody call done =
-    let h = owner_called (Accepts plan_of spec (record { plan = script; boxed = true }) (Ok number)) a.voice a b call in
+accepts_one spec script name number a b nobody call done =
+    let h = owner_called (Accepts plan_of spec (record { plan = script; boxed = true; name = name }) (Ok number)) a.voice a b call in
     record {
       since = record { seat = 0; by = 0; what = Accept number spec script } ∷ [];
       seen = h.journal ∙ ap (λ o. a.seen ++ entries_of 0 a.voice o) h.meant.0 ∙ ap (λ v. a.seen ++ record { seat = 0; by = v; what = Accept number spec script } ∷ []) nobody;
@@ -50,10 +50,10 @@ accepts_one spec script number a b nobody call done =
     }
 
 -- one was refused
-pub refuses_one : (spec : Spec) (script : Plan) (refused : Refused CallbackState) (a b : Owned) → Calls (Accepts plan_of spec (record { plan = script; boxed = true }) (Err refused)) a.voice (known_by_owner a) (known_by_owner b) →
+pub refuses_one : {name : ℕ} (spec : Spec) (script : Plan) (refused : Refused CallbackState) (a b : Owned) → Calls (Accepts plan_of spec (record { plan = script; boxed = true; name = name }) (Err refused)) a.voice (known_by_owner a) (known_by_owner b) →
     (fault : NoMemory) → AcceptsAll (askings (spec ∷ []) (script ∷ [])) (Err fault) a b
-refuses_one spec script refused a b call fault =
-    let h = owner_called (Accepts plan_of spec (record { plan = script; boxed = true }) (Err refused)) a.voice a b call in
+refuses_one {name} spec script refused a b call fault =
+    let h = owner_called (Accepts plan_of spec (record { plan = script; boxed = true; name = name }) (Err refused)) a.voice a b call in
     let seen : b.seen ≡ a.seen ++ [] = h.journal ∙ ap (λ o. a.seen ++ entries_of 0 a.voice o) h.meant.0 in
     record {
       since = [];

@@ -1,15 +1,13 @@
 -- Turns of a session with what stands between them, one behind the other, and how they come to their end.
-use Rattle.std.proofs.Common.{◌≡◌, ◌≢◌, ◌∙◌, ℕ, ◌+◌, ◌-◌, ◌≤◌, List, [], ◌∷◌, ◌++◌, Bool, true, false, length, refl, ap, sym, subst, arith}
-use Rattle.std.specs.Prelude.{Err, Ok, None, Option, Some, Result, is_err, min, ◌^◌, ⊤}
+use Rattle.std.proofs.Common.{◌≡◌, ◌≢◌, ◌∙◌, ℕ, ◌+◌, ◌-◌, ◌≤◌, List, [], ◌∷◌, ◌++◌, Bool, true, false, length, refl, ap, sym, subst, inl, inr, ⊎_elim, arith}
+use Rattle.std.specs.Prelude.{Err, Ok, None, Option, Some, Result, is_err, min, ◌^◌, ◌⊎◌, ⊤}
 use Rattle.std.proofs.lemmas.Bool.{and_from}
-use Rattle.std.proofs.lemmas.List.{append-nil}
 use Rattle.std.proofs.lemmas.List.Folds.{list_all-append}
 use Rattle.std.specs.List.{list_all}
 use Rattle.item_list.specs.declared.no_memory.NoMemory.{NoMemory}
 use Rattle.net_addr.specs.declared.addr.ServerAddr.{ServerAddr}
 use Rattle.net_world.specs.declared.answers.Waited.TheVariants.{Failed as NotWaited}
 use Rattle.net_world.specs.declared.log.WorldCall.{WorldCall}
-use Rattle.channel_model.specs.Commands.{accepted_for}
 use Rattle.channel_model.proofs.Theorems.{so_far_reads}
 use Rattle.channel_model.specs.Completion.{pending, ready}
 use Rattle.channel_model.specs.Course.{IsCourse, has_no_turn}
@@ -36,7 +34,7 @@ use Rattle.run_end.specs.declared.loop_end.LoopEnd.{LoopEnd}
 use Rattle.run_end.specs.declared.loop_end.LoopEnd.TheVariants.{Completed, Stalled, WaitFault as WaitFailed}
 use Rattle.owner_laws.proofs.Begun.{IsAsked}
 use Rattle.owner_laws.proofs.Well.{AreBegun, EndsWell, IsBegunSoFar, RunsWell, first_turned, well_begun, well_behind, well_cut, well_failed, well_paused, well_so_far, well_turned}
-use Rattle.ahost_tool.proofs.MoveLemmas.{Moves, accepted_parts, moves_go_on, moves_kept, moves_none, moves_trans, moves_turn, own_all, session_seats, turn_unset}
+use Rattle.ahost_tool.proofs.MoveLemmas.{Moves, moves_go_on, moves_kept, moves_none, moves_trans, moves_turn, own_all, session_seats, turn_unset}
 use Rattle.owner_laws.proofs.Owner.{looked_same, paused_same, waited_pending}
 use Rattle.ahost_tool.proofs.PromptLemmas.{IsPrompted, MovesBetween, none_unprompted, prompted_none, prompted_trans}
 use Rattle.ahost_tool.proofs.ThenLemmas.{Grows, SetsShort, Then, grows_none, sets_short, then_more, then_set}
@@ -96,12 +94,12 @@ made_none a r l = record {
 
 module _ {B : Type 0} (turns : ℕ) (a : Caller B) (before : Running) (l : Option (List WorldCall)) where
   -- a part without an entry of a turn
-  pub made_then : (reach : Reach) (b c : Caller B) (r : Running) (m : Option (List WorldCall)) → MovesBetween b c → Made reach turns a b before r l m → Made reach turns a c before r l m
-  made_then reach b c r m p x = record {
+  pub made_then : (reach : Reach) (b c : Caller B) (r : Running) (m : Option (List WorldCall)) → (turns ≡ 0) ⊎ (reach ≡ turned) → MovesBetween b c → Made reach turns a b before r l m → Made reach turns a c before r l m
+  made_then reach b c r m may p x = record {
     moves = moves_trans a b c x.moves p.0;
     told = λ log since.
         with_behind (IsPrompted a.alone.setting) longest_slice turns 0 log m reach (known_by_owner b.alone) (known_by_owner c.alone) r (moves_go_on b c p.0)
-        (ap has_no_turn (own_all p.0.since (session_seats p.0.since p.0.of_session)) ∙ p.1)
+        (ap has_no_turn (own_all p.0.since (session_seats p.0.since p.0.of_session)) ∙ p.1) (⊎_elim (λ none. inl none) (λ just. inr (inl just)) may)
         (λ past between is before. prompted_trans a.alone.setting past between p.0.since before
         (subst (λ s. IsPrompted s (followed_by past between) p.0.since) x.moves.setting (subst (λ q. IsPrompted b.alone.setting q p.0.since) (sym is) p.2)))
         (x.told log since);
@@ -212,7 +210,9 @@ module _ {B : Type 0} (later : Option (List ServerAddr)) (most : ℕ) (result : 
     kept = moves_kept a b moves;
     unclosed = λ was. ap (list_all is_of_session) moves.seen ∙ list_all-append is_of_session a.alone.seen moves.since
         ∙ and_from (list_all is_of_session a.alone.seen) (list_all is_of_session moves.since) was moves.of_session;
-    asked = ap (accepted_for 0) moves.seen ∙ accepted_parts 0 a.alone.seen moves.since ∙ ap (λ xs. accepted_for 0 a.alone.seen ++ xs) moves.asked_none ∙ append-nil (accepted_for 0 a.alone.seen);
+    since = moves.since;
+    seen = moves.seen;
+    asked_none = moves.asked_none;
     left = left;
     sets = sets;
     told = told;

@@ -24,7 +24,7 @@ use Rattle.channel_model.specs.Setting.{Setting}
 use Rattle.channel_model.specs.declared.answers.Refused.{Refused}
 use Rattle.channel_model.proofs.Theorems.{all_became_append, all_became_longer, position_after}
 use Rattle.channel_table.specs.Calling.{Owned, known_by_owner}
-use Rattle.completion_ticket.specs.States.{CallbackState}
+use Rattle.completion_ticket.specs.States.{CallbackState, script_alone}
 use Rattle.ahost_tool.specs.Delivering.{plan_of}
 use Rattle.channel_table.specs.Commanded.{IsOfCommand, lost_by, lost_for}
 use Rattle.ahost_tool.specs.Performing.{IsCommanded, Performs}
@@ -204,17 +204,17 @@ destroy_performed false old new count call =
 
 -- a request that is asked, by the reply: it was accepted, it was refused as closed, or it was lost
 pub ask_performed : (spec : Spec) (script : Plan) (reply : Result ℕ (Refused CallbackState)) (old new : Owned) (count count_new : ℕ)
-    → Calls (Accepts plan_of spec (record { plan = script; boxed = false }) reply) old.voice (known_by_owner old) (known_by_owner new)
+    → Calls (Accepts plan_of spec (script_alone script) reply) old.voice (known_by_owner old) (known_by_owner new)
     → count_new ≡ min (count + lost_by reply) (2 ^ 64 - 1) → Performs (Ask spec script ∷ []) old new count count_new
 ask_performed spec script (Ok number) old new count count_new call is =
-    let meaning : Meaning = Accepts plan_of spec (record { plan = script; boxed = false }) (Ok number) in
+    let meaning : Meaning = Accepts plan_of spec (script_alone script) (Ok number) in
     let meant = (owner_called meaning old.voice old new call).meant in
     left_one meaning (Ask spec script) old new count count_new (omega (arith, is)) call (Accept number spec script) meant.0 tt (number, refl) (ap not meant.1)
     (omega (arith, sum_by-cons script_size (record { seat = 0; by = old.voice; what = Accept number spec script }) [], sum_by-cons command_size (Ask spec script) []))
 ask_performed spec script (Err refused) old new count count_new call is = by_why refused.why refl is
   where
     meaning : Meaning
-    meaning = Accepts plan_of spec (record { plan = script; boxed = false }) (Err refused)
+    meaning = Accepts plan_of spec (script_alone script) (Err refused)
 
     meant : meaning old.setting (past_of old.seen) call.added
     meant = (owner_called meaning old.voice old new call).meant

@@ -33,7 +33,7 @@ use Rattle.ahost_tool.specs.Ends.{IsEndOf}
 use Rattle.ahost_tool.specs.Kinds.{has_servers, is_ruled, is_servers}
 use Rattle.ahost_tool.specs.Page.{text_at}
 use Rattle.ahost_tool.specs.Promise.{IsComplete, IsGivenTime, IsOver, IsPageEnd, IsTraffic, Promise, last_at}
-use Rattle.ahost_tool.specs.Session.{FallsIntoTurns, HasObeyed, IsSession, SetsAtMost}
+use Rattle.ahost_tool.specs.Session.{AsksFirst, FallsIntoTurns, HasObeyed, IsSession, SetsAtMost}
 use Rattle.owner_laws.specs.Sessions.{longest_slice}
 use Rattle.ahost_tool.specs.declared.caller.Caller.{Caller}
 use Rattle.run_end.specs.declared.loop_end.LoopEnd.{LoopEnd}
@@ -252,11 +252,21 @@ module _ {B : Type 0} (asked : Asked) (setting : Setting) (turns : ℕ) (result 
 
   -- ---- what was asked
 
+  none_asked : accepted_for 0 more ≡ []
+  none_asked = accepted_parts 0 e.more q.0.since ∙ ap (λ xs. xs ++ accepted_for 0 q.0.since) (ends_asked mid.alone d e) ∙ q.0.asked_none
+
   asked_is : accepted_for 0 fin.alone.seen ≡ accepted_for 0 mid.alone.seen
   asked_is =
-      ap (accepted_for 0) fin_seen ∙ accepted_parts 0 mid.alone.seen more
-      ∙ ap (λ xs. accepted_for 0 mid.alone.seen ++ xs) (accepted_parts 0 e.more q.0.since ∙ ap (λ xs. xs ++ accepted_for 0 q.0.since) (ends_asked mid.alone d e) ∙ q.0.asked_none)
-      ∙ append-nil (accepted_for 0 mid.alone.seen)
+      ap (accepted_for 0) fin_seen ∙ accepted_parts 0 mid.alone.seen more ∙ ap (λ xs. accepted_for 0 mid.alone.seen ++ xs) none_asked ∙ append-nil (accepted_for 0 mid.alone.seen)
+
+  asked_first : AsksFirst fin.alone.seen
+  asked_first = record {
+    asking = s.asked_first.asking;
+    behind = s.asked_first.behind ++ more;
+    parts = fin_seen ∙ ap (λ j. j ++ more) s.asked_first.parts ∙ append_assoc s.asked_first.asking s.asked_first.behind more;
+    asks_only = s.asked_first.asks_only;
+    none_behind = accepted_parts 0 s.asked_first.behind more ∙ ap (λ xs. xs ++ accepted_for 0 more) s.asked_first.none_behind ∙ none_asked;
+  }
 
   sets_at_most : SetsAtMost setting asked.later fin.alone.seen
   sets_at_most = subst (SetsAtMost setting asked.later) (sym fin_seen) (at_most_more setting asked.later mid.alone.seen more unset (subst (λ k. SetsAtMost k asked.later mid.alone.seen) mid_setting s.sets))
@@ -280,6 +290,7 @@ module _ {B : Type 0} (asked : Asked) (setting : Setting) (turns : ℕ) (result 
         ruled = kept_fin.ruled;
         asked_all = λ served. let ok = served_ok result fin.lost fin.calls end is served in asked_is ∙ accepted_full result ok.0 asked.askings (accepted_for 0 mid.alone.seen) ok.1 s.asked;
         asked_at_most = subst (λ xs. IsPrefix xs asked.askings) (sym asked_is) (accepted_part result asked.askings (accepted_for 0 mid.alone.seen) s.asked);
+        asked_first = asked_first;
         lost = callbacks.0;
         obeyed = callbacks.1;
         none_lost = callbacks.2;
@@ -341,6 +352,7 @@ promise_early asked setting turns outside = record {
   ruled = refl;
   asked_all = λ served. absurd (served refl);
   asked_at_most = (asked.askings, refl);
+  asked_first = record { asking = []; behind = []; parts = refl; asks_only = refl; none_behind = refl };
   lost = 0;
   obeyed = record { performances = []; requests_are = refl; performed = tt; givers = refl; lost_are = refl };
   none_lost = λ served. refl;

@@ -1,5 +1,5 @@
 -- One round of a session: a request is pending, a turn is made, the servers that are left are set, and what completed is delivered.
-use Rattle.std.proofs.Common.{◌≡◌, ◌≢◌, ℕ, ◌+◌, List, [], Option, None}
+use Rattle.std.proofs.Common.{◌≡◌, ◌≢◌, ℕ, ◌+◌, List, [], Option, None, inr, refl}
 use Rattle.std.specs.Prelude.{Ok}
 use Rattle.net_addr.specs.declared.addr.ServerAddr.{ServerAddr}
 use Rattle.net_world.specs.declared.log.WorldCall.{WorldCall}
@@ -49,10 +49,10 @@ module _ {B : Type 0} (later left : Option (List ServerAddr)) (turns count : ℕ
         Round later (turns + 1) a f before u l n
     round done e set f delivers none =
         let b_set : Caller B = record b { alone = e } in
-        let set_made : Made turned (turns + 1) a b_set before u l n = made_then (turns + 1) a before l turned b_turned b_set u n (moves_set left (Ok done) b_turned e set) turned_made in
+        let set_made : Made turned (turns + 1) a b_set before u l n = made_then (turns + 1) a before l turned b_turned b_set u n (inr refl) (moves_set left (Ok done) b_turned e set) turned_made in
         let set_sets : Then later None (turns + 1) a b_set before l n = then_turned later left turns a b_counted before l m d e r u n answer done goes (asked_here count b.alone c counts some none_ready) counted_made set counted_sets in
         let all : MovesQuietly b_set f = quiet_all b_set f (moves_idle a b_set set_made.moves idle) delivers in
         record {
-          made = made_delivered (turns + 1) a before l f u n none (made_then (turns + 1) a before l turned b_set f u n (all.0, all.1, prompted_all b_set f delivers all.0 none) set_made);
+          made = made_delivered (turns + 1) a before l f u n none (made_then (turns + 1) a before l turned b_set f u n (inr refl) (all.0, all.1, prompted_all b_set f delivers all.0 none) set_made);
           sets = then_more later a before l None (turns + 1) b_set f n n all.0 all.2 (grows_none n) set_sets;
         }

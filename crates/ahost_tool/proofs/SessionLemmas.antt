@@ -1,5 +1,5 @@
 -- A whole session: it begins, its requests are accepted, and turns are made.
-use Rattle.std.proofs.Common.{◌≡◌, ◌∙◌, ℕ, ◌==◌, ◌&&◌, ◌||◌, Bool, true, false, List, [], ◌++◌, map, not, is_some, refl, ap, sym, subst, inr, arith}
+use Rattle.std.proofs.Common.{◌≡◌, ◌∙◌, ℕ, ◌==◌, ◌&&◌, ◌||◌, Bool, true, false, List, [], ◌++◌, map, not, is_some, refl, ap, sym, subst, inl, inr, arith}
 use Rattle.std.specs.Prelude.{Err, Ok, Option, Result, is_err, option_map}
 use Rattle.std.specs.List.{list_all}
 use Rattle.std.proofs.lemmas.Bool.{and_from, and_parts}
@@ -29,7 +29,7 @@ use Rattle.event_runner.specs.UnderWay.{IsSoFar, RanSince, RunsSince, rested}
 use Rattle.net_world.specs.Logs.{LogGets}
 use Rattle.ahost_tool.specs.Delivering.{IsIdle}
 use Rattle.ahost_tool.specs.Kinds.{has_servers, is_cancel, is_of_session, is_ruled, is_servers}
-use Rattle.ahost_tool.specs.Session.{AcceptsAll, FallsIntoTurns, HasAccepted, HasObeyed, IsKept, IsNew, IsSession, MakesTurns, is_asking}
+use Rattle.ahost_tool.specs.Session.{AcceptsAll, AsksFirst, FallsIntoTurns, HasAccepted, HasObeyed, IsKept, IsNew, IsSession, MakesTurns, is_asking}
 use Rattle.owner_laws.specs.Sessions.{longest_slice}
 use Rattle.ahost_tool.specs.declared.caller.Caller.{Caller}
 use Rattle.run_end.specs.declared.loop_end.LoopEnd.{LoopEnd}
@@ -37,7 +37,7 @@ use Rattle.ahost_tool.proofs.KeptLemmas.{kept_more}
 use Rattle.ahost_tool.proofs.ListLemmas.{all_pass, none_any, none_of, or_right}
 use Rattle.ahost_tool.proofs.LoopLemmas.{falls_short}
 use Rattle.owner_laws.proofs.Well.{well_unbegun}
-use Rattle.ahost_tool.proofs.MoveLemmas.{own_all, ruled_seats, session_ruled}
+use Rattle.ahost_tool.proofs.MoveLemmas.{accepted_parts, own_all, ruled_seats, session_ruled}
 use Rattle.ahost_tool.proofs.ObeyLemmas.{is_plain}
 use Rattle.ahost_tool.proofs.ThenLemmas.{SetsShort, at_most_none}
 
@@ -127,15 +127,16 @@ module _ {B : Type 0} (a : Caller B) (new : IsNew a) (l m : Option (List WorldCa
 
 -- want of memory came, before turns were made
 module _ {B : Type 0} (askings : List Asking) (later : Option (List ServerAddr)) (turns : ℕ) (a : Caller B) (l m : Option (List WorldCall)) where
-  session_cut : (result : Result LoopEnd NoMemory) (b : Caller B) → is_err result ≡ true → b.alone.setting ≡ a.alone.setting → b.hand ≡ a.hand → IsKept b → list_all is_of_session b.alone.seen ≡ true → IsPrefix (accepted_for 0 b.alone.seen) askings → has_servers b.alone.seen ≡ false →
+  session_cut : (result : Result LoopEnd NoMemory) (b : Caller B) → is_err result ≡ true → b.alone.setting ≡ a.alone.setting → b.hand ≡ a.hand → IsKept b → list_all is_of_session b.alone.seen ≡ true → IsPrefix (accepted_for 0 b.alone.seen) askings → AsksFirst b.alone.seen → has_servers b.alone.seen ≡ false →
       RanSince longest_slice 0 0 (known_by_owner b.alone) l m → IsSession askings later turns result a b l m
-  session_cut (Ok end) b err setting hand kept unclosed accepted unset ran = absurd (cc err)
-  session_cut (Err fault) b err setting hand kept unclosed accepted unset ran = record {
+  session_cut (Ok end) b err setting hand kept unclosed accepted asks unset ran = absurd (cc err)
+  session_cut (Err fault) b err setting hand kept unclosed accepted asks unset ran = record {
     setting = setting;
     hand = hand;
     kept = kept;
     unclosed = unclosed;
     asked = accepted;
+    asked_first = asks;
     left = tt;
     sets = at_most_none b.alone.setting later b.alone.seen unset;
     told = told_as (λ calls. IsTurnOwner (known_by_owner b.alone) → FallsIntoTurns later turns (Err fault) b.alone calls) (FallsIntoTurns later turns (Err fault) b.alone)
@@ -147,7 +148,8 @@ module _ {B : Type 0} (askings : List Asking) (later : Option (List ServerAddr))
   -- while the servers were told
   pub session_unasked : (result : Result LoopEnd NoMemory) → IsNew a → is_err result ≡ true → RanSince longest_slice 0 0 (known_by_owner a.alone) l m → IsSession askings later turns result a a l m
   session_unasked result new err ran =
-      session_cut result a err refl refl (new.idle, kept_new a new l m) (ap (list_all is_of_session) new.empty) (askings, ap (λ j. accepted_for 0 j ++ askings) new.empty) (ap has_servers new.empty) ran
+      session_cut result a err refl refl (new.idle, kept_new a new l m) (ap (list_all is_of_session) new.empty) (askings, ap (λ j. accepted_for 0 j ++ askings) new.empty)
+      (record { asking = []; behind = []; parts = new.empty; asks_only = refl; none_behind = refl }) (ap has_servers new.empty) ran
 
 module _ {B : Type 0} (askings : List Asking) (later : Option (List ServerAddr)) (turns : ℕ) (a : Caller B) (new : IsNew a) (l m : Option (List WorldCall)) (c : Owned) (accepting : Result (Unit {0}) NoMemory)
     (x : AcceptsAll askings accepting a.alone c) (running : Running) (since : RunsSince longest_slice 0 0 rested (known_by_owner a.alone) running l m) where
@@ -195,12 +197,13 @@ module _ {B : Type 0} (askings : List Asking) (later : Option (List ServerAddr))
   behind_b : RunsSince longest_slice 0 0 rested (known_by_owner c) running l m
   behind_b =
       runs_behind longest_slice 0 0 l m rested (known_by_owner a.alone) (known_by_owner c) running goes
-      (ap has_no_turn (own_all x.since seats) ∙ all_pass is_asking (λ e. not (is_of_turn e)) (λ e h. (asking_is e.what (asking_parts e h).2).3) x.since x.accepts_only) since
+      (ap has_no_turn (own_all x.since seats) ∙ all_pass is_asking (λ e. not (is_of_turn e)) (λ e h. (asking_is e.what (asking_parts e h).2).3) x.since x.accepts_only) (inl refl) since
 
   -- want of memory came while requests were accepted
   pub session_refused : (result : Result LoopEnd NoMemory) → is_err result ≡ true → is_err accepting ≡ true → IsSession askings later turns result a b l m
   session_refused result err failed =
-      session_cut askings later turns a l m result b err x.setting refl (idle_b, kept_b) (ap (list_all is_of_session) c_seen ∙ of_session_b) (first accepting failed x.accepts_are) unset_b
+      session_cut askings later turns a l m result b err x.setting refl (idle_b, kept_b) (ap (list_all is_of_session) c_seen ∙ of_session_b) (first accepting failed x.accepts_are)
+      (record { asking = x.since; behind = []; parts = c_seen ∙ sym (append-nil x.since); asks_only = x.accepts_only; none_behind = refl }) unset_b
       (ran_so_far longest_slice 0 0 l m rested (known_by_owner c) running behind_b)
     where
       first : (accepting : Result (Unit {0}) NoMemory) → is_err accepting ≡ true → HasAccepted askings accepting (accepted_for 0 x.since) → IsPrefix (accepted_for 0 c.seen) askings
@@ -211,12 +214,16 @@ module _ {B : Type 0} (askings : List Asking) (later : Option (List ServerAddr))
   pub session_asked : (result : Result LoopEnd NoMemory) (d : Caller B) (n : Option (List WorldCall)) (done : Unit {0}) → accepting ≡ Ok done → MakesTurns later turns result b d running m n → IsSession askings later turns result a d l n
   session_asked result d n done all made =
       let kept : IsKept d = made.kept (idle_b, kept_b) in
+      let d_seen : d.alone.seen ≡ x.since ++ made.since = made.seen ∙ ap (λ j. j ++ made.since) c_seen in
       record {
         setting = made.setting ∙ x.setting;
         hand = made.hand;
         kept = kept;
         unclosed = made.unclosed (ap (list_all is_of_session) c_seen ∙ of_session_b);
-        asked = asked result (made.asked ∙ ap (accepted_for 0) c_seen ∙ subst (λ r. HasAccepted askings r (accepted_for 0 x.since)) all x.accepts_are);
+        asked = asked result
+            (ap (accepted_for 0) d_seen ∙ accepted_parts 0 x.since made.since ∙ ap (λ xs. accepted_for 0 x.since ++ xs) made.asked_none ∙ append-nil (accepted_for 0 x.since)
+            ∙ subst (λ r. HasAccepted askings r (accepted_for 0 x.since)) all x.accepts_are);
+        asked_first = record { asking = x.since; behind = made.since; parts = d_seen; asks_only = x.accepts_only; none_behind = made.asked_none };
         left = made.left;
         sets = made.sets unset_b;
         told = told_as (λ calls. IsTurnOwner (known_by_owner d.alone) → FallsIntoTurns later turns result d.alone calls) (FallsIntoTurns later turns result d.alone)

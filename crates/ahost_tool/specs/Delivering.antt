@@ -7,7 +7,7 @@ use Rattle.chan_types.specs.declared.ticket.Ticket.{Ticket}
 use Rattle.channel_model.specs.Known.{Calls}
 use Rattle.channel_model.specs.Meanings.{Takes}
 use Rattle.channel_table.specs.Calling.{Owned, known_by_owner}
-use Rattle.completion_ticket.specs.States.{CallbackState, CalledState}
+use Rattle.completion_ticket.specs.States.{CallbackState, CalledState, called_with}
 use Rattle.hosts_file.specs.declared.hosts.Hosts.{Hosts}
 use Rattle.resolv_options.specs.declared.options.Options.{Options}
 use Rattle.ahost_tool.specs.Performing.{Performs}
@@ -33,8 +33,8 @@ pub record IsIdle {B : Type 0} (caller : Caller B) : Type 0 where
 
 -- a callback was told the answer of its request, which is noted: its commands are in the hand
 pub record Tells {B : Type 0} (ticket : Ticket CallbackState) (called : CalledState) (old new : Caller B) : Type 0 where
-  -- what is left of the callback has the request's number, and a body exactly where the callback had one
-  pub is_called : called ≡ record { number = ticket.call.number; boxed = ticket.token.boxed }
+  -- what is left of the callback has the request's number, and is the callback that the ticket had: by its name, and with a body exactly where that had one
+  pub is_called : called ≡ called_with ticket.call.number ticket.token
   pub calls : new.calls ≡ old.calls ++ ticket.call ∷ []
   pub gives_them : new.hand ≡ record old.hand { commands = gives ticket.token.plan ticket.call old.hand.orders }
   pub channel : new.alone ≡ old.alone
@@ -42,7 +42,7 @@ pub record Tells {B : Type 0} (ticket : Ticket CallbackState) (called : CalledSt
 
 -- and then the commands that its script gives were performed, on that request's command
 pub record Spends {B : Type 0} (ticket : Ticket CallbackState) (called : CalledState) (old new : Caller B) : Type 0 where
-  pub is_called : called ≡ record { number = ticket.call.number; boxed = ticket.token.boxed }
+  pub is_called : called ≡ called_with ticket.call.number ticket.token
   pub calls : new.calls ≡ old.calls ++ ticket.call ∷ []
   pub behind : Owned
   pub performed : Performs (gives ticket.token.plan ticket.call old.hand.orders) (record old.alone { voice = ticket.call.number }) behind old.lost new.lost

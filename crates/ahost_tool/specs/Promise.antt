@@ -28,7 +28,7 @@ use Rattle.ahost_tool.specs.Asked.{Asked}
 use Rattle.run_end.specs.Ends.{AreGood}
 use Rattle.ahost_tool.specs.Kinds.{has_servers, is_ruled}
 use Rattle.ahost_tool.specs.Page.{report_of, text_at}
-use Rattle.ahost_tool.specs.Session.{SetsAtMost, SetsBehindFirst}
+use Rattle.ahost_tool.specs.Session.{AsksFirst, SetsAtMost, SetsBehindFirst}
 use Rattle.owner_laws.specs.Sessions.{BeginsCut, BeginsPending, EndsWithFailedWait, longest_slice}
 use Rattle.run_end.specs.declared.ended.Ended.{Ended}
 use Rattle.ahost_tool.specs.declared.reporting.Report.{Report}
@@ -102,6 +102,8 @@ pub record Promise (asked : Asked) (setting : Setting) (turns : ℕ) (ended : En
   -- The requests were accepted that were asked, in order, each with the script of its callback, unless memory was wanting; and no other but on a callback's command.
   pub asked_all : end ≢ OutOfMemory → accepted_for 0 ended.journal ≡ asked.askings
   pub asked_at_most : IsPrefix (accepted_for 0 ended.journal) asked.askings
+  -- They were accepted before anything else was done.
+  pub asked_first : AsksFirst ended.journal
   -- What the callbacks of the taken requests command was performed, on their command and by the orders; where the text is the report, none of it behind the closing Destroy. Requests are lost only where memory was wanting.
   pub lost : ℕ
   pub obeyed : ObeysOrders setting ended.journal 1 asked.orders (last_at end ended.journal) lost

@@ -60,6 +60,14 @@ pub record AcceptsAll (askings : List Asking) (result : Result (Unit {0}) NoMemo
   pub accepts_only : IsTrue (list_all is_asking since)
   pub accepts_are : HasAccepted askings result (accepted_for 0 since)
 
+-- the requests on nobody's command were accepted before anything else was done
+pub record AsksFirst (journal : List Entry) : Type 0 where
+  pub asking : List Entry
+  pub behind : List Entry
+  pub parts : journal ≡ asking ++ behind
+  pub asks_only : IsTrue (list_all is_asking asking)
+  pub none_behind : accepted_for 0 behind ≡ []
+
 -- ---- servers that are set
 
 -- the entry that sets these servers, behind a past
@@ -161,6 +169,7 @@ pub record IsSession {B : Type 0} (askings : List Asking) (later : Option (List 
   pub kept : IsKept new
   pub unclosed : IsTrue (list_all is_of_session new.alone.seen)
   pub asked : HasAccepted askings result (accepted_for 0 new.alone.seen)
+  pub asked_first : AsksFirst new.alone.seen
   pub left : LeavesPending new.alone.setting result (past_of new.alone.seen)
   pub sets : SetsAtMost new.alone.setting later new.alone.seen
   -- where the network tells its log
@@ -172,7 +181,9 @@ pub record MakesTurns {B : Type 0} (later : Option (List ServerAddr)) (turns : �
   pub hand : new.hand ≡ old.hand
   pub kept : IsKept old → IsKept new
   pub unclosed : IsTrue (list_all is_of_session old.alone.seen) → IsTrue (list_all is_of_session new.alone.seen)
-  pub asked : accepted_for 0 new.alone.seen ≡ accepted_for 0 old.alone.seen
+  pub since : List Entry
+  pub seen : new.alone.seen ≡ old.alone.seen ++ since
+  pub asked_none : accepted_for 0 since ≡ []
   pub left : LeavesPending new.alone.setting result (past_of new.alone.seen)
   pub sets : IsFalse (has_servers old.alone.seen) → SetsAtMost new.alone.setting later new.alone.seen
   pub told : (log : Option (List WorldCall)) → RunsSince longest_slice 0 0 rested (known_by_owner old.alone) runner log log_old → IsFalse (has_servers old.alone.seen) →

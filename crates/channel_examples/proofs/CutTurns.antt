@@ -51,12 +51,12 @@ sent_for_none near = by_cases near.sends
 -- a message may not be noted any more
 pub not_noted : NearlyAgrees setting 0 (stands 2 []) [] (Receive (Datagram 0 (good_reply 7)) ∷ [])
 not_noted = record {
-  arrivals = inr (record { earlier = []; last = Receive (Datagram 0 (good_reply 7)); later = []; calls_are = refl; quiet = refl; reached = ([], refl); not_passed = (reply ∷ [], refl) });
+  arrivals = inr (record { earlier = []; last = Receive (Datagram 0 (good_reply 7)); calls_are = refl; reached = ([], refl); not_passed = (reply ∷ [], refl) });
   sends = inl refl;
   links = inl refl;
   writes = λ link. ([], refl);
   faults_are = inl refl;
-  in_order = inl (inr (record { earlier = []; last = Receive (Datagram 0 (good_reply 7)); later = []; calls_are = refl; quiet = refl; reached = ([], refl); not_passed = (_, refl) }));
+  in_order = inl (inr (record { earlier = []; last = Receive (Datagram 0 (good_reply 7)); calls_are = refl; reached = ([], refl); not_passed = (_, refl) }));
 }
 
 -- but none is noted that didn't come, nor is one noted twice

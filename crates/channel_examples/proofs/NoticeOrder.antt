@@ -1,5 +1,6 @@
 -- A reply came, and behind it a refusal. Noted in that order the request is answered; the other way round it isn't, and nothing but the order is wrong.
-use Rattle.std.proofs.Common.{◌≡◌, List, [], ◌∷◌, ◌++◌, take, Some, None, refl, arith, inl, inr}
+use Rattle.std.proofs.Common.{◌≡◌, List, [], ◌∷◌, ◌++◌, take, Some, None, refl, subst, arith, inl, inr}
+use mathlib.Core.List.{IsPrefix}
 use Rattle.chan_types.specs.declared.journal.Entry.{Entry}
 use Rattle.chan_types.specs.declared.journal.What.TheVariants.{Arrive, Fault, Start}
 use Rattle.chan_types.specs.declared.status.Status.TheVariants.{Success}
@@ -88,36 +89,31 @@ fault_left_out = record {
   faults_are = inr (record {
     earlier = Receive (Datagram 0 (good_reply 7)) ∷ [];
     last = Receive (LinkFailed 0 0);
-    later = [];
     calls_are = refl;
-    quiet = refl;
     reached = ([], refl);
     not_passed = (record { server = 0; link = 0 } ∷ [], refl);
   });
   in_order = inl (inr (record {
     earlier = Receive (Datagram 0 (good_reply 7)) ∷ [];
     last = Receive (LinkFailed 0 0);
-    later = [];
     calls_are = refl;
-    quiet = refl;
     reached = ([], refl);
     not_passed = (fault_notice ∷ [], refl);
   }));
 }
 
--- the messages by themselves may stop before the reply, since no later call brings one
-pub messages_stop : FallsShort messages waiting_for_it.held cut_calls (noted 0 arrived waiting_for_it.past (own (Fault 0 0 1) ∷ []))
-messages_stop = inr (record {
-  earlier = [];
-  last = Receive (Datagram 0 (good_reply 7));
-  later = Receive (LinkFailed 0 0) ∷ [];
-  calls_are = refl;
-  quiet = refl;
-  reached = ([], refl);
-  not_passed = (record { server = 0; link = 0; bytes = good_reply 7 } ∷ [], refl);
-})
+-- but the reply may not, since a call stands behind it
+pub messages_stop : FallsShort messages waiting_for_it.held cut_calls (noted 0 arrived waiting_for_it.past (own (Fault 0 0 1) ∷ [])) → ⊥
+messages_stop (inl same) = cc same
+messages_stop (inr stops) = by stops.earlier stops.calls_are stops.reached
+  where
+    by : (earlier : List WorldCall) → cut_calls ≡ earlier ++ stops.last ∷ [] → IsPrefix (told messages [] earlier) [] → ⊥
+    by [] is reached = cc is
+    by (x ∷ []) is reached = let same : x ≡ Receive (Datagram 0 (good_reply 7)) = cc in cc (subst (λ call. told messages [] (call ∷ []) ++ reached.0 ≡ []) same reached.1)
+    by (x ∷ y ∷ []) is reached = cc is
+    by (x ∷ y ∷ z ∷ earlier) is reached = cc is
 
--- but the fault isn't noted without the message before it
+-- and the fault isn't noted without the message before it
 pub reply_left_out : WasCut setting 0 1 receiving waiting_for_it (own (Fault 0 0 1) ∷ []) cut_calls → ⊥
 reply_left_out cut = by_cases cut.nearly.in_order
   where

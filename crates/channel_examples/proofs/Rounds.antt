@@ -2,7 +2,7 @@
 use Rattle.std.proofs.Common.{◌≡◌, ℕ, ◌-◌, ◌^◌, ◌≤◌, List, [], ◌∷◌, take, true, false, Option, Some, None, refl, arith, inl, inr, ◌++◌}
 use Rattle.std.specs.Prelude.{flat_map}
 use Rattle.chan_types.specs.declared.journal.Entry.{Entry}
-use Rattle.chan_types.specs.declared.journal.What.TheVariants.{Start, Arrive, Take}
+use Rattle.chan_types.specs.declared.journal.What.TheVariants.{Arrive, Destroy, Start, Take}
 use Rattle.net_addr.specs.declared.addr.Addr.TheVariants.{V4}
 use Rattle.net_world.specs.declared.answers.Got.TheVariants.{Nothing}
 use Rattle.net_world.specs.declared.answers.Waited.TheVariants.{Woken}
@@ -73,7 +73,7 @@ pub no_wait : (a : Standing) (next : Round) (rounds : List Round) → AreTurns s
 unfolding NameText.units_of
 no_wait a next rounds turns = cc turns.3
 
-pub with_wait : goes_on setting (round_at flying [] (until 20)) ≡ true
+pub with_wait : goes_on setting 0 20 (round_at flying [] (until 20)) ≡ true
 unfolding NameText.units_of
 with_wait = refl
 
@@ -87,9 +87,14 @@ pub not_delivered : (a : Standing) (next : Round) (rounds : List Round) → AreT
 unfolding NameText.units_of Reading.message_read Reading.question_of Reading.record_of Reading.name_of Reading.run_of
 not_delivered a next rounds turns = cc turns.3
 
-pub delivered : goes_on setting (round_at half_done (own (Take 1) ∷ []) (until 20)) ≡ true
+pub delivered : goes_on setting 0 20 (round_at half_done (own (Take 1) ∷ []) (until 20)) ≡ true
 unfolding NameText.units_of Reading.message_read Reading.question_of Reading.record_of Reading.name_of Reading.run_of
 delivered = refl
+
+-- none comes behind the closing Destroy, where nothing is pending
+pub behind_destroy : (a : Standing) (next : Round) (rounds : List Round) → AreTurns setting 0 20 a (round_at flying (own Destroy ∷ []) None ∷ next ∷ rounds) → ⊥
+unfolding NameText.units_of
+behind_destroy a next rounds turns = cc turns.3
 
 -- a turn's entry stands in a turn
 pub start_between : (a : Standing) → AreTurns setting 0 20 a (round_at (take 1 flying) (own (Start 1 0 0 0 7 None 0) ∷ []) None ∷ []) → ⊥
@@ -103,7 +108,7 @@ unfolding NameText.units_of Reading.message_read Reading.question_of Reading.rec
 ready_waits a turns = cc turns.2
 
 -- but where that was taken
-pub taken_waits : is_timely setting 20 (round_at half_done (own (Take 1) ∷ []) (until 20)) ≡ true
+pub taken_waits : is_timely setting 0 20 (round_at half_done (own (Take 1) ∷ []) (until 20)) ≡ true
 unfolding NameText.units_of Reading.message_read Reading.question_of Reading.record_of Reading.name_of Reading.run_of
 taken_waits = refl
 
@@ -120,7 +125,7 @@ waits_for_nothing a turns = cc turns.2
 -- ---- the moment of a wait
 
 -- it is the last reading plus the slice
-pub by_slice : is_timely setting 20 (round_at flying [] (until 20)) ≡ true
+pub by_slice : is_timely setting 0 20 (round_at flying [] (until 20)) ≡ true
 unfolding NameText.units_of
 by_slice = refl
 
@@ -129,13 +134,18 @@ unfolding NameText.units_of
 other_moment a turns = cc turns.2
 
 -- or the first deadline in flight, where that is earlier
-pub by_deadline : is_timely setting 5000 (round_at flying [] (until 2000)) ≡ true
+pub by_deadline : is_timely setting 0 5000 (round_at flying [] (until 2000)) ≡ true
 unfolding NameText.units_of
 by_deadline = refl
 
 pub past_deadline : (a : Standing) → AreTurns setting 0 5000 a (round_at flying [] (until 5000) ∷ []) → ⊥
 unfolding NameText.units_of
 past_deadline a turns = cc turns.2
+
+-- at the position that calls for the wait, and not at one behind a Destroy, where nothing is in flight
+pub later_moment : (a : Standing) → AreTurns setting 0 (2 ^ 64 - 1) a (round_at flying (own Destroy ∷ []) (until (2 ^ 64 - 1)) ∷ []) → ⊥
+unfolding NameText.units_of
+later_moment a turns = cc turns.2
 
 -- but never more than 64 bits hold
 pub last_moment : wakes_at setting (2 ^ 64 - 10) 20 [] ≡ 2 ^ 64 - 1
@@ -194,6 +204,7 @@ cut = inr (inl (record {
     of_seat = refl;
   };
   going_on = refl;
+  of_seat = refl;
   turn = record {
     made = Receive Nothing ∷ [];
     part = receiving;

@@ -11,7 +11,7 @@ use Rattle.channel_model.specs.Links.{Link, held_after, told}
 use Rattle.channel_model.specs.Setting.{Setting}
 use Rattle.channel_model.specs.Stretch.{Standing, Agrees}
 use Rattle.channel_model.specs.Traffic.{noted, arrived, faulted, opened, asked, queued, noticed, messages, datagrams, connects, written, faults, notices}
-use Rattle.channel_model.proofs.TrafficLemmas.{held_after-append, told-append, noted-append, joined}
+use Rattle.channel_model.proofs.TrafficLemmas.{told-append, noted-append, joined}
 
 -- a prefix stays one behind the same list
 prefix_behind : {A : Type 0} (front xs ys : List A) → IsPrefix xs ys → IsPrefix (front ++ xs) (front ++ ys)
@@ -34,17 +34,12 @@ module _ {A : Type 0} (seat : ℕ) (notes : Past → What → List A) (tells : L
         ∙ ap (λ l. l ++ more.last ∷ []) (sym (told-append tells held cs ds));
   }
 
-  -- within the last call that tells something
+  -- within the last call
   stops_short_behind : StopsShort tells (held_after held cs) ds (noted seat notes (followed_by past es) fs) → StopsShort tells held (cs ++ ds) (noted seat notes past (es ++ fs))
   stops_short_behind stops = record {
     earlier = cs ++ stops.earlier;
     last = stops.last;
-    later = stops.later;
-    calls_are = ap (λ l. cs ++ l) stops.calls_are ∙ sym (append_assoc cs stops.earlier (stops.last ∷ stops.later));
-    quiet =
-        ap (λ h. told tells h stops.later)
-        (ap (λ l. held_after held l) (append_assoc cs stops.earlier (stops.last ∷ [])) ∙ held_after-append held cs (stops.earlier ++ stops.last ∷ []))
-        ∙ stops.quiet;
+    calls_are = ap (λ l. cs ++ l) stops.calls_are ∙ sym (append_assoc cs stops.earlier (stops.last ∷ []));
     reached =
         subst (λ l. IsPrefix l (noted seat notes past (es ++ fs))) (sym (told-append tells held cs stops.earlier))
         (subst (λ l. IsPrefix (told tells held cs ++ told tells (held_after held cs) stops.earlier) l) (sym both_noted)

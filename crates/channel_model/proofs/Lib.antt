@@ -13,6 +13,7 @@ pub mod TrafficLemmas
 pub mod NoticeLemmas
 pub mod StepLemmas
 pub mod TurnLemmas
+pub mod SoonLemmas
 pub mod CourseLemmas
 pub mod CutLemmas
 pub mod ReadingLemmas

@@ -44,6 +44,7 @@ pub use Rattle.channel_model.proofs.PieceLemmas.{Brings, agrees_piece, agrees_wr
 -- Turns, and courses of turns.
 pub use Rattle.channel_model.proofs.TurnLemmas.{now_agrees, part_agrees, parts_agree, turn_agrees, turn_of}
 pub use Rattle.channel_model.proofs.CourseLemmas.{course_agrees, rounds_agree, serves_agree}
+pub use Rattle.channel_model.proofs.SoonLemmas.{anywhere-end, holds-anywhere, holds-end, holds-grows, holds-here, holds-somewhere, holds-then}
 pub use Rattle.channel_model.proofs.CutCourseLemmas.{so_far_nearly}
 pub use Rattle.channel_model.proofs.OrderLemmas.{receives_first}
 pub use Rattle.channel_model.proofs.ReadingLemmas.{course_reads, course_receives, so_far_reads}

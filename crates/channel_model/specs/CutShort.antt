@@ -4,7 +4,7 @@ use Rattle.std.specs.Prelude.{Bool, IsTrue, List, [], false, true, ℕ, ◌++◌
 use mathlib.Core.List.{IsPrefix}
 use Rattle.chan_types.specs.declared.journal.Entry.{Entry}
 use Rattle.net_world.specs.declared.log.WorldCall.{WorldCall}
-use Rattle.channel_model.specs.Links.{Link, held_after, told}
+use Rattle.channel_model.specs.Links.{Link, told}
 use Rattle.channel_model.specs.Setting.{Setting}
 use Rattle.channel_model.specs.Stretch.{Standing}
 use Rattle.channel_model.specs.Traffic.{Notice, arrived, asked, connects, datagrams, faulted, faults, messages, noted, noticed, notices, of_datagram, of_fault, of_link, of_message, opened, queued, written}
@@ -14,13 +14,11 @@ pub record HasOneMore {A : Type 0} (notes tells : List A) : Type 0 where
   pub last : A
   pub is_behind : notes ≡ tells ++ last ∷ []
 
--- the journal stops within what one call tells, behind which no call tells anything, as before the second message of a piece
+-- the journal stops within what the last call tells, as before the second message of a piece
 pub record StopsShort {A : Type 0} (tells : List Link → WorldCall → List A) (held : List Link) (calls : List WorldCall) (notes : List A) : Type 0 where
   pub earlier : List WorldCall
   pub last : WorldCall
-  pub later : List WorldCall
-  pub calls_are : calls ≡ earlier ++ last ∷ later
-  pub quiet : told tells (held_after held (earlier ++ last ∷ [])) later ≡ []
+  pub calls_are : calls ≡ earlier ++ last ∷ []
   pub reached : IsPrefix (told tells held earlier) notes
   pub not_passed : IsPrefix notes (told tells held calls)
 

@@ -1,14 +1,15 @@
 -- Turn by turn: how many turns are made, against what was received, the attempts left, and the requests that were accepted between turns.
-use Rattle.std.proofs.Common.{◌≡◌, ◌∙◌, ℕ, ◌+◌, ◌*◌, ◌-◌, ◌^◌, ◌≤◌, ◌<◌, suc, zero, Bool, true, false, List, [], ◌∷◌, ◌++◌, Option, refl, ap, sym, subst, cond, arith, length, inl, inr, ⊎_elim, eqb-true}
+use Rattle.std.proofs.Common.{◌≡◌, ◌∙◌, ℕ, ◌+◌, ◌*◌, ◌-◌, ◌^◌, ◌≤◌, ◌<◌, suc, zero, Bool, true, false, List, [], ◌∷◌, ◌++◌, Option, Some, None, refl, ap, sym, subst, cond, arith, length, inl, inr, ⊎_elim, eqb-true}
 use Rattle.std.proofs.lemmas.Bool.{and_from, and_parts, cases_Bool, le-ltb, ltb-false, not-true, or_cases, or_left, or_right}
 use Rattle.std.specs.List.{list_any}
 use Rattle.std.specs.Prelude.{IfSome, filter_map, nat_lt, not, ◌&&◌, ◌==◌, ◌||◌}
+use Rattle.chan_types.specs.declared.journal.Entry.{Entry}
 use Rattle.net_world.specs.Cause.{is_not_waited}
 use Rattle.net_world.specs.declared.log.WorldCall.{WorldCall}
 use Rattle.net_world.specs.declared.log.WorldCall.TheVariants.{Wait}
-use Rattle.channel_model.proofs.Theorems.{turn_agrees}
+use Rattle.channel_model.proofs.Theorems.{holds-somewhere, turn_agrees}
 use Rattle.channel_model.specs.Completion.{pending, ready, waiting}
-use Rattle.channel_model.specs.Course.{Round, calls_of_rest, goes_on, has_no_turn, is_timely}
+use Rattle.channel_model.specs.Course.{Rest, Round, Test, calls_of_rest, goes_on, has_no_turn, has_none_of, is_timely, rests_there, skips, soon, wakes_at}
 use Rattle.channel_model.specs.Endings.{waited_by}
 use Rattle.channel_model.specs.Flight.{in_flight}
 use Rattle.channel_model.specs.Journal.{Past, followed_by}
@@ -68,6 +69,36 @@ module _ (setting : Setting) where
   settled_rests : (past : Past) → ready setting past ≡ [] → IsCalm setting past → restless past ≡ 0
   settled_rests past none calm = ap (λ b. cond b 0 1) (and_from (length (ready setting past) == 0) _ (ap (λ l. length l == 0) none) (is_calm past calm))
 
+-- a test that holds here holds somewhere
+somewhere-here : (test : Past → Bool) (past : Past) (es : List Entry) → test past ≡ true → somewhere test past es ≡ true
+somewhere-here test past [] h = h
+somewhere-here test past (e ∷ es) h = or_left (test past) (somewhere test (e.what ∷ past) es) h
+
+-- where a run goes on behind a turn, there is a position at which nothing is ready, and one at which a request is pending
+module _ (setting : Setting) (seat slice : ℕ) where
+  abbrev wanted : Test
+  wanted = λ here later. not (length (pending setting here) == 0) && has_none_of seat later
+
+  wants : (past : Past) (es : List Entry) → soon seat wanted past es ≡ true → somewhere (is_some_pending setting) past es ≡ true
+  wants = holds-somewhere (λ e. e.seat == seat) wanted (is_some_pending setting) (λ past es h. somewhere-here (is_some_pending setting) past es (and_parts (is_some_pending setting past) (has_none_of seat es) h).0)
+
+  rests : (reading : ℕ) (rest : Option Rest) (past : Past) (es : List Entry) → rests_there setting seat slice reading rest wanted past es ≡ true → somewhere (is_some_pending setting) past es ≡ true
+  rests reading None past es h = wants past es (and_parts (skips setting past) (soon seat wanted past es) h).1
+  rests reading (Some r) past es h =
+      let moment : Test = λ here later. (r.until == wakes_at setting reading slice here) && soon seat wanted here later in
+      holds-somewhere (λ e. e.seat == seat) moment (is_some_pending setting)
+      (λ p fs held. wants p fs (and_parts (r.until == wakes_at setting reading slice p) (soon seat wanted p fs) held).1) past es (and_parts (not (skips setting past)) (soon seat moment past es) h).1
+
+  going : (round : Round) → goes_on setting seat slice round ≡ true → (somewhere (is_none_ready setting) round.new.past round.between ≡ true) × (somewhere (is_some_pending setting) round.new.past round.between ≡ true)
+  going round goes =
+      let there : Test = rests_there setting seat slice round.reading round.rest wanted in
+      let all : Test = λ past es. is_none_ready setting past && soon seat there past es in (
+        holds-somewhere (λ e. false) all (is_none_ready setting) (λ past es h. somewhere-here (is_none_ready setting) past es (and_parts (is_none_ready setting past) (soon seat there past es) h).0) round.new.past round.between goes,
+        holds-somewhere (λ e. false) all (is_some_pending setting)
+            (λ past es h. holds-somewhere (λ e. e.seat == seat) there (is_some_pending setting) (rests round.reading round.rest) past es (and_parts (is_none_ready setting past) (soon seat there past es) h).1)
+            round.new.past round.between goes,
+      )
+
 module _ (setting : Setting) (end : Past) where
   -- a turn's number of steps, against what it received and the attempts left
   pub record Counts (round next : Round) : Type 0 where
@@ -76,7 +107,7 @@ module _ (setting : Setting) (end : Past) where
 
 module _ (setting : Setting) (end : Past) (seat : ℕ) (round next : Round) (later : List WorldCall)
     (turn : IsTurn setting seat next.reading (behind round.new round.between) next.entries next.calls next.new)
-    (no_turn : has_no_turn round.between ≡ true) (timely : is_timely setting (2 ^ 64 - 1) round ≡ true) (goes : goes_on setting round ≡ true)
+    (no_turn : has_no_turn round.between ≡ true) (timely : is_timely setting seat (2 ^ 64 - 1) round ≡ true) (goes : goes_on setting seat (2 ^ 64 - 1) round ≡ true)
     (own : AreOfSeat seat next.entries) (fit : IsFit setting end next.new.past)
     (wakes : wakes_in_time (calls_of_rest round.rest ++ (next.calls ++ later)) ≡ true)
     (failed : list_any is_not_waited (filter_map waited_by (calls_of_rest round.rest ++ (next.calls ++ later))) ≡ false) where
@@ -106,7 +137,7 @@ module _ (setting : Setting) (end : Past) (seat : ℕ) (round next : Round) (lat
 
   -- between them there is a position at which nothing is ready, and one at which a request is pending
   ready_and_pending : (somewhere (is_none_ready setting) round.new.past round.between ≡ true) × (somewhere (is_some_pending setting) round.new.past round.between ≡ true)
-  ready_and_pending = and_parts _ _ (and_parts (somewhere (is_none_ready setting) round.new.past round.between && somewhere (is_some_pending setting) round.new.past round.between) _ goes).0
+  ready_and_pending = going setting seat (2 ^ 64 - 1) round goes
 
   -- where the run waited, something was received, or an attempt was due
   waited : IsQuiet setting next.reading next.calls (followed_by round.new.past round.between) next.new.past → round.between ≡ [] → Waits setting round → received_in next.calls ≡ 0 → ⊥
@@ -155,7 +186,7 @@ module _ (setting : Setting) (end : Past) (seat : ℕ) (round next : Round) (lat
       by_test true is =
           let says = settled_says setting round.new.past is in
           let alone = takes_none setting end round.new.past round.between says.0 takes fit_here in
-          let received = some_received (waited quiet alone (waits setting round request fit_last.lawful pends says.0 says.1 alone goes timely)) in
+          let received = some_received (waited quiet alone (waits setting round request fit_last.lawful pends says.0 says.1 alone seat goes timely)) in
           record { few = omega (arith, gap_keeps.less, turn_keeps.less, rests, received) }
       by_test false is =
           let restless_here : restless setting round.new.past ≡ 1 = ap (λ b. cond b 0 1) is in

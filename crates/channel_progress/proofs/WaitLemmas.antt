@@ -1,23 +1,22 @@
 -- Behind a turn behind which nothing is ready and no attempt can start, a run waits until the first attempt is due.
-use Rattle.std.proofs.Common.{◌≡◌, ◌∙◌, ℕ, ◌+◌, ◌-◌, ◌^◌, ◌≤◌, Bool, true, false, List, [], ◌∷◌, Option, Some, None, refl, ap, sym, subst, cond, map, arith, length, inl, inr, ⊎_elim, eqb-true, ne_eqb, true≢false}
+use Rattle.std.proofs.Common.{◌≡◌, ◌∙◌, ℕ, ◌+◌, ◌-◌, ◌^◌, ◌≤◌, Bool, true, false, List, [], ◌∷◌, Option, Some, None, refl, ap, sym, subst, cond, map, arith, length, inl, inr, eqb-true, ne_eqb, true≢false}
 use Rattle.std.proofs.Math.Nat.{le-min, min-le_right}
-use Rattle.std.proofs.lemmas.Bool.{and_parts, le-ltb, or_cases}
+use Rattle.std.proofs.lemmas.Bool.{and_parts, le-ltb}
 use Rattle.std.specs.Option.{option_map_or}
 use Rattle.std.specs.Prelude.{is_some, min, nat_lt, not, ◌&&◌, ◌==◌, ◌||◌}
 use Rattle.channel_model.specs.Choice.{deadline, deadline_from, deadline_or}
 use Rattle.channel_model.specs.Completion.{pending, ready, waiting}
-use Rattle.channel_model.specs.Course.{Rest, Round, goes_on, is_timely, skips, wakes_at}
+use Rattle.channel_model.specs.Course.{Rest, Round, Test, anywhere, goes_on, has_none_of, is_timely, rests_there, skips, soon, waits_there, wakes_at}
 use Rattle.channel_model.specs.Flight.{Attempt, begun_by, in_flight, is_of_leg}
 use Rattle.channel_model.specs.Journal.{Past}
 use Rattle.channel_model.specs.Lawful.{Due, IsLawfulPast, due_of, first_due, least, least_due}
 use Rattle.channel_model.specs.Legs.{Leg}
 use Rattle.channel_model.specs.Setting.{Setting}
-use Rattle.channel_model.specs.Turn.{most_entries, somewhere}
+use Rattle.channel_model.specs.Turn.{most_entries}
 use Rattle.channel_progress.proofs.EntryLemmas.{least-has}
 use Rattle.channel_progress.proofs.FlyingLemmas.{some_flies}
 use Rattle.channel_progress.proofs.ListLemmas.{Has, map-has}
 use Rattle.channel_progress.proofs.TurnLemmas.{IsCalm}
-use Rattle.channel_progress.proofs.GapLemmas.{is_none_ready, is_some_pending}
 
 module _ (setting : Setting) where
   -- a deadline fits into 64 bits
@@ -83,34 +82,37 @@ module _ (setting : Setting) where
 
   module _ (round : Round) (request : ℕ) (lawful : IsLawfulPast setting round.new.past) (pends : Has request (pending setting round.new.past)) (none : ready setting round.new.past ≡ []) (calm : IsCalm setting round.new.past)
       (alone : round.between ≡ []) where
-    -- so that there is a wait
-    rested : goes_on setting round ≡ true → is_some round.rest ≡ true
-    rested goes =
-        let parts = and_parts (somewhere (is_none_ready setting) round.new.past round.between && somewhere (is_some_pending setting) round.new.past round.between) (is_some round.rest || somewhere (skips setting) round.new.past round.between) goes in
-        ⊎_elim
-        (λ (some : is_some round.rest ≡ true). some)
-        (λ (skip : somewhere (skips setting) round.new.past round.between ≡ true).
-        absurd (true≢false (sym (subst (λ l. somewhere (skips setting) round.new.past l ≡ true) alone skip) ∙ no_skip round.new.past request pends none calm)))
-        (or_cases (is_some round.rest) (somewhere (skips setting) round.new.past round.between) parts.1)
+    module _ (seat : ℕ) where
+      abbrev there : Option Rest → Test
+      there rest = rests_there setting seat (2 ^ 64 - 1) round.reading rest (λ here later. not (length (pending setting here) == 0) && has_none_of seat later)
 
-    -- up to the moment at which the first attempt is due
-    pub waits : goes_on setting round ≡ true → is_timely setting (2 ^ 64 - 1) round ≡ true → Waits round
-    waits goes timely = by_rest round.rest refl (rested goes) timely
-      where
-        by_due : (rest : Rest) (due : Due) → first_due setting round.new.past ≡ Some due → rest.until ≡ wakes_at setting round.reading (2 ^ 64 - 1) round.new.past → due.at ≤ rest.until
-        by_due rest due is until =
-            let latest : ℕ = min (round.reading + (2 ^ 64 - 1)) (2 ^ 64 - 1) in
-            let at : rest.until ≡ min due.at latest = until ∙ ap (λ o. option_map_or (λ (d : Due). min d.at latest) o latest) is in
-            let small = due_small round.new.past due is in
-            subst (λ n. due.at ≤ n) (sym at) (le-min (omega arith) (le-min (omega (arith, small)) small))
+      -- so that there is a wait
+      rested : goes_on setting seat (2 ^ 64 - 1) round ≡ true → is_some round.rest ≡ true
+      rested goes =
+          let here = subst (λ l. anywhere (λ past es. (length (ready setting past) == 0) && soon seat (there round.rest) past es) round.new.past l ≡ true) alone goes in
+          by round.rest (and_parts (length (ready setting round.new.past) == 0) (there round.rest round.new.past []) here).1
+        where
+          by : (o : Option Rest) → there o round.new.past [] ≡ true → is_some o ≡ true
+          by None h = absurd (true≢false (sym (and_parts (skips setting round.new.past) _ h).0 ∙ no_skip round.new.past request pends none calm))
+          by (Some rest) h = refl
 
-        by_rest : (o : Option Rest) → round.rest ≡ o → is_some o ≡ true →
-            option_map_or (λ (rest : Rest).
-            somewhere (λ past. not (skips setting past)) round.new.past round.between
-            && somewhere (λ past. rest.until == wakes_at setting round.reading (2 ^ 64 - 1) past) round.new.past round.between) o true ≡ true → Waits round
-        by_rest None is some timely = absurd (true≢false (sym some))
-        by_rest (Some rest) is some timely =
-            let due = some_due round.new.past (calm_flies round.new.past request lawful pends calm) in
-            let at = (and_parts (somewhere (λ past. not (skips setting past)) round.new.past round.between) (somewhere (λ past. rest.until == wakes_at setting round.reading (2 ^ 64 - 1) past) round.new.past round.between) timely).1 in
-            let here = subst (λ l. somewhere (λ past. rest.until == wakes_at setting round.reading (2 ^ 64 - 1) past) round.new.past l ≡ true) alone at in
-            record { rest = rest; rests = is; due = due.0; first = due.1; until = by_due rest due.0 due.1 (eqb-true rest.until (wakes_at setting round.reading (2 ^ 64 - 1) round.new.past) here) }
+      -- up to the moment at which the first attempt is due
+      pub waits : goes_on setting seat (2 ^ 64 - 1) round ≡ true → is_timely setting seat (2 ^ 64 - 1) round ≡ true → Waits round
+      waits goes timely = by_rest round.rest refl (rested goes) timely
+        where
+          by_due : (rest : Rest) (due : Due) → first_due setting round.new.past ≡ Some due → rest.until ≡ wakes_at setting round.reading (2 ^ 64 - 1) round.new.past → due.at ≤ rest.until
+          by_due rest due is until =
+              let latest : ℕ = min (round.reading + (2 ^ 64 - 1)) (2 ^ 64 - 1) in
+              let at : rest.until ≡ min due.at latest = until ∙ ap (λ o. option_map_or (λ (d : Due). min d.at latest) o latest) is in
+              let small = due_small round.new.past due is in
+              subst (λ n. due.at ≤ n) (sym at) (le-min (omega arith) (le-min (omega (arith, small)) small))
+
+          by_rest : (o : Option Rest) → round.rest ≡ o → is_some o ≡ true →
+              option_map_or (λ (rest : Rest). anywhere (waits_there setting seat (2 ^ 64 - 1) round.reading rest.until (λ here later. true)) round.new.past round.between) o true ≡ true → Waits round
+          by_rest None is some timely = absurd (true≢false (sym some))
+          by_rest (Some rest) is some timely =
+              let due = some_due round.new.past (calm_flies round.new.past request lawful pends calm) in
+              let here = subst (λ l. anywhere (waits_there setting seat (2 ^ 64 - 1) round.reading rest.until (λ now later. true)) round.new.past l ≡ true) alone timely in
+              let moment = (and_parts (not (skips setting round.new.past)) _ here).1 in
+              let at = (and_parts (rest.until == wakes_at setting round.reading (2 ^ 64 - 1) round.new.past) true moment).0 in
+              record { rest = rest; rests = is; due = due.0; first = due.1; until = by_due rest due.0 due.1 (eqb-true rest.until (wakes_at setting round.reading (2 ^ 64 - 1) round.new.past) at) }

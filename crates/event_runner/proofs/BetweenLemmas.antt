@@ -22,7 +22,7 @@ use Rattle.event_runner.specs.UnderWay.{IsUnderWay, Reach, RunsSince, awaiting, 
 use Rattle.net_world.specs.Logs.{LogGets}
 use Rattle.event_runner.proofs.GoesLemmas.{owner_before, told_as, told_by, told_trans}
 use Rattle.event_runner.proofs.RoundLemmas.{AreBetween}
-use Rattle.event_runner.proofs.RunLemmas.{WayWith, facts_of, waited_here, way_behind, way_broken, way_of, way_rested, way_turned}
+use Rattle.event_runner.proofs.RunLemmas.{MayStand, WayWith, facts_of, waited_here, way_behind, way_broken, way_of, way_rested, way_turned}
 use Rattle.event_runner.proofs.TrailLemmas.{trail_of}
 use Rattle.event_runner.proofs.UnderWayLemmas.{Facts, facts_awaiting, facts_delivered, facts_following, facts_skipped, pending_behind}
 
@@ -50,13 +50,13 @@ module _ (holds : Past → List Entry → Type 0) (slice : ℕ) where
         (λ calls way owner. (way owner).0) l m
 
     -- entries came that no turn makes, but for other seats'
-    pub with_behind : (reach : Reach) (old new : Known) (running : Running) (goes : GoesOn old new) → IsTrue (has_no_turn (own_entries old.seat goes.since)) →
+    pub with_behind : (reach : Reach) (old new : Known) (running : Running) (goes : GoesOn old new) → IsTrue (has_no_turn (own_entries old.seat goes.since)) → MayStand turns reach old.seat goes.since →
         ((past : Past) (between : List Entry) → followed_by past between ≡ past_of old.seen → holds past between → holds past (between ++ goes.since)) →
         RunsWith turns asides reach old running l m → RunsWith turns asides reach new running l m
-    with_behind reach old new running goes own grows =
+    with_behind reach old new running goes own may grows =
         let trail = trail_of old new goes in
         told_as (λ calls. IsTurnOwner old → WayWith slice turns asides holds reach old running calls) (λ calls. IsTurnOwner new → WayWith slice turns asides holds reach new running calls)
-        (λ calls way owner. way_behind slice turns asides holds reach old new goes.since running calls trail owner own grows (way (owner_before old new goes.since trail owner))) l m
+        (λ calls way owner. way_behind slice turns asides holds reach old new goes.since running calls trail owner own may grows (way (owner_before old new goes.since trail owner))) l m
 
     -- the run has come further behind its last turn
     with_further : (old new : Reach) (known : Known) (running : Running) → ((calls : List WorldCall) (first : List Entry) (first_asides : List ℕ) (rounds : List Round) →

@@ -116,7 +116,7 @@ module _ (setting : Setting) (seat slice : ℕ) where
     }
 
     -- a wait behind the last turn
-    pub last_rest : (rest : Rest) (before : List Round) (round : Round) → round.rest ≡ None → is_timely setting slice (with_rest rest round) ≡ true →
+    pub last_rest : (rest : Rest) (before : List Round) (round : Round) → round.rest ≡ None → is_timely setting seat slice (with_rest rest round) ≡ true →
         Plain journal log turns asides first first_asides (before ++ round ∷ []) → Plain journal (log ++ calls_of_rest (Some rest)) turns asides first first_asides (before ++ with_rest rest round ∷ [])
     last_rest rest before round none timely p =
         let waits : List WorldCall = calls_of_rest (Some rest) in
@@ -137,7 +137,7 @@ module _ (setting : Setting) (seat slice : ℕ) where
         }
 
     -- one turn more
-    pub one_turn_more : (rounds : List Round) (reading : ℕ) (es : List Entry) (cs : List WorldCall) (new : Standing) → list_all (goes_on setting) rounds ≡ true →
+    pub one_turn_more : (rounds : List Round) (reading : ℕ) (es : List Entry) (cs : List WorldCall) (new : Standing) → list_all (goes_on setting seat slice) rounds ≡ true →
         IsTurn setting seat reading (standing_after (behind beginning first) rounds) es cs new → Plain journal log turns asides first first_asides rounds →
         Plain (journal ++ es) (log ++ cs) (turns + 1) asides first first_asides (rounds ++ record { reading = reading; entries = es; calls = cs; new = new; between = []; asides = []; rest = None } ∷ [])
     one_turn_more rounds reading es cs new go turn p =
@@ -185,6 +185,7 @@ module _ (setting : Setting) (seat slice : ℕ) where
         no_turn = no_turn-append cut.later more cut.no_turn none;
         journal_is = ap (λ l. l ++ more) cut.journal_is ∙ append_assoc (cut.earlier ++ cut.cut) cut.later more;
         log_is = cut.log_is;
+        of_seat = seats_more seat journal more cut.of_seat none;
       })))
       (λ serving. inr (inr (record { told_so_far = serving.0.told_so_far; no_turn = no_turn-append journal more serving.0.no_turn none }, serving.1, serving.2))))
 

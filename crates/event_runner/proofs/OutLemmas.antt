@@ -213,9 +213,7 @@ module _ (reading word bits number leg server : ℕ) (address : ServerAddr) (lin
             faults_are = inr (record {
               earlier = serve_unless (was_told server a.told) server address;
               last = is_failure.last;
-              later = [];
               calls_are = ap (λ l. serve_unless (was_told server a.told) server address ++ l) is_failure.core_is;
-              quiet = refl;
               reached = (
                 noted a.known.seat faulted from.past (first_entries ++ more),
                 ap (λ l. l ++ noted a.known.seat faulted from.past (first_entries ++ more)) (none_told faults (λ h. refl) (was_told server a.told) from.held),
@@ -225,9 +223,7 @@ module _ (reading word bits number leg server : ℕ) (address : ServerAddr) (lin
             in_order = inl (inr (record {
               earlier = serve_unless (was_told server a.told) server address;
               last = is_failure.last;
-              later = [];
               calls_are = ap (λ l. serve_unless (was_told server a.told) server address ++ l) is_failure.core_is;
-              quiet = refl;
               reached = (
                 noted a.known.seat (noticed a.known.setting) from.past (first_entries ++ more),
                 ap (λ l. l ++ noted a.known.seat (noticed a.known.setting) from.past (first_entries ++ more)) (none_told notices (λ h. refl) (was_told server a.told) from.held),

@@ -155,9 +155,7 @@ module _ (reading : ℕ) (a b : State) (before : List Row) (row : Row) (after : 
             arrivals = inr (record {
               earlier = [];
               last = Receive (Piece row.number bytes);
-              later = [];
               calls_are = refl;
-              quiet = refl;
               reached = (noted seat arrived from.past es, refl);
               not_passed = (map (parcel_of row.server row.number) rest, rw brings.arrivals split);
             });
@@ -168,9 +166,7 @@ module _ (reading : ℕ) (a b : State) (before : List Row) (row : Row) (after : 
             in_order = inl (inr (record {
               earlier = [];
               last = Receive (Piece row.number bytes);
-              later = [];
               calls_are = refl;
-              quiet = refl;
               reached = (noted seat (noticed setting) from.past es, refl);
               not_passed = (missed, rw brings.in_order told_all);
             }));

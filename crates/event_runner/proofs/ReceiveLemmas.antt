@@ -44,9 +44,7 @@ pub stops_before : {A : Type 0} (tells : List Link → WorldCall → List A) (he
 stops_before tells held call notes none = inr (record {
   earlier = [];
   last = call;
-  later = [];
   calls_are = refl;
-  quiet = refl;
   reached = (notes, refl);
   not_passed = (told tells held (call ∷ []), rw none refl);
 })

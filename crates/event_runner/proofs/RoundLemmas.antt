@@ -1,20 +1,21 @@
 -- Turns with what stands behind them, where one more comes or the last one changes.
-use Rattle.std.proofs.Common.{◌≡◌, ◌∙◌, ℕ, ◌==◌, ◌&&◌, ◌||◌, Bool, true, false, List, [], ◌∷◌, ◌++◌, length, map, not, refl, ap, sym}
-use Rattle.std.specs.Prelude.{Option, Some, None, flat_map, is_none, is_some, ⊤}
+use Rattle.std.proofs.Common.{◌≡◌, ◌∙◌, ℕ, ◌==◌, ◌&&◌, ◌||◌, Bool, true, false, List, [], ◌∷◌, ◌++◌, length, map, not, refl, ap, sym, inl, inr}
+use Rattle.std.specs.Prelude.{Option, Some, None, flat_map, is_none, ◌⊎◌, ⊤}
 use Rattle.std.specs.List.{AllByRecursion, list_all}
 use Rattle.std.proofs.lemmas.Bool.{and_from, and_parts}
 use Rattle.std.proofs.lemmas.List.{append_assoc, flat_map_more}
 use Rattle.std.proofs.lemmas.List.Folds.{list_all-append}
 use Rattle.chan_types.specs.declared.journal.Entry.{Entry}
 use Rattle.resolv_options.specs.Lasts.{last_or}
-use Rattle.channel_model.specs.Course.{AreTurns, Rest, Round, goes_on, has_no_turn, is_of_turn, is_timely, may_follow, skips, standing_after, wakes_at}
+use Rattle.channel_model.proofs.Theorems.{holds-grows}
+use Rattle.channel_model.specs.Course.{AreTurns, Rest, Round, Test, delivers_then, goes_on, has_no_turn, has_none_of, is_of_turn, is_timely, may_follow, rests_there, skips, soon, standing_after, waits_there, wakes_at}
 use Rattle.channel_model.specs.Completion.{pending, ready}
 use Rattle.channel_model.specs.Endings.{somewhere_behind}
 use Rattle.channel_model.specs.Journal.{Past, followed_by}
 use Rattle.channel_model.specs.Setting.{Setting}
 use Rattle.channel_model.specs.Stretch.{Standing, behind}
 use Rattle.channel_model.specs.Turn.{somewhere}
-use Rattle.event_runner.specs.UnderWay.{Reach, awaiting, delivered, following, has_come, has_rested, is_delivered, may_rest, rested, turned}
+use Rattle.event_runner.specs.UnderWay.{Reach, awaiting, delivered, following, has_come, rested, turned}
 
 -- no turns, or turns with a last one
 pub by_last : (P : List Round → Type 0) → P [] → ((before : List Round) (round : Round) → P (before ++ round ∷ [])) → (rounds : List Round) → P rounds
@@ -95,103 +96,151 @@ with_more more round = record round { between = round.between ++ more }
 abbrev pub with_rest : Rest → Round → Round
 with_rest rest round = record round { rest = Some rest }
 
-module _ (setting : Setting) where
+-- the seat made none of these entries, and none of more
+pub none_more : (seat : ℕ) (es more : List Entry) → has_none_of seat es ≡ true → has_none_of seat more ≡ true → has_none_of seat (es ++ more) ≡ true
+none_more seat es more p q = list_all-append (λ entry. not (entry.seat == seat)) es more ∙ and_from (has_none_of seat es) (has_none_of seat more) p q
+
+module _ (setting : Setting) (seat slice : ℕ) where
+  abbrev Goes : Round → Bool
+  Goes = goes_on setting seat slice
+
   -- what may follow a turn may follow it where others come behind that
-  may_snoc : (x : Round) (rounds : List Round) (round : Round) → goes_on setting x ≡ true → may_follow setting x (rounds ++ round ∷ []) ≡ true
+  may_snoc : (x : Round) (rounds : List Round) (round : Round) → Goes x ≡ true → may_follow setting seat slice x (rounds ++ round ∷ []) ≡ true
   may_snoc x [] round h = h
   may_snoc x (y ∷ rounds) round h = h
 
-  may_start : (x : Round) (rounds : List Round) (round : Round) → may_follow setting x (rounds ++ round ∷ []) ≡ true → goes_on setting x ≡ true
+  may_start : (x : Round) (rounds : List Round) (round : Round) → may_follow setting seat slice x (rounds ++ round ∷ []) ≡ true → Goes x ≡ true
   may_start x [] round h = h
   may_start x (y ∷ rounds) round h = h
 
-  may_of : (x : Round) (rounds : List Round) → goes_on setting x ≡ true → may_follow setting x rounds ≡ true
+  may_of : (x : Round) (rounds : List Round) → Goes x ≡ true → may_follow setting seat slice x rounds ≡ true
   may_of x [] h = refl
   may_of x (y ∷ rounds) h = h
 
-  module _ (seat slice : ℕ) where
-    -- one turn more, where the run goes on behind each
-    pub turns_snoc : (s : Standing) (rounds : List Round) (round : Round) → AreTurns setting seat slice s rounds → list_all (goes_on setting) rounds ≡ true →
-        AreTurns setting seat slice (standing_after s rounds) (round ∷ []) → AreTurns setting seat slice s (rounds ++ round ∷ [])
-    turns_snoc s [] round turns go one = one
-    turns_snoc s (x ∷ rounds) round turns go one =
-        let parts = and_parts (goes_on setting x) (list_all (goes_on setting) rounds) go in
-        (turns.0, turns.1, turns.2, may_snoc x rounds round parts.0, turns_snoc (behind x.new x.between) rounds round turns.4 parts.1 one)
+  -- one turn more, where the run goes on behind each
+  pub turns_snoc : (s : Standing) (rounds : List Round) (round : Round) → AreTurns setting seat slice s rounds → list_all Goes rounds ≡ true →
+      AreTurns setting seat slice (standing_after s rounds) (round ∷ []) → AreTurns setting seat slice s (rounds ++ round ∷ [])
+  turns_snoc s [] round turns go one = one
+  turns_snoc s (x ∷ rounds) round turns go one =
+      let parts = and_parts (Goes x) (list_all Goes rounds) go in
+      (turns.0, turns.1, turns.2, may_snoc x rounds round parts.0, turns_snoc (behind x.new x.between) rounds round turns.4 parts.1 one)
 
-    -- and back
-    pub turns_unsnoc : (s : Standing) (rounds : List Round) (round : Round) → AreTurns setting seat slice s (rounds ++ round ∷ []) →
-        AreTurns setting seat slice s rounds × (list_all (goes_on setting) rounds ≡ true) × AreTurns setting seat slice (standing_after s rounds) (round ∷ [])
-    turns_unsnoc s [] round turns = (tt, refl, turns)
-    turns_unsnoc s (x ∷ rounds) round turns =
-        let rest = turns_unsnoc (behind x.new x.between) rounds round turns.4 in
-        let go : goes_on setting x ≡ true = may_start x rounds round turns.3 in
-        ((turns.0, turns.1, turns.2, may_of x rounds go, rest.0), and_from (goes_on setting x) (list_all (goes_on setting) rounds) go rest.1, rest.2)
+  -- and back
+  pub turns_unsnoc : (s : Standing) (rounds : List Round) (round : Round) → AreTurns setting seat slice s (rounds ++ round ∷ []) →
+      AreTurns setting seat slice s rounds × (list_all Goes rounds ≡ true) × AreTurns setting seat slice (standing_after s rounds) (round ∷ [])
+  turns_unsnoc s [] round turns = (tt, refl, turns)
+  turns_unsnoc s (x ∷ rounds) round turns =
+      let rest = turns_unsnoc (behind x.new x.between) rounds round turns.4 in
+      let go : Goes x ≡ true = may_start x rounds round turns.3 in
+      ((turns.0, turns.1, turns.2, may_of x rounds go, rest.0), and_from (Goes x) (list_all Goes rounds) go rest.1, rest.2)
 
-    -- the last turn may change as long as it stays one
-    pub turns_last : (s : Standing) (before : List Round) (old new : Round) → AreTurns setting seat slice s (before ++ old ∷ []) →
-        (AreTurns setting seat slice (standing_after s before) (old ∷ []) → AreTurns setting seat slice (standing_after s before) (new ∷ [])) →
-        AreTurns setting seat slice s (before ++ new ∷ [])
-    turns_last s before old new turns change =
-        let parts = turns_unsnoc s before old turns in
-        turns_snoc s before new parts.0 parts.1 (change parts.2)
+  -- the last turn may change as long as it stays one
+  pub turns_last : (s : Standing) (before : List Round) (old new : Round) → AreTurns setting seat slice s (before ++ old ∷ []) →
+      (AreTurns setting seat slice (standing_after s before) (old ∷ []) → AreTurns setting seat slice (standing_after s before) (new ∷ [])) →
+      AreTurns setting seat slice s (before ++ new ∷ [])
+  turns_last s before old new turns change =
+      let parts = turns_unsnoc s before old turns in
+      turns_snoc s before new parts.0 parts.1 (change parts.2)
 
-    -- where the last turn goes on, all do
-    pub all_go_on : (s : Standing) (rounds : List Round) → AreTurns setting seat slice s rounds → last_or true (map (goes_on setting) rounds) ≡ true → list_all (goes_on setting) rounds ≡ true
-    all_go_on s rounds = by_last
-        (λ rounds. AreTurns setting seat slice s rounds → last_or true (map (goes_on setting) rounds) ≡ true → list_all (goes_on setting) rounds ≡ true)
-        (λ turns last. refl)
-        (λ before round turns last.
-        let go : goes_on setting round ≡ true = sym (last_or-snoc (goes_on setting) true before round) ∙ last in
-        list_all-append (goes_on setting) before (round ∷ []) ∙ and_from (list_all (goes_on setting) before) (list_all (goes_on setting) (round ∷ []))
-        (turns_unsnoc s before round turns).1 (and_from (goes_on setting round) true go refl))
-        rounds
+  -- where the last turn goes on, all do
+  pub all_go_on : (s : Standing) (rounds : List Round) → AreTurns setting seat slice s rounds → last_or true (map Goes rounds) ≡ true → list_all Goes rounds ≡ true
+  all_go_on s rounds = by_last
+      (λ rounds. AreTurns setting seat slice s rounds → last_or true (map Goes rounds) ≡ true → list_all Goes rounds ≡ true)
+      (λ turns last. refl)
+      (λ before round turns last.
+      let go : Goes round ≡ true = sym (last_or-snoc Goes true before round) ∙ last in
+      list_all-append Goes before (round ∷ []) ∙ and_from (list_all Goes before) (list_all Goes (round ∷ []))
+      (turns_unsnoc s before round turns).1 (and_from (Goes round) true go refl))
+      rounds
 
-    -- more entries behind a turn
-    pub turn_more : (s : Standing) (more : List Entry) (round : Round) → has_no_turn more ≡ true → AreTurns setting seat slice s (round ∷ []) → AreTurns setting seat slice s (with_more more round ∷ [])
-    turn_more s more round none turns =
-        (turns.0, no_turn-append round.between more turns.1 none, timely round.rest turns.2, refl, tt)
-      where
-        timely : (rest : Option Rest) → is_timely setting slice (record round { rest = rest }) ≡ true → is_timely setting slice (record round { between = round.between ++ more; rest = rest }) ≡ true
-        timely None h = h
-        timely (Some r) h =
-            let called : Past → Bool = λ past. not (skips setting past) in
-            let in_time : Past → Bool = λ past. r.until == wakes_at setting round.reading slice past in
-            let parts = and_parts (somewhere called round.new.past round.between) (somewhere in_time round.new.past round.between) h in
-            and_from (somewhere called round.new.past (round.between ++ more)) (somewhere in_time round.new.past (round.between ++ more))
-            (somewhere-grows called round.new.past round.between more parts.0) (somewhere-grows in_time round.new.past round.between more parts.1)
+  -- ---- tests of positions, with more entries behind
 
-  -- two of which the second holds where the first does
-  or_grows : (b c d : Bool) → (c ≡ true → d ≡ true) → (b || c) ≡ true → (b || d) ≡ true
-  or_grows b c d grows h = by_either b c h (λ p. either_first b d p) (λ p. either_second b d (grows p))
+  -- wherever the one test holds the other does, with more entries behind
+  abbrev pub Grows : Test → Test → List Entry → Type 0
+  Grows one other more = (past : Past) (es : List Entry) → one past es ≡ true → other past (es ++ more) ≡ true
 
-  -- where all was delivered and nothing waits behind a turn, it is so with more entries behind it
-  delivered_more : (more : List Entry) (round : Round) → has_come setting delivered round ≡ true → has_come setting delivered (with_more more round) ≡ true
-  delivered_more more round come =
-      let parts = and_parts (is_none round.rest) (is_delivered setting round) come in
-      and_from (is_none round.rest) (is_delivered setting (with_more more round)) parts.0
-      (somewhere-grows (λ past. length (ready setting past) == 0) round.new.past round.between more parts.1)
+  module _ (one other : Test) (more : List Entry) (grows : Grows one other more) where
+    soon_more : Grows (soon seat one) (soon seat other) more
+    soon_more past es h = holds-grows (λ entry. entry.seat == seat) one other more grows past es h
 
-  -- so far as a turn has come, it has come with more entries behind it
-  pub come_more : (reach : Reach) (more : List Entry) (round : Round) → has_come setting reach round ≡ true → has_come setting reach (with_more more round) ≡ true
-  come_more turned more round come = come
-  come_more delivered more round come = delivered_more more round come
-  come_more awaiting more round come =
-      let parts = and_parts (has_come setting delivered round) (may_rest setting round) come in
-      and_from (has_come setting delivered (with_more more round)) (may_rest setting (with_more more round)) (delivered_more more round parts.0)
-      (somewhere-grows (λ past. not (skips setting past)) round.new.past round.between more parts.1)
-  come_more rested more round come =
-      let parts = and_parts (is_delivered setting round) (has_rested setting round) come in
-      and_from (is_delivered setting (with_more more round)) (has_rested setting (with_more more round))
-      (somewhere-grows (λ past. length (ready setting past) == 0) round.new.past round.between more parts.0)
-      (or_grows (is_some round.rest) (somewhere (skips setting) round.new.past round.between) (somewhere (skips setting) round.new.past (round.between ++ more))
-      (somewhere-grows (skips setting) round.new.past round.between more) parts.1)
-  come_more following more round come =
-      let some : Past → Bool = λ past. not (length (pending setting past) == 0) in
-      let parts = and_parts (is_delivered setting round && somewhere some round.new.past round.between) (has_rested setting round) come in
-      let others = and_parts (is_delivered setting round) (somewhere some round.new.past round.between) parts.0 in
-      and_from (is_delivered setting (with_more more round) && somewhere some round.new.past (round.between ++ more)) (has_rested setting (with_more more round))
-      (and_from (is_delivered setting (with_more more round)) (somewhere some round.new.past (round.between ++ more))
-      (somewhere-grows (λ past. length (ready setting past) == 0) round.new.past round.between more others.0)
-      (somewhere-grows some round.new.past round.between more others.1))
-      (or_grows (is_some round.rest) (somewhere (skips setting) round.new.past round.between) (somewhere (skips setting) round.new.past (round.between ++ more))
-      (somewhere-grows (skips setting) round.new.past round.between more) parts.1)
+  waits_more : (reading until : ℕ) (one other : Test) (more : List Entry) → Grows one other more → Grows (waits_there setting seat slice reading until one) (waits_there setting seat slice reading until other) more
+  waits_more reading until one other more grows past es h =
+      let first : Test = λ here later. (until == wakes_at setting reading slice here) && one here later in
+      let second : Test = λ here later. (until == wakes_at setting reading slice here) && other here later in
+      let parts = and_parts (not (skips setting past)) (soon seat first past es) h in
+      and_from (not (skips setting past)) (soon seat second past (es ++ more)) parts.0
+      (soon_more first second more
+      (λ here later held.
+      let both = and_parts (until == wakes_at setting reading slice here) (one here later) held in
+      and_from (until == wakes_at setting reading slice here) (other here (later ++ more)) both.0 (grows here later both.1))
+      past es parts.1)
+
+  rests_more : (reading : ℕ) (rest : Option Rest) (one other : Test) (more : List Entry) → Grows one other more → Grows (rests_there setting seat slice reading rest one) (rests_there setting seat slice reading rest other) more
+  rests_more reading None one other more grows past es h =
+      let parts = and_parts (skips setting past) (soon seat one past es) h in
+      and_from (skips setting past) (soon seat other past (es ++ more)) parts.0 (soon_more one other more grows past es parts.1)
+  rests_more reading (Some r) one other more grows past es h = waits_more reading r.until (soon seat one) (soon seat other) more (soon_more one other more grows) past es h
+
+  -- more entries behind a turn
+  pub turn_more : (s : Standing) (more : List Entry) (round : Round) → has_no_turn more ≡ true → AreTurns setting seat slice s (round ∷ []) → AreTurns setting seat slice s (with_more more round ∷ [])
+  turn_more s more round none turns =
+      (turns.0, no_turn-append round.between more turns.1 none, timely round.rest turns.2, refl, tt)
+    where
+      timely : (rest : Option Rest) → is_timely setting seat slice (record round { rest = rest }) ≡ true → is_timely setting seat slice (record round { between = round.between ++ more; rest = rest }) ≡ true
+      timely None h = h
+      timely (Some r) h =
+          let there : Test = waits_there setting seat slice round.reading r.until (λ here later. true) in
+          holds-grows (λ entry. false) there there more (waits_more round.reading r.until (λ here later. true) (λ here later. true) more (λ past es held. refl)) round.new.past round.between h
+
+  delivers_more : (one other : Test) (more : List Entry) → Grows one other more → (round : Round) → delivers_then setting seat slice one round ≡ true → delivers_then setting seat slice other (with_more more round) ≡ true
+  delivers_more one other more grows round h =
+      let none : Past → Bool = λ past. length (ready setting past) == 0 in
+      holds-grows (λ entry. false) (λ past es. none past && soon seat one past es) (λ past es. none past && soon seat other past es) more
+      (λ past es held.
+      let parts = and_parts (none past) (soon seat one past es) held in
+      and_from (none past) (soon seat other past (es ++ more)) parts.0 (soon_more one other more grows past es parts.1))
+      round.new.past round.between h
+
+  module _ (more : List Entry) (none : has_none_of seat more ≡ true) where
+    idle_more : Grows (λ here later. has_none_of seat later) (λ here later. has_none_of seat later) more
+    idle_more past es h = none_more seat es more h none
+
+    -- a test of what happened before, and no entry of the seat from there on
+    tested_more : (test : Past → Bool) → Grows (λ here later. test here && has_none_of seat later) (λ here later. test here && has_none_of seat later) more
+    tested_more test past es h =
+        let parts = and_parts (test past) (has_none_of seat es) h in
+        and_from (test past) (has_none_of seat (es ++ more)) parts.0 (idle_more past es parts.1)
+
+    -- so far as a turn has come, it has come with more entries behind it
+    others_more : (reach : Reach) (round : Round) → has_come setting seat slice reach round ≡ true → has_come setting seat slice reach (with_more more round) ≡ true
+    others_more turned round come = come
+    others_more delivered round come =
+        let idle : Test = λ here later. has_none_of seat later in
+        let parts = and_parts (is_none round.rest) (delivers_then setting seat slice idle round) come in
+        and_from (is_none round.rest) (delivers_then setting seat slice idle (with_more more round)) parts.0 (delivers_more idle idle more idle_more round parts.1)
+    others_more awaiting round come =
+        let called : Test = λ here later. not (skips setting here) && has_none_of seat later in
+        let parts = and_parts (is_none round.rest) (delivers_then setting seat slice called round) come in
+        and_from (is_none round.rest) (delivers_then setting seat slice called (with_more more round)) parts.0
+        (delivers_more called called more (tested_more (λ past. not (skips setting past))) round parts.1)
+    others_more rested round come =
+        let idle : Test = λ here later. has_none_of seat later in
+        delivers_more (rests_there setting seat slice round.reading round.rest idle) (rests_there setting seat slice round.reading round.rest idle) more
+        (rests_more round.reading round.rest idle idle more idle_more) round come
+    others_more following round come =
+        let some : Test = λ here later. not (length (pending setting here) == 0) && has_none_of seat later in
+        delivers_more (rests_there setting seat slice round.reading round.rest some) (rests_there setting seat slice round.reading round.rest some) more
+        (rests_more round.reading round.rest some some more (tested_more (λ past. not (length (pending setting past) == 0)))) round come
+
+  -- the same, where the turn was just made, whoever makes them
+  pub come_more : (reach : Reach) (more : List Entry) (round : Round) → (reach ≡ turned) ⊎ (has_none_of seat more ≡ true) → has_come setting seat slice reach round ≡ true →
+      has_come setting seat slice reach (with_more more round) ≡ true
+  come_more turned more round may come = come
+  come_more delivered more round (inl is) come = absurd (cc is)
+  come_more delivered more round (inr none) come = others_more more none delivered round come
+  come_more awaiting more round (inl is) come = absurd (cc is)
+  come_more awaiting more round (inr none) come = others_more more none awaiting round come
+  come_more rested more round (inl is) come = absurd (cc is)
+  come_more rested more round (inr none) come = others_more more none rested round come
+  come_more following more round (inl is) come = absurd (cc is)
+  come_more following more round (inr none) come = others_more more none following round come

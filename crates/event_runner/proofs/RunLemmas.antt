@@ -1,6 +1,6 @@
 -- Calls of a runner and of its desk, one behind the other, and what journal and log have come to behind them.
-use Rattle.std.proofs.Common.{◌≡◌, ◌≢◌, ◌∙◌, ℕ, ◌+◌, ◌-◌, ◌≤◌, ◌==◌, ◌||◌, Bool, true, false, List, [], ◌∷◌, ◌++◌, map, not, cond, refl, ap, sym, subst, inl, inr, ⊎_elim, arith}
-use Rattle.std.specs.Prelude.{IsTrue, Option, Some, None, filter_map, option_map, min, ◌^◌, ⊤}
+use Rattle.std.proofs.Common.{◌≡◌, ◌≢◌, ◌∙◌, ℕ, ◌+◌, ◌-◌, ◌≤◌, ◌==◌, ◌&&◌, ◌||◌, Bool, true, false, List, [], ◌∷◌, ◌++◌, length, length-append, map, not, cond, refl, ap, sym, subst, inl, inr, ⊎_elim, arith}
+use Rattle.std.specs.Prelude.{IsTrue, Option, Some, None, filter_map, option_map, min, ◌^◌, ◌⊎◌, ⊤}
 use Rattle.std.specs.List.{list_all}
 use Rattle.std.proofs.lemmas.Bool.{and_from, and_parts}
 use Rattle.std.proofs.lemmas.List.{append-nil, append_assoc, append_cancel_left}
@@ -12,7 +12,7 @@ use Rattle.net_world.specs.declared.answers.Waited.TheVariants.{Failed as NotWai
 use Rattle.net_world.specs.declared.log.WorldCall.{WorldCall}
 use Rattle.net_world.specs.declared.log.WorldCall.TheVariants.{Wait}
 use Rattle.channel_model.specs.Completion.{pending, ready}
-use Rattle.channel_model.specs.Course.{IsCourse, IsCutCourse, Round, has_no_turn, is_of_turn, serves_from, skips, standing_after}
+use Rattle.channel_model.specs.Course.{IsCourse, IsCutCourse, Round, has_no_turn, has_none_of, is_of_turn, serves_from, skips, standing_after}
 use Rattle.channel_model.specs.Endings.{IsStalledBehind, LastWaitFailed, waited_by}
 use Rattle.channel_model.specs.Journal.{Past, followed_by, own_entries, past_of}
 use Rattle.channel_model.specs.Known.{GoesOn, Known}
@@ -56,9 +56,27 @@ none_of_turn seat (e ∷ es) seats own =
         or_no false h = h
 
 -- a look made no entry of its own
+looked_own : (old new : Known) (looked : HasLooked old new) → own_entries old.seat looked.goes_on.since ≡ []
+looked_own old new looked = sym (append_cancel_left old.own [] (own_entries old.seat looked.goes_on.since) (append-nil old.own ∙ sym looked.own ∙ looked.goes_on.own))
+
 looked_none : (old new : Known) (looked : HasLooked old new) → has_no_turn (own_entries old.seat looked.goes_on.since) ≡ true
-looked_none old new looked =
-    ap has_no_turn (sym (append_cancel_left old.own [] (own_entries old.seat looked.goes_on.since) (append-nil old.own ∙ sym looked.own ∙ looked.goes_on.own)))
+looked_none old new looked = ap has_no_turn (looked_own old new looked)
+
+-- entries of which none is the seat's own
+none_own : (seat : ℕ) (es : List Entry) → own_entries seat es ≡ [] → has_none_of seat es ≡ true
+none_own seat [] own = refl
+none_own seat (e ∷ es) own = by_seat (e.seat == seat) own (none_own seat es)
+  where
+    by_seat : (b : Bool) → cond b (e ∷ own_entries seat es) (own_entries seat es) ≡ [] → (own_entries seat es ≡ [] → has_none_of seat es ≡ true) → (not b && has_none_of seat es) ≡ true
+    by_seat true is rest = absurd (cc is)
+    by_seat false is rest = rest is
+
+-- where such entries may stand: before the first turn or right behind the last one, whosever they are, or later, where they are other seats'
+abbrev pub MayStand : ℕ → Reach → ℕ → List Entry → Type 0
+MayStand turns reach seat es = (turns ≡ 0) ⊎ (reach ≡ turned) ⊎ (has_none_of seat es ≡ true)
+
+looked_stands : (turns : ℕ) (reach : Reach) (old new : Known) (looked : HasLooked old new) → MayStand turns reach old.seat looked.goes_on.since
+looked_stands turns reach old new looked = inr (inr (none_own old.seat looked.goes_on.since (looked_own old new looked)))
 
 module _ (slice turns asides : ℕ) where
   -- what is said of a run under way, and back
@@ -103,9 +121,9 @@ module _ (slice turns asides : ℕ) where
   WayWith holds reach known running calls = (way : IsUnderWay slice turns asides reach known running calls) × AreBetween holds way.course.rounds
 
   -- entries that no turn made stand behind
-  pub way_behind : (holds : Past → List Entry → Type 0) (reach : Reach) (old new : Known) (es : List Entry) (running : Running) (calls : List WorldCall) → Trail old new es → IsTurnOwner new → has_no_turn (own_entries old.seat es) ≡ true →
+  pub way_behind : (holds : Past → List Entry → Type 0) (reach : Reach) (old new : Known) (es : List Entry) (running : Running) (calls : List WorldCall) → Trail old new es → IsTurnOwner new → has_no_turn (own_entries old.seat es) ≡ true → MayStand turns reach old.seat es →
       ((past : Past) (between : List Entry) → followed_by past between ≡ past_of old.seen → holds past between → holds past (between ++ es)) → WayWith holds reach old running calls → WayWith holds reach new running calls
-  way_behind holds reach old new es running calls trail owner own grows way =
+  way_behind holds reach old new es running calls trail owner own may grows way =
       let none : has_no_turn es ≡ true = none_of_turn old.seat es (owner_of old new es trail owner) own in
       let first = way.0.course.first in
       let first_asides = way.0.course.first_asides in
@@ -113,16 +131,24 @@ module _ (slice turns asides : ℕ) where
       (λ f all. (way_to reach old new es running calls (first ++ es) first_asides [] trail owner (facts_first_more old.setting old.seat slice turns asides first first_asides reach old.seen running calls es none f), tt))
       (λ before round f all. (
         way_to reach old new es running calls first first_asides (before ++ with_more es round ∷ []) trail owner
-            (facts_last_more old.setting old.seat slice turns asides first first_asides reach old.seen running calls es before round none f),
+            (facts_last_more old.setting old.seat slice turns asides first first_asides reach old.seen running calls es before round none (behind_one before round f.plain.count) f),
         between_last holds before round (with_more es round)
             (grows round.new.past round.between (ends_here old.setting old.seat slice turns asides first first_asides old.seen running calls reach before round f)) all,
       ))
       way.0.course.rounds (facts_of reach old running calls way.0) way.1
+    where
+      -- where there is a turn
+      behind_one : (before : List Round) (round : Round) → length (before ++ round ∷ []) ≡ turns → (reach ≡ turned) ⊎ (has_none_of old.seat es ≡ true)
+      behind_one before round count = by may
+        where
+          by : MayStand turns reach old.seat es → (reach ≡ turned) ⊎ (has_none_of old.seat es ≡ true)
+          by (inl no_turn) = absurd (omega (arith, count, no_turn, length-append before (round ∷ [])))
+          by (inr others) = others
 
-  pub way_more : (reach : Reach) (old new : Known) (es : List Entry) (running : Running) (calls : List WorldCall) → Trail old new es → IsTurnOwner new → has_no_turn (own_entries old.seat es) ≡ true →
+  pub way_more : (reach : Reach) (old new : Known) (es : List Entry) (running : Running) (calls : List WorldCall) → Trail old new es → IsTurnOwner new → has_no_turn (own_entries old.seat es) ≡ true → MayStand turns reach old.seat es →
       IsUnderWay slice turns asides reach old running calls → IsUnderWay slice turns asides reach new running calls
-  way_more reach old new es running calls trail owner own way =
-      (way_behind (λ past es. ⊤) reach old new es running calls trail owner own (λ past between is any. tt) (way, between_any way.course.rounds)).0
+  way_more reach old new es running calls trail owner own may way =
+      (way_behind (λ past es. ⊤) reach old new es running calls trail owner own may (λ past between is any. tt) (way, between_any way.course.rounds)).0
 
   -- a wait stands behind the last turn
   pub way_rested : (holds : Past → List Entry → Type 0) (known : Known) (running : Running) (calls : List WorldCall) (until : ℕ) (outcome : Waited) → 1 ≤ turns →
@@ -179,7 +205,7 @@ module _ (slice turns asides : ℕ) (old new : Known) (es : List Entry) (trail :
   pub way_cut : Leaves IsCutShort (run_of old running log) es cs → IsSoFar slice (turns + 1) asides new (calls ++ cs)
   way_cut leaves = ⊎_elim
       (λ none.
-      let more = way_more slice turns asides following old new es running calls trail owner (ap (λ l. has_no_turn (own_entries old.seat l)) none.0) way in
+      let more = way_more slice turns asides following old new es running calls trail owner (ap (λ l. has_no_turn (own_entries old.seat l)) none.0) (inr (inr (ap (has_none_of old.seat) none.0))) way in
       let same : calls ≡ calls ++ cs = sym (ap (λ l. calls ++ l) none.1 ∙ append-nil calls) in
       (turns, omega arith, inl (subst (λ l. IsCourse new.setting new.seat slice new.seen l turns asides) same more.course)))
       (λ cut. (
@@ -209,6 +235,7 @@ module _ (slice turns asides : ℕ) (old new : Known) (es : List Entry) (trail :
         no_turn = refl;
         journal_is = sym (append-nil (old.seen ++ es));
         log_is = refl;
+        of_seat = subst (λ seat. list_all (is_seats seat) (old.seen ++ es) ≡ true) trail.desk.seat (subst (λ l. list_all (is_seats new.seat) l ≡ true) trail.seen owner);
       }
 
 -- ---- the same since the run began, of a log that is told
@@ -239,12 +266,12 @@ module _ (slice : ℕ) where
 
   module _ (turns asides : ℕ) (l m : Option (List WorldCall)) where
     -- entries came that no turn makes, but for other seats'
-    pub runs_behind : (reach : Reach) (old new : Known) (running : Running) (goes : GoesOn old new) → IsTrue (has_no_turn (own_entries old.seat goes.since)) →
+    pub runs_behind : (reach : Reach) (old new : Known) (running : Running) (goes : GoesOn old new) → IsTrue (has_no_turn (own_entries old.seat goes.since)) → MayStand turns reach old.seat goes.since →
         RunsSince slice turns asides reach old running l m → RunsSince slice turns asides reach new running l m
-    runs_behind reach old new running goes own =
+    runs_behind reach old new running goes own may =
         let trail = trail_of old new goes in
         told_as (λ calls. IsTurnOwner old → IsUnderWay slice turns asides reach old running calls) (λ calls. IsTurnOwner new → IsUnderWay slice turns asides reach new running calls)
-        (λ calls way owner. way_more slice turns asides reach old new goes.since running calls trail owner own (way (owner_before old new goes.since trail owner))) l m
+        (λ calls way owner. way_more slice turns asides reach old new goes.since running calls trail owner own may (way (owner_before old new goes.since trail owner))) l m
 
     -- the run may have been cut short here
     pub ran_so_far : (reach : Reach) (known : Known) (running : Running) → RunsSince slice turns asides reach known running l m → RanSince slice turns asides known l m
@@ -307,9 +334,9 @@ module _ (slice : ℕ) where
     runs_waited : (old new : Known) (running : Running) (n : Option (List WorldCall)) (outcome : Waited) → 1 ≤ turns → HasWaited (min (running.reading + slice) (2 ^ 64 - 1)) outcome old new m n →
         RunsSince slice turns asides delivered old running l m → RunsSince slice turns asides rested new running l n
     runs_waited old new running n outcome some waited before =
-        let one = runs_behind delivered old waited.middle running waited.looked.goes_on (looked_none old waited.middle waited.looked) before in
+        let one = runs_behind delivered old waited.middle running waited.looked.goes_on (looked_none old waited.middle waited.looked) (looked_stands turns delivered old waited.middle waited.looked) before in
         let called = runs_awaiting waited.middle running (ap (λ setting. skips setting (past_of waited.middle.seen)) waited.looked.goes_on.desk.setting ∙ waited.not_skipped) one in
-        let two = runs_behind awaiting waited.middle new running waited.looked_again.goes_on (looked_none waited.middle new waited.looked_again) called in
+        let two = runs_behind awaiting waited.middle new running waited.looked_again.goes_on (looked_none waited.middle new waited.looked_again) (looked_stands turns awaiting waited.middle new waited.looked_again) called in
         let latest : ℕ = min (running.reading + slice) (2 ^ 64 - 1) in
         let until : ℕ = wakes_by old.setting latest (past_of new.seen) in
         let same : new.setting ≡ old.setting = waited.looked_again.goes_on.desk.setting ∙ waited.looked.goes_on.desk.setting in
@@ -338,7 +365,7 @@ module _ (slice : ℕ) where
             (facts_skipped new.setting new.seat slice turns asides w.course.first w.course.first_asides new.seen running calls w.course.rounds
             (ap (λ setting. skips setting (past_of new.seen)) skipped.looked.goes_on.desk.setting ∙ skipped.skipped)
             (facts_of slice turns asides delivered new running calls w)))
-            l m (runs_behind delivered old new running skipped.looked.goes_on (looked_none old new skipped.looked) before))
+            l m (runs_behind delivered old new running skipped.looked.goes_on (looked_none old new skipped.looked) (looked_stands turns delivered old new skipped.looked) before))
         by_answer Woken waited = runs_waited old new running n _ some waited before
         by_answer WaitFault waited = runs_waited old new running n _ some waited before
 
@@ -346,7 +373,7 @@ module _ (slice : ℕ) where
     pub runs_unpaused : (old new : Known) (running : Running) (n : Option (List WorldCall)) → HasLooked old new × (n ≡ m) → RunsSince slice turns asides delivered old running l m → RanSince slice turns asides new l n
     runs_unpaused old new running n looked before =
         subst (λ k. RanSince slice turns asides new l k) (sym looked.1)
-        (ran_so_far delivered new running (runs_behind delivered old new running looked.0.goes_on (looked_none old new looked.0) before))
+        (ran_so_far delivered new running (runs_behind delivered old new running looked.0.goes_on (looked_none old new looked.0) (looked_stands turns delivered old new looked.0) before))
 
 -- the first of two lists that are nothing is nothing
 front_empty : (xs ys : List Entry) → xs ++ ys ≡ [] → xs ≡ []

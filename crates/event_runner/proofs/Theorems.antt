@@ -2,7 +2,7 @@
 -- Courses of turns, behind which more entries stand.
 pub use Rattle.event_runner.proofs.CourseLemmas.{course_then, so_far_then, stalled_then}
 -- A run under way, from one call of its runner or its desk to the next.
-pub use Rattle.event_runner.proofs.RunLemmas.{ran_at_most, ran_so_far, runs_begin, runs_behind, runs_cut, runs_delivered, runs_failed, runs_following, runs_paused, runs_turned, runs_unbegun, runs_unpaused, told_both, waited_here, way_stalls}
+pub use Rattle.event_runner.proofs.RunLemmas.{MayStand, ran_at_most, ran_so_far, runs_begin, runs_behind, runs_cut, runs_delivered, runs_failed, runs_following, runs_paused, runs_turned, runs_unbegun, runs_unpaused, told_both, waited_here, way_stalls}
 -- The same, where a relation holds of what stands between turns.
 pub use Rattle.event_runner.proofs.RoundLemmas.{AreBetween}
 pub use Rattle.event_runner.proofs.RunLemmas.{WayWith}

@@ -1,13 +1,11 @@
 -- A run under way: where it stands between two calls of its runner, and how far it has come behind its last turn.
-use Rattle.std.specs.Prelude.{Bool, IsTrue, List, None, Option, is_none, is_some, length, map, not, true, ℕ, ◌&&◌, ◌==◌, ◌||◌, ◌≡◌, ◌≤◌}
+use Rattle.std.specs.Prelude.{Bool, IsTrue, List, None, Option, is_none, map, not, true, ℕ, ◌&&◌, ◌≡◌, ◌≤◌}
 use Rattle.net_world.specs.Logs.{LogGets}
 use Rattle.net_world.specs.declared.log.WorldCall.{WorldCall}
-use Rattle.channel_model.specs.Completion.{ready}
-use Rattle.channel_model.specs.Course.{IsCourse, IsCourseSoFar, Round, goes_on, skips, standing_after}
+use Rattle.channel_model.specs.Course.{IsCourse, IsCourseSoFar, Round, delivers_then, goes_on, has_none_of, rests_there, skips, standing_after}
 use Rattle.channel_model.specs.Known.{Known}
 use Rattle.channel_model.specs.Setting.{Setting}
 use Rattle.channel_model.specs.Stretch.{beginning, behind}
-use Rattle.channel_model.specs.Turn.{somewhere}
 use Rattle.resolv_options.specs.Lasts.{last_or}
 use Rattle.event_runner.specs.Running.{Running, run_of}
 use Rattle.event_runner.specs.State.{Holds, IsTurnOwner}
@@ -25,32 +23,20 @@ pub data Reach : Type 0 where
   -- then a request was pending: another turn may follow
   following : Reach
 
-module _ (setting : Setting) where
-  -- behind the turn there is a position at which nothing is ready
-  abbrev pub is_delivered : Round → Bool
-  is_delivered round = somewhere (λ past. length (ready setting past) == 0) round.new.past round.between
-
-  -- behind the turn there is a position at which a wait is called for
-  abbrev pub may_rest : Round → Bool
-  may_rest round = somewhere (λ past. not (skips setting past)) round.new.past round.between
-
-  -- behind the turn stands a wait, or a position at which none is called for
-  abbrev pub has_rested : Round → Bool
-  has_rested round = is_some round.rest || somewhere (skips setting) round.new.past round.between
-
-  -- a turn with what stands behind it has come so far
+module _ (setting : Setting) (seat slice : ℕ) where
+  -- a turn with what stands behind it has come so far; where it has come further than the turn, the seat makes no entry from there on
   abbrev pub has_come : Reach → Round → Bool
   has_come turned round = is_none round.rest
-  has_come delivered round = is_none round.rest && is_delivered round
-  has_come awaiting round = is_none round.rest && is_delivered round && may_rest round
-  has_come rested round = is_delivered round && has_rested round
-  has_come following round = goes_on setting round
+  has_come delivered round = is_none round.rest && delivers_then setting seat slice (λ here later. has_none_of seat later) round
+  has_come awaiting round = is_none round.rest && delivers_then setting seat slice (λ here later. not (skips setting here) && has_none_of seat later) round
+  has_come rested round = delivers_then setting seat slice (rests_there setting seat slice round.reading round.rest (λ here later. has_none_of seat later)) round
+  has_come following round = goes_on setting seat slice round
 
 -- what a desk has seen, and these calls, are a course of so many turns, and the run goes on behind each but the last
 pub record IsUnderWay (slice turns asides : ℕ) (reach : Reach) (known : Known) (running : Running) (calls : List WorldCall) : Type 0 where
   pub course : IsCourse known.setting known.seat slice known.seen calls turns asides
   -- the last turn, if there is one, has come so far
-  pub come : IsTrue (last_or true (map (has_come known.setting reach) course.rounds))
+  pub come : IsTrue (last_or true (map (has_come known.setting known.seat slice reach) course.rounds))
   -- the runner's reading of the clock is the last turn's, or 0 before the first
   pub reading : last_or 0 (map (λ round. round.reading) course.rounds) ≡ running.reading
   -- what the runner keeps is as the course's end has it

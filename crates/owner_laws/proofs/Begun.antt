@@ -2,7 +2,7 @@
 use Rattle.std.proofs.Common.{◌≡◌, ◌≢◌, ◌∙◌, ℕ, ◌+◌, ◌==◌, ◌||◌, true, not, List, [], ◌∷◌, ◌++◌, length, refl, ap, sym, subst, inl, inr, arith}
 use Rattle.std.specs.Prelude.{None, flat_map}
 use Rattle.std.specs.List.{list_all}
-use Rattle.std.proofs.lemmas.Bool.{and_from}
+use Rattle.std.proofs.lemmas.Bool.{and_from, and_parts, or_left}
 use Rattle.std.proofs.lemmas.List.{append-nil, append_assoc}
 use Rattle.std.proofs.lemmas.List.Folds.{list_all-append}
 use Rattle.chan_types.specs.declared.journal.Entry.{Entry}
@@ -60,7 +60,8 @@ pub begins_first : (setting : Setting) (journal : List Entry) (calls : List Worl
 begins_first setting journal calls turn = record { earlier = journal; behind = []; parts = sym (append-nil journal); turn = turn }
 
 -- the same of a turn that was cut short
-module _ (setting : Setting) (seen es : List Entry) (cs ds : List WorldCall) (reading : ℕ) (some : pending setting (past_of seen) ≢ []) (none : ready setting (past_of seen) ≡ []) where
+module _ (setting : Setting) (seen es : List Entry) (cs ds : List WorldCall) (reading : ℕ) (some : pending setting (past_of seen) ≢ []) (none : ready setting (past_of seen) ≡ [])
+    (owner : list_all (λ entry. not (is_of_turn entry) || (entry.seat == 0)) (seen ++ es) ≡ true) where
   pub begins_cut : (turns : ℕ) → turns ≡ 0 → (course : IsCourse setting 0 longest_slice seen cs turns 0) → IsCutTurn setting 0 reading (standing_after (behind beginning course.first) course.rounds) es ds →
       BeginsCut setting (seen ++ es) (cs ++ ds)
   begins_cut turns no_turn course turn =
@@ -81,6 +82,7 @@ module _ (setting : Setting) (seen es : List Entry) (cs ds : List WorldCall) (re
           no_turn = refl;
           journal_is = sym (append-nil (seen ++ es));
           log_is = refl;
+          of_seat = owner;
         };
         some_pending = subst (λ journal. pending setting (past_of journal) ≢ []) first some;
         none_ready = subst (λ journal. ready setting (past_of journal) ≡ []) first none;
@@ -90,7 +92,7 @@ module _ (setting : Setting) (seen es : List Entry) (cs ds : List WorldCall) (re
       first_is [] count journal = journal ∙ append-nil course.first
       first_is (round ∷ rounds) count journal = absurd (omega (arith, count))
 
-      none_go : (rounds : List Round) → length rounds ≡ 0 → list_all (goes_on setting) rounds ≡ true
+      none_go : (rounds : List Round) → length rounds ≡ 0 → list_all (goes_on setting 0 longest_slice) rounds ≡ true
       none_go [] count = refl
       none_go (round ∷ rounds) count = absurd (omega (arith, count))
 
@@ -123,6 +125,13 @@ begins_on setting journal calls ds begins = record {
   turn = first_on setting begins.earlier calls ds begins.turn;
 }
 
+-- entries that no turn makes are none of another seat's turns
+no_others : (es : List Entry) → has_no_turn es ≡ true → list_all (λ entry. not (is_of_turn entry) || (entry.seat == 0)) es ≡ true
+no_others [] none = refl
+no_others (e ∷ es) none =
+    let parts = and_parts (not (is_of_turn e)) (has_no_turn es) none in
+    and_from (not (is_of_turn e) || (e.seat == 0)) (list_all (λ entry. not (is_of_turn entry) || (entry.seat == 0)) es) (or_left (not (is_of_turn e)) (e.seat == 0) parts.0) (no_others es parts.1)
+
 -- behind a first turn, whole or cut short, entries that no turn makes may stand
 pub so_far_behind : (setting : Setting) (journal es : List Entry) (calls : List WorldCall) → has_no_turn es ≡ true → BeginsSoFar setting journal calls → BeginsSoFar setting (journal ++ es) calls
 so_far_behind setting journal es calls none (inl whole) = inl (begins_behind setting journal es calls whole)
@@ -142,6 +151,8 @@ so_far_behind setting journal es calls none (inr cut) = inr (record {
     no_turn = list_all-append (λ entry. not (is_of_turn entry)) cut.turn.later es ∙ and_from (has_no_turn cut.turn.later) (has_no_turn es) cut.turn.no_turn none;
     journal_is = ap (λ l. l ++ es) cut.turn.journal_is ∙ append_assoc (cut.turn.earlier ++ cut.turn.cut) cut.turn.later es;
     log_is = cut.turn.log_is;
+    of_seat = list_all-append (λ entry. not (is_of_turn entry) || (entry.seat == 0)) journal es
+        ∙ and_from (list_all (λ entry. not (is_of_turn entry) || (entry.seat == 0)) journal) (list_all (λ entry. not (is_of_turn entry) || (entry.seat == 0)) es) cut.turn.of_seat (no_others es none);
   };
   some_pending = cut.some_pending;
   none_ready = cut.none_ready;

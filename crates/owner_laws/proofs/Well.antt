@@ -157,16 +157,16 @@ module _ (turns : ℕ) (b : Owned) (l m : Option (List WorldCall)) (well : RunsW
             λ some.
                 subst (λ s. BeginsSoFar s c.seen (cs ++ ds)) (sym stops.goes_on.desk.setting)
                 (subst (λ journal. BeginsSoFar b.setting journal (cs ++ ds)) (sym stops.goes_on.seen)
-                (by es cs ds (was.1 owned).1 way.course short some (nat_lt 0 turns) refl)),
+                (by es cs ds (was.1 owned).1 way.course short some (subst (λ journal. list_all (λ entry. not (is_of_turn entry) || (entry.seat == 0)) journal ≡ true) stops.goes_on.seen owner) (nat_lt 0 turns) refl)),
           ))
           l m n both stops.told
         where
           by : (es : List Entry) (cs ds : List WorldCall) → AreBegun turns b cs → (course : IsCourse b.setting 0 longest_slice b.seen cs turns 0) →
-              IsCutShort b.setting 0 (standing_after (behind beginning course.first) course.rounds) es ds → 1 ≤ turns_in (cs ++ ds) → (is_first : Bool) → nat_lt 0 turns ≡ is_first → BeginsSoFar b.setting (b.seen ++ es) (cs ++ ds)
-          by es cs ds begun course short some true is = inl (begins_on b.setting (b.seen ++ es) cs ds (begins_behind b.setting b.seen es cs (begun (ltb-true 0 turns is))))
-          by es cs ds begun course (inl none) some false is =
+              IsCutShort b.setting 0 (standing_after (behind beginning course.first) course.rounds) es ds → 1 ≤ turns_in (cs ++ ds) → list_all (λ entry. not (is_of_turn entry) || (entry.seat == 0)) (b.seen ++ es) ≡ true → (is_first : Bool) → nat_lt 0 turns ≡ is_first → BeginsSoFar b.setting (b.seen ++ es) (cs ++ ds)
+          by es cs ds begun course short some whole true is = inl (begins_on b.setting (b.seen ++ es) cs ds (begins_behind b.setting b.seen es cs (begun (ltb-true 0 turns is))))
+          by es cs ds begun course (inl none) some whole false is =
               absurd (omega (arith, some, ap (λ l. turns_in (cs ++ l)) none.1 ∙ ap turns_in (append-nil cs), course_reads b.setting 0 longest_slice b.seen cs turns 0 course, ltb-false 0 turns is))
-          by es cs ds begun course (inr cut) some false is = inr (begins_cut b.setting b.seen es cs ds cut.0 asked.0 asked.1 turns (omega (arith, ltb-false 0 turns is)) course cut.1)
+          by es cs ds begun course (inr cut) some whole false is = inr (begins_cut b.setting b.seen es cs ds cut.0 asked.0 asked.1 whole turns (omega (arith, ltb-false 0 turns is)) course cut.1)
 
     module _ (n : Option (List WorldCall)) (latest : ℕ) where
       -- a wait failed

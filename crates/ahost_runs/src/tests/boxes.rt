@@ -34,9 +34,13 @@ struct Recorder {
 }
 
 impl Done for Recorder {
+    ghost name = { λ recorder. recorder.inner.plan.tag };
+
     ghost plan = { λ recorder. recorder.inner.plan };
 
     ghost told = { λ recorder. recorder.inner.told };
+
+    ghost refusal = { λ recorder. recorder.inner.refusal };
 
     fn script(&self) -> &Script {
         self.inner.script()
@@ -51,7 +55,9 @@ impl Done for Recorder {
         self.inner.done(answer, hand);
     }
 
-    fn refused(&mut self, _why: Refusal) {}
+    fn refused(&mut self, why: Refusal) {
+        self.inner.refused(why);
+    }
 }
 
 /// Notes that this answer was told.

@@ -1,4 +1,4 @@
-use Rattle.std.proofs.Common.{ap, arith, refl, ◌∙◌}
+use Rattle.std.proofs.Common.{ap, arith, inl, refl, ◌∙◌}
 use Rattle.std.specs.Prelude.{is_err}
 use Rattle.ahost_tool.proofs.LoopLemmas.{asked_here, ends_completed, ends_cut, ends_failed, ends_stalled, ends_unpaused, ends_unset, made_none, made_paused, made_then, then_cut, then_paused, then_whole}
 use Rattle.ahost_tool.proofs.MoveLemmas.{quiet_all}
@@ -12,7 +12,7 @@ pub loop-init : goal.loop-init
 loop-init g c =
     let all = quiet_all _ _ c.requires.idle c.deliver_all.ensures.delivers in
     record {
-      made = made_then _ _ _ _ _ _ _ _ _ (all.0, all.1, prompted_all _ _ c.deliver_all.ensures.delivers all.0 c.deliver_all.ensures.none_ready) (made_none _ _ _);
+      made = made_then _ _ _ _ _ _ _ _ _ (inl refl) (all.0, all.1, prompted_all _ _ c.deliver_all.ensures.delivers all.0 c.deliver_all.ensures.none_ready) (made_none _ _ _);
       sets = then_begun _ _ _ _ _ all.0 all.2;
       delivered = c.deliver_all.ensures.none_ready;
       servers = c.requires.servers;
