@@ -1,5 +1,10 @@
-//! Queries with cookies, and what becomes of replies.
+//! Queries with cookies, what becomes of replies, and a World with cookies over a script.
 
+mod badcookies;
 mod bytes;
+mod links;
+mod playing;
 mod queries;
+mod replies;
 mod rules;
+mod servers;

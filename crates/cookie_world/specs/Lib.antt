@@ -1,0 +1,11 @@
+pub mod Agreement
+pub mod Begun
+pub mod Reasons
+pub mod Receiving
+pub mod Repeats
+pub mod Rounds
+pub mod Sending
+pub mod Serving
+pub mod State
+pub mod Verdict
+pub mod View
