@@ -1,0 +1,4 @@
+pub mod Ending
+pub mod Page
+pub mod Put
+pub mod Replay
