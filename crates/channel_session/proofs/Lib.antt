@@ -1,0 +1,4 @@
+pub mod AdvanceLemmas
+pub mod LeftLemmas
+pub mod PartLemmas
+pub mod StepLemmas

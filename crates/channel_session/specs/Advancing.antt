@@ -1,0 +1,45 @@
+-- What a session does between two moments: takes, turns, and pauses between them.
+use Rattle.std.specs.List.{list_all}
+use Rattle.std.specs.Prelude.{Bool, IsTrue, List, Option, is_some, ℕ, ◌&&◌, ◌+◌, ◌==◌, ◌||◌, ◌≤◌}
+use Rattle.net_world.specs.declared.log.WorldCall.{WorldCall}
+use Rattle.chan_types.specs.declared.journal.Entry.{Entry}
+use Rattle.channel_model.specs.Completion.{taken_by}
+use Rattle.channel_model.specs.Course.{is_of_turn}
+use Rattle.channel_model.specs.Journal.{own_entries}
+use Rattle.channel_model.specs.Known.{GoesOn}
+use Rattle.event_runner.specs.UnderWay.{RanSince, RunsSince, rested}
+use Rattle.channel_session.specs.Sitting.{Moment, StandsBehind, longest_pause}
+
+-- a turn or a taking made the entry, and no callback commanded it
+abbrev pub is_of_session : Entry → Bool
+is_of_session entry = (is_of_turn entry || is_some (taken_by entry.what)) && (entry.by == 0)
+
+-- the seat's own of these entries are all such: nothing was accepted, cancelled or destroyed through the desk
+abbrev pub AreOfSession : ℕ → List Entry → Type 0
+AreOfSession seat entries = IsTrue (list_all is_of_session (own_entries seat entries))
+
+-- the desk went on, and a run that stood at the one moment stands at the other, behind so many turns more
+pub record Advances (made : ℕ) (old new : Moment) : Type 0 where
+  pub goes_on : GoesOn old.known new.known
+  pub own : AreOfSession old.known.seat goes_on.since
+  pub stands : (began : Option (List WorldCall)) (turns : ℕ) → StandsBehind turns began old → StandsBehind (turns + made) began new
+
+-- the desk went on, and a run that stood at the one moment made so many turns more, and then waited, or had no reason to: where it waited, only a turn carries it on, before any entry of the desk's
+pub record ComesToRest (made : ℕ) (old new : Moment) : Type 0 where
+  pub goes_on : GoesOn old.known new.known
+  pub own : AreOfSession old.known.seat goes_on.since
+  pub rests : (began : Option (List WorldCall)) (turns : ℕ) → StandsBehind turns began old →
+      RunsSince longest_pause (turns + made) 0 rested new.known new.sitting.running began new.log
+
+-- the desk went on, and journal and calls may have been cut short, at the latest in so many turns more
+pub record IsCutOff (most : ℕ) (old new : Moment) : Type 0 where
+  pub goes_on : GoesOn old.known new.known
+  pub own : AreOfSession old.known.seat goes_on.since
+  pub ran : (began : Option (List WorldCall)) (turns : ℕ) → StandsBehind turns began old → RanSince longest_pause (turns + most) 0 new.known began new.log
+
+-- at most so many turns more
+abbrev pub AdvancesAtMost : ℕ → Moment → Moment → Type 0
+AdvancesAtMost most old new = (made : ℕ) × (made ≤ most) × Advances made old new
+
+abbrev pub ComesToRestAtMost : ℕ → Moment → Moment → Type 0
+ComesToRestAtMost most old new = (made : ℕ) × (made ≤ most) × ComesToRest made old new

@@ -1,0 +1,5 @@
+pub mod Advancing
+pub mod Left
+pub mod Progressing
+pub mod Sitting
+pub mod Stepping

@@ -1,0 +1,39 @@
+-- A session between two of its calls, and how far the run that it makes has come.
+use Rattle.std.specs.Prelude.{Bool, List, Option, false, true, ℕ, ◌-◌, ◌^◌, ◌≡◌, ◌≤◌}
+use Rattle.net_world.specs.declared.log.WorldCall.{WorldCall}
+use Rattle.channel_model.specs.Known.{Known}
+use Rattle.event_runner.specs.Running.{Running}
+use Rattle.event_runner.specs.UnderWay.{Reach, RunsSince, rested, turned}
+
+-- a session: its runner, and whether a turn was made since it last waited
+pub record Sitting : Type 0 where
+  pub running : Running
+  pub behind_turn : Bool
+
+-- what a desk knows of its channel, a session, and the network's log where it is told
+pub record Moment : Type 0 where
+  pub known : Known
+  pub sitting : Sitting
+  pub log : Option (List WorldCall)
+
+abbrev pub moment_of : Known → Sitting → Option (List WorldCall) → Moment
+moment_of known sitting log = record { known = known; sitting = sitting; log = log }
+
+-- a pause lasts until something is due, however long that is
+abbrev pub longest_pause : ℕ
+longest_pause = 2 ^ 64 - 1
+
+-- a session that made a turn since it last waited made some, and one that didn't made none at all
+abbrev pub IsCount : Bool → ℕ → Type 0
+IsCount true turns = 1 ≤ turns
+IsCount false turns = turns ≡ 0
+
+-- how far the run has come: it stands right behind its last turn, or before the first
+abbrev pub reach_of : Bool → Reach
+reach_of true = turned
+reach_of false = rested
+
+-- the run that began with this log stands here right behind so many turns, or before the first: journal and calls are a course of them so far
+pub record StandsBehind (turns : ℕ) (began : Option (List WorldCall)) (moment : Moment) : Type 0 where
+  pub count : IsCount moment.sitting.behind_turn turns
+  pub runs : RunsSince longest_pause turns 0 (reach_of moment.sitting.behind_turn) moment.known moment.sitting.running began moment.log
