@@ -3,6 +3,8 @@
 //! An assertion in a loop over rows has no message, which would take a third of the proof. A row that fails is found by
 //! leaving out the rows behind it.
 mod asked_names;
+mod cuts;
+mod hostile;
 mod messages;
 mod mixing;
 mod names;

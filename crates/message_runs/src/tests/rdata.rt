@@ -37,7 +37,7 @@ fn is_read_so(alloc: Global, bytes: &[u8], expanded: Option<&[u8]>) -> Result<bo
 
 /// The kind, the class, the rdata, and the rdata with its names expanded; none where it hasn't the shape.
 /// The name at offset 12 is `a.`, so that a name of 253 bytes before a pointer to it has 256.
-const SHAPES: [(u8, u8, &[u8], Option<&[u8]>); 26] = [
+const SHAPES: [(u8, u8, &[u8], Option<&[u8]>); 35] = [
     (1, 1, b"abcd", Some(b"abcd")),
     (1, 1, b"abc", None),
     (1, 3, b"abc", Some(b"abc")),
@@ -74,6 +74,15 @@ const SHAPES: [(u8, u8, &[u8], Option<&[u8]>); 26] = [
     (33, 1, b"123456", None),
     (33, 4, b"123456", Some(b"123456")),
     (99, 1, b"\xc0\x0c", Some(b"\xc0\x0c")),
+    (1, 1, b"", None),
+    (5, 1, b"\x01b\xc0\x1e", None),
+    (6, 1, b"\xc0\x0c\x04root", None),
+    (6, 1, b"\xc0\x0c\xc0\x0c0123456789abcdefghi", None),
+    (6, 1, b"\xc0\x0c\xc0\x0c0123456789abcdefghijk", None),
+    (12, 1, b"\x01b\xc0", None),
+    (13, 1, b"\x01a\x01b\0", None),
+    (15, 1, b"\0\x05", None),
+    (28, 1, b"0123456789abcdefg", None),
 ];
 
 #[test]
