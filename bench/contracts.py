@@ -39,6 +39,7 @@ PROGRAMS = {
     "adig": ("adig_tool", "tool_line/specs/Ending.antt"),
     "ahost": ("ahost_tool", "tool_line/specs/Ending.antt"),
     "tns": ("test_nameserver", "test_nameserver/specs/Statuses.antt"),
+    "areplay": ("areplay_tool", "areplay_tool/specs/Ending.antt"),
 }
 LAYERS, STATUSES = "What the layers promise", "Exit statuses"
 # what stands in the error place, or in an Option's or a bool's, and the words of which a row has to name one
