@@ -1,5 +1,5 @@
 -- What texts of a Linux system tell of a machine's addresses and of its routes (proc(5)). The words of a line are counted from 0.
-use Rattle.std.specs.Prelude.{ℕ, ◌-◌, ◌/◌, ◌%◌, Bool, true, false, not, ◌&&◌, ◌==◌, nat_lt, nat_le, if◌then◌else◌, List, [], ◌∷◌, ◌++◌, length, codes, Option, Some, None, unwrap_or, option_and_then, option_to_list, filter_map, fold, bytes_eq}
+use Rattle.std.specs.Prelude.{ℕ, ◌-◌, ◌/◌, ◌%◌, Bool, false, not, ◌&&◌, ◌==◌, nat_lt, nat_le, if◌then◌else◌, List, [], ◌∷◌, ◌++◌, length, codes, Option, None, unwrap_or, option_to_list, filter_map, fold, bytes_eq}
 use Rattle.std.specs.List.{list_any, slice_get}
 use Rattle.net_addr.specs.declared.addr.Addr.{Addr}
 use Rattle.net_addr.specs.Reading.{address_of}

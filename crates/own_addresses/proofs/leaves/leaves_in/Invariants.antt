@@ -3,7 +3,7 @@ use Rattle.text_lines.specs.Left.{lines_left}
 use Rattle.text_lines.specs.Lines.{lines_of}
 use Rattle.text_lines.specs.Words.{words_of}
 use Rattle.own_addresses.specs.Leaves.{leaves_of}
-use Rattle.own_addresses.specs.Telling.{Leaves, leaves_behind}
+use Rattle.own_addresses.specs.Telling.{leaves_behind}
 use Rattle.own_addresses.proofs.leaves.leaves_in.Given as goal
 
 -- with the lines that are still to come it is what all lines tell
