@@ -1,7 +1,7 @@
 #!/usr/bin/env bash
-# adig, ahost, ahost --load and tns with little memory: `ulimit -v` from 8 MB to 200 MB in 40 steps. Each run has to end with its
-# page and status, as without a limit, or with status 5 (want of memory), what it put being the front of its page then; never by a
-# signal. Nothing leaves a loopback of its own.
+# adig, ahost, ahost --load and tns with little memory: `ulimit -v` from 8 MB to 200 MB in 40 steps, and the tools also in 40 steps of
+# 25 KB from what their loader wants. Each run has to end with its page and status, as without a limit, or with status 5 (want of
+# memory), what it put being the front of its page then; never by a signal. Nothing leaves a loopback of its own.
 # Build first: (cd crates/adig && rt run), and so ahost and tns. Usage: bench/limits.sh [ADIG [AHOST [TNS]]]
 set -euo pipefail
 cd "$(dirname "$0")/.."
@@ -18,7 +18,7 @@ trap 'kill $(jobs -p) 2>/dev/null || true; wait 2>/dev/null || true; rm -rf "$wo
 for number in $(seq 0 199); do
   echo "h$number.test. 60 A 10.0.0.$number"
 done > "$work/zone"
-asked=(--resolv /dev/null --hosts /dev/null --server 127.0.0.1 --port "$port")
+asked=(--resolv /dev/null --server 127.0.0.1 --port "$port")
 mapfile -t names < <(seq -f 'h%.0f.test' 0 199)
 found=0
 
@@ -34,6 +34,23 @@ limited() {
 limits() {
   for step in $(seq 0 39); do
     echo $((8000 + step * (200000 - 8000) / 39))
+  done
+}
+
+# narrow PROGRAM: 40 limits in KB, from the least with which the program is loaded and says that it has no words, or wants memory
+narrow() {
+  local low=1000 high=200000 middle status
+  while [ $((high - low)) -gt 25 ]; do
+    middle=$(((low + high) / 2))
+    status=0
+    limited "$middle" "$1" 2> /dev/null || status=$?
+    case $status in
+      2 | 5) high=$middle ;;
+      *) low=$middle ;;
+    esac
+  done
+  for step in $(seq 0 39); do
+    echo $((high + 25 * step))
   done
 }
 
@@ -64,7 +81,7 @@ try() {
   if [ "$wanted" -ge 2 ]; then
     fails "$what" unlimited
   fi
-  for memory in $(limits); do
+  for memory in $(narrow "$1") $(limits); do
     status=0
     limited "$memory" "$@" || status=$?
     told "$work/page" > "$work/told"
@@ -108,10 +125,14 @@ try_tns() {
 }
 
 "$tns" --port $port --zone "$work/zone" --count 65535 > /dev/null 2>&1 &
-sleep 0.5
+# on a machine that is busy it may take a while until it answers
+for _ in $(seq 100); do
+  ! "$adig" "${asked[@]}" h7.test > /dev/null 2>&1 || break
+  sleep 0.1
+done
 try adig "$adig" "${asked[@]}" h7.test
 try 'adig, over TCP' "$adig" "${asked[@]}" --tcp h7.test
-try ahost "$ahost" "${asked[@]}" --family 4 --no-sort "${names[@]}"
+try ahost "$ahost" "${asked[@]}" --hosts /dev/null --family 4 --no-sort "${names[@]}"
 try 'ahost --load 4096' "$ahost" --load 4096
 try_tns
 echo "$found runs ended otherwise"

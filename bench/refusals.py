@@ -1,58 +1,156 @@
 #!/usr/bin/env python3
-"""Refuses memory once in each run of each test of channel_runs: at its first allocation, at its second, and so on.
+"""Refuses memory once in each of many runs: at the run's first allocation, at its second, and so on.
 
-A call of the channel that is refused has to leave its counts as they were, and to succeed when it is made once more
-(crates/channel_runs/src/tests/making.rt), so that the test passes with the same answers and the same journal. What is
-refused to the test itself ends it with an error of that name, which says nothing. Anything else is a finding.
+In channel_runs a call of the channel that is refused has to leave its counts as they were, and to succeed when it is made once more
+(crates/channel_runs/src/tests/making.rt), so that the test passes with the same answers and the same journal. In adig_faults and
+ahost_faults the tests of `wanting` are whole runs of the tools: a refused run has to end with status 5 and an empty page, and to have
+called each request that it had accepted once, which it tells by an error of its own name. What is refused to a test itself ends it
+with an error of that name, which says nothing. The tools themselves are run against tns on loopback, in a network of its own: each run
+ends with status 5 and puts nothing, or it is whole, with its page and its status. Anything else is a finding, and the status is then 1.
 
 Left out are `queries_are_spelled`, which calls the channel itself and makes nothing once more, and tests of very many allocations.
 
-Build the tests first, by `rt test` in crates/channel_runs, or name their program. It wants a C compiler.
+Build first, by `rt test` in crates/channel_runs, adig_faults and ahost_faults, and `rt run` in crates/adig, ahost and tns; or name a
+folder that has the six programs. What isn't there is passed over, and said. It wants a C compiler and unshare.
+Usage: bench/refusals.py [FOLDER]
 """
-import os, subprocess, sys, tempfile
+import os, re, subprocess, sys, tempfile, time
 
 HERE = os.path.dirname(os.path.abspath(__file__))
-MOST = 5000  # allocations of a test that is tried
+MOST = 5000  # allocations of a run that is tried
+PORT = "5398"
 BY_ITSELF = ("tests::asking::queries_are_spelled",)
 OWN_WANT = ("error: NoMemory", "error: AllocError", "error: AllocFailed", "error: Error")
+RUN_WANT = "error: RunWantedMemory"
+# the crates with tests that are tried, and how the names of these tests begin
+TESTS = (("channel_runs", "tests::"), ("adig_faults", "tests::wanting::"), ("ahost_faults", "tests::wanting::"))
 
 
-def run(program, test, folder, number):
+def program_of(name):
+    crate = name.removesuffix("_tests")
+    return f"{sys.argv[1]}/{name}" if len(sys.argv) > 1 else f"{HERE}/../crates/{crate}/out/{name}"
+
+
+def is_there(name):
+    there = os.access(program_of(name), os.X_OK)
+    if not there:
+        print(f"{name} isn't built, and is passed over")
+    return there
+
+
+def run(words, folder, number):
     env = dict(os.environ, LD_PRELOAD=f"{folder}/refuse.so", REFUSE=str(number))
-    return subprocess.run([program, test], env=env, capture_output=True, text=True)
+    return subprocess.run(words, env=env, stdin=subprocess.DEVNULL, capture_output=True, timeout=60)
 
 
-def allocations(program, test, folder):
+def allocations(words, folder):
+    """How many allocations a run makes to which nothing is refused."""
     env = dict(os.environ, LD_PRELOAD=f"{folder}/refuse.so", REFUSE_TELLS="1")
-    words = ["sh", "-c", 'exec "$0" "$1" 3>&1 >/dev/null 2>/dev/null', program, test]
-    return int(subprocess.run(words, env=env, capture_output=True, text=True).stdout)
+    words = ["sh", "-c", 'exec "$0" "$@" 3>&1 >/dev/null 2>/dev/null', *words]
+    return int(subprocess.run(words, env=env, stdin=subprocess.DEVNULL, capture_output=True, text=True).stdout)
+
+
+def try_tests(crate, front, folder):
+    """How many findings there are in the tests of a crate, and how many runs that say something."""
+    program = program_of(f"{crate}_tests")
+    listed = subprocess.run([program, "--list"], capture_output=True, text=True).stdout
+    tests = [line.split(": ")[0] for line in listed.splitlines() if line.endswith(": test")]
+    tests = [test for test in tests if test.startswith(front) and test not in BY_ITSELF]
+    passed = ended = own = found = 0
+    for test in tests:
+        wants = allocations([program, test], folder)
+        if wants > MOST:
+            print(f"{crate} {test}: {wants} allocations, left out")
+            continue
+        for number in range(1, wants + 1):
+            tried = run([program, test], folder, number)
+            said = tried.stderr.decode(errors="replace")
+            if tried.returncode == 0:
+                passed += 1
+            elif RUN_WANT in said:
+                ended += 1
+            elif any(want in said for want in OWN_WANT):
+                own += 1
+            else:
+                found += 1
+                print(f"{crate} {test}, allocation {number}: {tried.returncode} {said.strip()}")
+    print(f"{crate}: {len(tests)} tests, {passed + ended + own + found} runs: in {passed} the test passed, in {ended} the run ended "
+          f"with 5 as it has to, in {own} the test itself was refused, {found} findings", flush=True)
+    return found, passed + ended
+
+
+def told(page):
+    """A page without its identifier, which is drawn by chance."""
+    return re.sub(rb"^;; id \d+ ", b";; id ", page, flags=re.M)
+
+
+def try_tool(words, folder):
+    """How many findings there are in the runs of a tool, and how many runs there were."""
+    line = " ".join([os.path.basename(words[0]), *words[1:]])
+    plain = run(words, folder, 0)
+    wants = allocations(words, folder)
+    whole = short = found = 0
+    if wants > MOST:
+        print(f"{line}: {wants} allocations, of which the first {MOST} are tried")
+    for number in range(1, min(wants, MOST) + 1):
+        tried = run(words, folder, number)
+        if tried.returncode == plain.returncode and told(tried.stdout) == told(plain.stdout):
+            whole += 1
+        elif tried.returncode == 5 and tried.stdout == b"":
+            short += 1
+        else:
+            found += 1
+            print(f"{line}, allocation {number}: {tried.returncode} {tried.stdout[:200]!r} {tried.stderr[:200]!r}")
+    print(f"{line}: {wants} allocations; {short} runs ended with 5, {whole} were whole with {plain.returncode}, {found} findings", flush=True)
+    return found, whole + short
+
+
+def await_answer(words):
+    """Waits until the server answers, which may take a while on a machine that is busy."""
+    for _ in range(100):
+        if subprocess.run(words, stdin=subprocess.DEVNULL, stdout=subprocess.DEVNULL, stderr=subprocess.DEVNULL).returncode == 0:
+            return
+        time.sleep(0.1)
+
+
+def try_tools(folder):
+    """The same of the tools."""
+    with open(f"{folder}/zone", "w") as zone:
+        zone.write("www.example. 300 A 192.0.2.1\nwww.example. 300 AAAA 2001:db8::1\nalias.example. 300 CNAME www.example.\n")
+    words = [program_of("tns"), "--port", PORT, "--zone", f"{folder}/zone", "--count", "65535"]
+    server = subprocess.Popen(words, stdout=subprocess.DEVNULL, stderr=subprocess.DEVNULL)
+    asked = ["--resolv", "/dev/null", "--server", "127.0.0.1", "--port", PORT]
+    adig, ahost = program_of("adig"), program_of("ahost")
+    tried = [
+        [adig, *asked, "www.example"],
+        [adig, *asked, "--tcp", "alias.example"],
+        [adig, "--no-such-option"],
+        [ahost, *asked, "--hosts", "/dev/null", "www.example", "192.0.2.9"],
+        [ahost, "--load", "12"],
+    ]
+    try:
+        await_answer(tried[0])
+        return [try_tool(words, folder) for words in tried]
+    finally:
+        server.kill()
 
 
 def main():
-    program = sys.argv[1] if len(sys.argv) > 1 else f"{HERE}/../crates/channel_runs/out/channel_runs_tests"
-    listed = subprocess.run([program, "--list"], capture_output=True, text=True).stdout
-    tests = [line.split(": ")[0] for line in listed.splitlines() if line.endswith(": test")]
-    tests = [test for test in tests if test not in BY_ITSELF]
-    passed = own = found = 0
+    if os.environ.get("IN_ITS_OWN_NETWORK") != "1":
+        os.environ["IN_ITS_OWN_NETWORK"] = "1"
+        os.execvp("unshare", ["unshare", "-rn", sys.executable, os.path.abspath(__file__), *map(os.path.abspath, sys.argv[1:2])])
+    subprocess.run(["ip", "link", "set", "lo", "up"], check=True)
+    all_tried = []
     with tempfile.TemporaryDirectory() as folder:
         subprocess.run(["cc", "-O1", "-shared", "-fPIC", "-o", f"{folder}/refuse.so", f"{HERE}/refuse.c"], check=True)
-        for test in tests:
-            wants = allocations(program, test, folder)
-            if wants > MOST:
-                print(f"{test}: {wants} allocations, left out")
-                continue
-            for number in range(1, wants + 1):
-                ended = run(program, test, folder, number)
-                if ended.returncode == 0:
-                    passed += 1
-                elif any(want in ended.stderr for want in OWN_WANT):
-                    own += 1
-                else:
-                    found += 1
-                    print(f"{test}, allocation {number}: {ended.stderr.strip()}")
-    print(f"{len(tests)} tests, {passed + own + found} runs: in {passed} the channel was refused and the test passed, "
-          f"in {own} the test itself was refused, {found} findings")
-    return 1 if found or not passed else 0
+        for crate, front in TESTS:
+            if is_there(f"{crate}_tests"):
+                all_tried.append(try_tests(crate, front, folder))
+        if all([is_there(name) for name in ("adig", "ahost", "tns")]):
+            all_tried += try_tools(folder)
+    found = sum(found for found, _ in all_tried)
+    print(f"{found} findings")
+    return 1 if found or not all_tried or not all(runs for _, runs in all_tried) else 0
 
 
 sys.exit(main())

@@ -1,5 +1,7 @@
 //! Whole runs over a network in memory: what happened, what was called, and what was put, as lines of text.
 
+mod books;
+mod cookies;
 mod ending;
 mod links;
 mod outgoing;

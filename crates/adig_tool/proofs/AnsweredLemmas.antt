@@ -48,7 +48,7 @@ use Rattle.tool_line.specs.Outside.{Outside}
 use Rattle.adig_tool.specs.Running.{Comes, setting_with}
 use Rattle.resolv_options.specs.Values.{OptionValues}
 use Rattle.tool_line.specs.declared.files.FileFault.{FileFault as FaultOfFile}
-use Rattle.adig_tool.specs.Output.{text_at}
+use Rattle.adig_tool.specs.Output.{book_of, page_for, text_at}
 use Rattle.tool_line.specs.Put.{PutsText}
 use Rattle.adig_tool.specs.Promise.{IsTraffic, Promise}
 use Rattle.adig_tool.specs.Session.{first_request}
@@ -411,8 +411,8 @@ each_answered P Q follows [] all = tt
 each_answered P Q follows (a ∷ calls) all = (follows a all.0, each_answered P Q follows calls all.1)
 
 -- a run that keeps its promise has answers of this kind
-pub answered_of : (spec : Spec) (setting : Setting) (turns : ℕ) (ended : Ended) (before after : Outside) → Promise spec setting turns ended before after → LogGets (AreAnswered setting spec ended.status ended.calls) before.network.log after.network.log
-answered_of spec setting turns ended before after p =
+pub answered_of : (spec : Spec) (as_book : Bool) (setting : Setting) (turns : ℕ) (ended : Ended) (before after : Outside) → Promise spec as_book setting turns ended before after → LogGets (AreAnswered setting spec ended.status ended.calls) before.network.log after.network.log
+answered_of spec as_book setting turns ended before after p =
     log_then (IsTraffic setting turns p.end ended.journal) (AreAnswered setting spec ended.status ended.calls)
     (λ calls traffic served opens.
     each_answered (λ a. (n : ℕ) × (fate setting n (past_of ended.journal) ≡ Some a)) (λ a. a.message ≢ [] → IsAnswered setting spec calls a)
@@ -422,10 +422,10 @@ answered_of spec setting turns ended before after p =
   where
     apart : ended.status ≢ 5 → p.end ≢ OutOfMemory
     apart served none =
-        served (let h : PutsText None OutOfMemory ended.status before.output after.output = subst (λ e. PutsText (text_at spec ended.calls e) e ended.status before.output after.output) none p.put.told in h.0)
+        served (let h : PutsText None OutOfMemory ended.status before.output after.output = subst (λ e. PutsText (text_at (page_for spec as_book (book_of setting ended.journal) ended.calls) e) e ended.status before.output after.output) none p.put.told in h.0)
 
 -- so a run has with the options that it came to
-pub comes_answered : (spec : Spec) (turns : ℕ) (options : Result OptionValues FaultOfFile) (ended : Ended) (before after : Outside) → Comes spec turns options ended before after →
+pub comes_answered : (spec : Spec) (as_book : Bool) (turns : ℕ) (options : Result OptionValues FaultOfFile) (ended : Ended) (before after : Outside) → Comes spec as_book turns options ended before after →
     IfOk options (λ values. LogGets (AreAnswered (setting_with values) spec ended.status ended.calls) before.network.log after.network.log)
-comes_answered spec turns (Ok options) ended before after comes = answered_of spec (setting_with options) turns ended before after comes
-comes_answered spec turns (Err fault) ended before after ends = tt
+comes_answered spec as_book turns (Ok options) ended before after comes = answered_of spec as_book (setting_with options) turns ended before after comes
+comes_answered spec as_book turns (Err fault) ended before after ends = tt

@@ -8,8 +8,10 @@ pub mod WholeLemmas
 pub mod CalledLemmas
 pub mod ObeyedLemmas
 pub mod PromiseLemmas
+pub mod PuttingLemmas
 pub mod ReplyLemmas
 pub mod SentLemmas
 pub mod ExchangeLemmas
 pub mod AnsweredLemmas
 pub mod RunningLemmas
+pub mod CookiesLemmas

@@ -1,6 +1,6 @@
 -- From the parts of a run to what the whole of it promises.
 use Rattle.std.proofs.Common.{◌≡◌, ◌≢◌, ℕ, ◌==◌, not, List, [], ◌∷◌, ◌++◌, length, refl, sym, ap, subst, ◌∙◌, map, true, false, inl, inr, ⊎_elim, arith}
-use Rattle.std.specs.Prelude.{Err, None, Ok, Option, Result, Some, ◌*◌, ◌+◌, ◌⊎◌, ◌≤◌}
+use Rattle.std.specs.Prelude.{Bool, Err, None, Ok, Option, Result, Some, ◌*◌, ◌+◌, ◌⊎◌, ◌≤◌}
 use Rattle.std.specs.List.{AllByRecursion, list_all}
 use Rattle.std.proofs.lemmas.List.{append-nil}
 use mathlib.Core.List.{IsPrefix}
@@ -36,7 +36,9 @@ use Rattle.adig_tool.specs.Closing.{Closes}
 use Rattle.run_end.specs.Ends.{IsEndOf}
 use Rattle.adig_tool.specs.Entries.{closing, is_own, is_steady, no_orders}
 use Rattle.tool_line.specs.Outside.{Outside, OutputTold}
-use Rattle.adig_tool.specs.Output.{page_for, text_at}
+use Rattle.adig_tool.specs.Output.{book_of, page_for, text_at}
+use Rattle.journal_text.specs.declared.book.Book.{Book}
+use Rattle.resolv_options.specs.Values.{OptionValues}
 use Rattle.tool_line.specs.Put.{IsPut, PutsText}
 use Rattle.adig_tool.specs.Promise.{IsComplete, IsGivenTime, IsOver, IsPageEnd, IsRunEnd, IsTraffic, Promise}
 use Rattle.adig_tool.specs.Session.{FallsIntoTurns, HasAccepted, IsSession, ShowsEnd, first_request, is_of_session, leaves_running}
@@ -265,34 +267,37 @@ comes_to_end setting turns (Ok Stalled) answers end mid spec more same none is s
 comes_to_end setting turns (Err e) answers end mid spec more same none is servers tries lawful own at_most calls falls time = inr is
 
 -- and then its page is put, where the output doesn't fail
-complete_of : (spec : Spec) (calls : List Answer) (journal : List Entry) (end : Exit) (status : ℕ) (old new : OutputTold) → IsPut (text_at spec calls end) end status old new → ¬ Rose old.faults new.faults →
-    IsPageEnd end ⊎ (end ≡ OutOfMemory) → IsComplete spec (record { status = status; journal = journal; calls = calls }) old new
-complete_of spec calls journal end status old new put quiet (inl (inl is)) = by (page_for spec calls) refl (subst (λ e. PutsText (text_at spec calls e) e status old new) is put.told)
+complete_of : (page : Option Text) (end : Exit) (status : ℕ) (old new : OutputTold) → IsPut (text_at page end) end status old new → ¬ Rose old.faults new.faults →
+    IsPageEnd end ⊎ (end ≡ OutOfMemory) → IsComplete page status old new
+complete_of page end status old new put quiet (inl (inl is)) = by page (subst (λ e. PutsText (text_at page e) e status old new) is put.told)
   where
-    by : (page : Option Text) → page_for spec calls ≡ page → PutsText (page_for spec calls) Success status old new → IsComplete spec (record { status = status; journal = journal; calls = calls }) old new
-    by None none told = inr (let h : PutsText None Success status old new = subst (λ p. PutsText p Success status old new) none told in h.0)
-    by (Some page) some told = of (subst (λ p. PutsText p Success status old new) some told)
-      where
-        of : PutsText (Some page) Success status old new → IsComplete spec (record { status = status; journal = journal; calls = calls }) old new
-        of (inl whole) = inl (inl whole.0, rw some whole.1)
-        of (inr (inl part)) = absurd (quiet part.1)
-        of (inr (inr none)) = inr none.0
-complete_of spec calls journal end status old new put quiet (inl (inr is)) = by (page_for spec calls) refl (subst (λ e. PutsText (text_at spec calls e) e status old new) is put.told)
+    by : (page : Option Text) → PutsText page Success status old new → IsComplete page status old new
+    by None none = inr none.0
+    by (Some page) (inl whole) = inl (inl whole.0, whole.1)
+    by (Some page) (inr (inl part)) = absurd (quiet part.1)
+    by (Some page) (inr (inr none)) = inr none.0
+complete_of page end status old new put quiet (inl (inr is)) = by page (subst (λ e. PutsText (text_at page e) e status old new) is put.told)
   where
-    by : (page : Option Text) → page_for spec calls ≡ page → PutsText (page_for spec calls) Failure status old new → IsComplete spec (record { status = status; journal = journal; calls = calls }) old new
-    by None none told = inr (let h : PutsText None Failure status old new = subst (λ p. PutsText p Failure status old new) none told in h.0)
-    by (Some page) some told = of (subst (λ p. PutsText p Failure status old new) some told)
-      where
-        of : PutsText (Some page) Failure status old new → IsComplete spec (record { status = status; journal = journal; calls = calls }) old new
-        of (inl whole) = inl (inr whole.0, rw some whole.1)
-        of (inr (inl part)) = absurd (quiet part.1)
-        of (inr (inr none)) = inr none.0
-complete_of spec calls journal end status old new put quiet (inr is) =
-    inr (let h : PutsText None OutOfMemory status old new = subst (λ e. PutsText (text_at spec calls e) e status old new) is put.told in h.0)
+    by : (page : Option Text) → PutsText page Failure status old new → IsComplete page status old new
+    by None none = inr none.0
+    by (Some page) (inl whole) = inl (inr whole.0, whole.1)
+    by (Some page) (inr (inl part)) = absurd (quiet part.1)
+    by (Some page) (inr (inr none)) = inr none.0
+complete_of page end status old new put quiet (inr is) =
+    inr (let h : PutsText None OutOfMemory status old new = subst (λ e. PutsText (text_at page e) e status old new) is put.told in h.0)
 
 -- ---- the whole
 
-module _ (spec : Spec) (setting : Setting) (turns : ℕ) (result : Result LoopEnd NoMemory) (old mid fin : Owned) (calls_mid calls : List Answer) (log_old log_new : Option (List WorldCall))
+-- the book that was printed is that of the setting and the journal
+told_same : (spec : Spec) (as_book : Bool) (setting : Setting) (seen : List Entry) (calls : List Answer) (end : Exit) (status : ℕ) (old new : OutputTold) (options : OptionValues) (hosts : List ℕ) (journal : List Entry) →
+    options ≡ setting.options → hosts ≡ [] → journal ≡ seen →
+    IsPut (text_at (page_for spec as_book (record { options = options; hosts = hosts; journal = journal }) calls) end) end status old new →
+    IsPut (text_at (page_for spec as_book (book_of setting seen) calls) end) end status old new
+told_same spec as_book setting seen calls end status old new options hosts journal same_options no_hosts same_journal put =
+    let book : ◌≡◌ {A = Book} (record { options = options; hosts = hosts; journal = journal }) (book_of setting seen) = cc in
+    subst (λ b. IsPut (text_at (page_for spec as_book b calls) end) end status old new) book put
+
+module _ (spec : Spec) (as_book : Bool) (setting : Setting) (turns : ℕ) (result : Result LoopEnd NoMemory) (old mid fin : Owned) (calls_mid calls : List Answer) (log_old log_new : Option (List WorldCall))
     (same : old.setting ≡ setting) (s : IsSession spec turns result old mid calls_mid log_old log_new) (f : Closes mid fin calls_mid calls)
     (servers : 1 ≤ length setting.options.servers) (tries : 1 ≤ setting.options.tries) where
   mid_setting : mid.setting ≡ setting
@@ -353,39 +358,43 @@ module _ (spec : Spec) (setting : Setting) (turns : ℕ) (result : Result LoopEn
       subst (λ k. pending k (past_of mid.seen) ≢ []) mid_setting left.1
 
   pub promise_of : (end : Exit) (status waits_old waits_new : ℕ) (output_old output_new : OutputTold) → IsEndOf result calls end →
-      (result ≡ Ok WaitFault → Rose waits_old waits_new) → IsPut (text_at spec calls end) end status output_old output_new →
-      Promise spec setting turns (record { status = status; journal = fin.seen; calls = calls })
+      (result ≡ Ok WaitFault → Rose waits_old waits_new) →
+      (options : OptionValues) (hosts : List ℕ) (journal : List Entry) → options ≡ setting.options → hosts ≡ [] → journal ≡ fin.seen →
+      IsPut (text_at (page_for spec as_book (record { options = options; hosts = hosts; journal = journal }) calls) end) end status output_old output_new →
+      Promise spec as_book setting turns (record { status = status; journal = fin.seen; calls = calls })
       (record { network = record { log = log_old; wait_faults = waits_old }; output = output_old })
       (record { network = record { log = log_new; wait_faults = waits_new }; output = output_new })
-  promise_of end status waits_old waits_new output_old output_new is rose put = record {
-    end = end;
-    ends = end_known result calls end is;
-    lawful = lawful;
-    own = own;
-    asked = λ served. accepted_is ∙ accepted_full result calls end spec (accepted (past_of mid.seen)) is s.accepted_is served;
-    asked_at_most = at_most;
-    obeyed = obeyed setting spec fin.seen no_orders (closing_position fin.seen) at_most own
-        (ap (list_all (λ n. n == 1)) all_taken ∙ numbered spec (past_of fin.seen) at_most);
-    called_once = called;
-    all_taken = (none_pending, none_ready);
-    destroyed = λ some. rw f.seen (whole_closed mid.seen f.answers kept);
-    success = good_of result calls end is;
-    failure = bad_of result calls end is;
-    finished = λ page. rw before_closing (over (page_completed result calls end is page));
-    wait_fault = λ wait. rose (wait_of result calls end is wait);
-    stalled = λ stall. rw before_closing (left_pending (stall_of result calls end is stall));
-    traffic = log_then (FallsIntoTurns turns result mid) (IsTraffic setting turns end fin.seen)
-        (λ cs falls. rw f.seen (traffic_of setting turns result calls end mid (closing ∷ map take_entry f.answers) mid_setting (no_turn mid.seen f.answers) is cs falls))
-        log_old log_new s.told;
-    completes = log_then (FallsIntoTurns turns result mid) (λ cs. IsGivenTime setting turns fin.seen cs → ¬ Rose output_old.faults output_new.faults →
-        IsComplete spec (record { status = status; journal = fin.seen; calls = calls }) output_old output_new)
-        (λ cs falls time quiet. complete_of spec calls fin.seen end status output_old output_new put quiet
-        (comes_to_end setting turns result calls end mid spec (closing ∷ map take_entry f.answers) mid_setting (no_turn mid.seen f.answers) is servers tries
-        (subst (IsLawful setting) f.seen lawful) (subst (λ j. list_all is_own j ≡ true) f.seen own) (subst (λ j. IsPrefix (accepted (past_of j)) (first_request spec ∷ [])) f.seen at_most)
-        cs falls (subst (λ j. IsGivenTime setting turns j cs) f.seen time)))
-        log_old log_new s.told;
-    put = put;
-  }
+  promise_of end status waits_old waits_new output_old output_new is rose options hosts journal same_options no_hosts same_journal printed =
+      let put = told_same spec as_book setting fin.seen calls end status output_old output_new options hosts journal same_options no_hosts same_journal printed in
+      record {
+        end = end;
+        ends = end_known result calls end is;
+        lawful = lawful;
+        own = own;
+        asked = λ served. accepted_is ∙ accepted_full result calls end spec (accepted (past_of mid.seen)) is s.accepted_is served;
+        asked_at_most = at_most;
+        obeyed = obeyed setting spec fin.seen no_orders (closing_position fin.seen) at_most own
+            (ap (list_all (λ n. n == 1)) all_taken ∙ numbered spec (past_of fin.seen) at_most);
+        called_once = called;
+        all_taken = (none_pending, none_ready);
+        destroyed = λ some. rw f.seen (whole_closed mid.seen f.answers kept);
+        success = good_of result calls end is;
+        failure = bad_of result calls end is;
+        finished = λ page. rw before_closing (over (page_completed result calls end is page));
+        wait_fault = λ wait. rose (wait_of result calls end is wait);
+        stalled = λ stall. rw before_closing (left_pending (stall_of result calls end is stall));
+        traffic = log_then (FallsIntoTurns turns result mid) (IsTraffic setting turns end fin.seen)
+            (λ cs falls. rw f.seen (traffic_of setting turns result calls end mid (closing ∷ map take_entry f.answers) mid_setting (no_turn mid.seen f.answers) is cs falls))
+            log_old log_new s.told;
+        completes = log_then (FallsIntoTurns turns result mid) (λ cs. IsGivenTime setting turns fin.seen cs → ¬ Rose output_old.faults output_new.faults →
+            IsComplete (page_for spec as_book (book_of setting fin.seen) calls) status output_old output_new)
+            (λ cs falls time quiet. complete_of (page_for spec as_book (book_of setting fin.seen) calls) end status output_old output_new put quiet
+            (comes_to_end setting turns result calls end mid spec (closing ∷ map take_entry f.answers) mid_setting (no_turn mid.seen f.answers) is servers tries
+            (subst (IsLawful setting) f.seen lawful) (subst (λ j. list_all is_own j ≡ true) f.seen own) (subst (λ j. IsPrefix (accepted (past_of j)) (first_request spec ∷ [])) f.seen at_most)
+            cs falls (subst (λ j. IsGivenTime setting turns j cs) f.seen time)))
+            log_old log_new s.told;
+        put = put;
+      }
 
 -- ---- a run that made no channel, for want of memory
 
@@ -412,8 +421,8 @@ pub log_same : (P : List WorldCall → Type 0) → P [] → (log : Option (List 
 log_same P holds None = refl
 log_same P holds (Some log) = ([], ap Some (sym (append-nil log)), holds)
 
-pub promise_early : (spec : Spec) (setting : Setting) (turns : ℕ) (outside : Outside) → Promise spec setting turns (record { status = 5; journal = []; calls = [] }) outside outside
-promise_early spec setting turns outside = record {
+pub promise_early : (spec : Spec) (as_book : Bool) (setting : Setting) (turns : ℕ) (outside : Outside) → Promise spec as_book setting turns (record { status = 5; journal = []; calls = [] }) outside outside
+promise_early spec as_book setting turns outside = record {
   end = OutOfMemory;
   ends = inr (inr (inr refl));
   lawful = record { allowed = tt };
@@ -430,7 +439,7 @@ promise_early spec setting turns outside = record {
   wait_fault = λ is. absurd (cc is);
   stalled = λ is. absurd (cc is);
   traffic = log_same (IsTraffic setting turns OutOfMemory []) (nothing_called setting turns) outside.network.log;
-  completes = log_same (λ calls. IsGivenTime setting turns [] calls → ¬ Rose outside.output.faults outside.output.faults → IsComplete spec (record { status = 5; journal = []; calls = [] }) outside.output outside.output)
+  completes = log_same (λ calls. IsGivenTime setting turns [] calls → ¬ Rose outside.output.faults outside.output.faults → IsComplete (page_for spec as_book (book_of setting []) []) 5 outside.output outside.output)
       (λ time quiet. inr refl) outside.network.log;
   put = record { told = (refl, (refl, refl)); counted = omega arith };
 }

@@ -48,7 +48,7 @@ same_settings under a b x y =
     fields s1 s2 p1 p2 t1 t2 r1 r2 u1 u2 w1 w2 a b c d e f = cc
 
 -- the same uses
-same_uses : (words : List Text) (a b : AdigAsk) (x : AdigAsks words a) (y : AdigAsks words b) → x.uses ≡ y.uses
+pub same_uses : (words : List Text) (a b : AdigAsk) (x : AdigAsks words a) (y : AdigAsks words b) → x.uses ≡ y.uses
 same_uses words a b x y = some_same x.uses y.uses (sym x.are ∙ y.are)
 
 -- a run for what is asked is one for whatever the words ask
@@ -59,13 +59,15 @@ same_run words a b turns ended files_before files_after before after x y run =
     let path : string_bytes a.resolv ≡ string_bytes b.resolv = some_same _ _ (sym says.resolv ∙ y.say.resolv) in
     let settings : a.settings ≡ b.settings = same_settings (lookup y.uses) a.settings b.settings says.settings y.say.settings in
     let spec : a.spec ≡ b.spec = some_same _ _ (sym says.spec ∙ y.say.spec) in
+    let as_book : a.journal ≡ b.journal = says.journal ∙ sym y.say.journal in
     record {
       file = run.file;
       read = subst (λ p. IsReadOf files_before.files p 65536 run.file) path run.read;
       reads = subst (λ p. HasReadAt ended.status (read_call p 65536 run.file ∷ []) files_before.reads files_after.reads) path run.reads;
       read_fault = run.read_fault;
-      comes = subst (λ s. Comes s turns (options_set b.settings run.file) ended before after) spec
-          (subst (λ v. Comes a.spec turns (options_set v run.file) ended before after) settings run.comes);
+      comes = subst (λ j. Comes b.spec j turns (options_set b.settings run.file) ended before after) as_book
+          (subst (λ s. Comes s a.journal turns (options_set b.settings run.file) ended before after) spec
+          (subst (λ v. Comes a.spec a.journal turns (options_set v run.file) ended before after) settings run.comes));
       answered = subst (λ s. IfOk (options_set b.settings run.file) (λ options. LogGets (AreAnswered (setting_with options) s ended.status ended.calls) before.network.log after.network.log)) spec
           (subst (λ v. IfOk (options_set v run.file) (λ options. LogGets (AreAnswered (setting_with options) a.spec ended.status ended.calls) before.network.log after.network.log)) settings run.answered);
     }
@@ -86,9 +88,9 @@ some_read (Some told) path = by (told path) refl
         sized false most = (Content bytes, (ltb-false 65536 (length bytes) most, is), λ e. absurd (cc e))
 
 -- with whatever options, or none
-early_comes : (spec : Spec) (turns : ℕ) (options : Result OptionValues FaultOfFile) (outside : Outside) → Comes spec turns options (record { status = 5; journal = []; calls = [] }) outside outside
-early_comes spec turns (Ok options) outside = promise_early spec (setting_with options) turns outside
-early_comes spec turns (Err fault) outside = record {
+early_comes : (spec : Spec) (as_book : Bool) (turns : ℕ) (options : Result OptionValues FaultOfFile) (outside : Outside) → Comes spec as_book turns options (record { status = 5; journal = []; calls = [] }) outside outside
+early_comes spec as_book turns (Ok options) outside = promise_early spec as_book (setting_with options) turns outside
+early_comes spec as_book turns (Err fault) outside = record {
   no_journal = refl;
   no_calls = refl;
   no_traffic = refl;
@@ -105,22 +107,22 @@ early_run ask turns files_before files_after outside unread =
       read = found.1;
       reads = subst (HasReadAt 5 (read_call (string_bytes ask.resolv) 65536 found.0 ∷ []) files_before.reads) (sym unread) (read_none_at (read_call (string_bytes ask.resolv) 65536 found.0 ∷ []) files_before.reads);
       read_fault = λ is. absurd (found.2 is);
-      comes = early_comes ask.spec turns (options_set ask.settings found.0) outside;
-      answered = comes_answered ask.spec turns (options_set ask.settings found.0) _ outside outside (early_comes ask.spec turns (options_set ask.settings found.0) outside);
+      comes = early_comes ask.spec ask.journal turns (options_set ask.settings found.0) outside;
+      answered = comes_answered ask.spec ask.journal turns (options_set ask.settings found.0) _ outside outside (early_comes ask.spec ask.journal turns (options_set ask.settings found.0) outside);
     }
 
 -- a run that came to something with the options of the file that was read
 pub run_of : (ask : AdigAsk) (turns : ℕ) (ended : Ended) (files_before files_after : FilesTold) (before after : Outside) (file : FileRead) (options : Result OptionValues FaultOfFile) →
     IsReadOf files_before.files (string_bytes ask.resolv) 65536 file → HasRead (read_call (string_bytes ask.resolv) 65536 file ∷ []) files_before.reads files_after.reads →
     (file ≡ NotRead → Rose files_before.faults files_after.faults) → options_set ask.settings file ≡ options →
-    Comes ask.spec turns options ended before after → IsRunFor ask turns ended files_before files_after before after
+    Comes ask.spec ask.journal turns options ended before after → IsRunFor ask turns ended files_before files_after before after
 run_of ask turns ended files_before files_after before after file options read told cause is comes = record {
   file = file;
   read = read;
   reads = inl told;
   read_fault = cause;
-  comes = subst (λ o. Comes ask.spec turns o ended before after) (sym is) comes;
-  answered = comes_answered ask.spec turns (options_set ask.settings file) ended before after (subst (λ o. Comes ask.spec turns o ended before after) (sym is) comes);
+  comes = subst (λ o. Comes ask.spec ask.journal turns o ended before after) (sym is) comes;
+  answered = comes_answered ask.spec ask.journal turns (options_set ask.settings file) ended before after (subst (λ o. Comes ask.spec ask.journal turns o ended before after) (sym is) comes);
 }
 
 -- what a read answered that didn't want memory
@@ -131,7 +133,7 @@ ok_of file = Ok file
 module _ (ask : AdigAsk) (turns : ℕ) (ended : Ended) (files_before files_after : FilesTold) (before after : Outside) (path : List ℕ) (file : FileRead)
     (same : path ≡ string_bytes ask.resolv) (read : IsReadOf files_before.files path 65536 file) (cause : HasCause files_before.faults files_after.faults is_not_read (ok_of file))
     (told : HasRead (read_call path 65536 file ∷ []) files_before.reads files_after.reads) where
-  pub read_run : (options : Result OptionValues FaultOfFile) → options_set ask.settings file ≡ options → Comes ask.spec turns options ended before after → IsRunFor ask turns ended files_before files_after before after
+  pub read_run : (options : Result OptionValues FaultOfFile) → options_set ask.settings file ≡ options → Comes ask.spec ask.journal turns options ended before after → IsRunFor ask turns ended files_before files_after before after
   read_run options is comes =
       run_of ask turns ended files_before files_after before after file options (subst (λ p. IsReadOf files_before.files p 65536 file) same read)
       (subst (λ p. HasRead (read_call p 65536 file ∷ []) files_before.reads files_after.reads) same told) (λ failed. cause.cause (ap is_not_read failed)) is comes
@@ -145,7 +147,7 @@ pub wanting_run : (ask : AdigAsk) (turns : ℕ) (files_before files_after : File
     IsReadOf files_before.files path 65536 file → HasCause files_before.faults files_after.faults is_not_read (ok_of file) → HasRead (read_call path 65536 file ∷ []) files_before.reads files_after.reads →
     IsRunFor ask turns (record { status = 5; journal = []; calls = [] }) files_before files_after outside outside
 wanting_run ask turns files_before files_after outside path file same read cause told =
-    read_run ask turns _ files_before files_after outside outside path file same read cause told (options_set ask.settings file) refl (early_comes ask.spec turns (options_set ask.settings file) outside)
+    read_run ask turns _ files_before files_after outside outside path file same read cause told (options_set ask.settings file) refl (early_comes ask.spec ask.journal turns (options_set ask.settings file) outside)
 
 -- such a fault is no want of memory
 pub failed_apart : (fault : FaultOfFile) → fault ≡ Failed → fault ≢ NoMemoryLeft

@@ -7,3 +7,5 @@ pub mod Promise
 pub mod Running
 pub mod Ends
 pub mod Answered
+pub mod Cookies
+pub mod Loan

@@ -1,6 +1,6 @@
 -- What a run promises: one journal orders what happened in its channel, and what it asked, sent, called and put follows from that journal.
 use Rattle.std.specs.List.{list_all}
-use Rattle.std.specs.Prelude.{IsSomeAnd, IsTrue, List, Some, [], is_some, map, not, ℕ, ◌*◌, ◌++◌, ◌+◌, ◌∷◌, ◌≡◌, ◌≢◌, ◌≤◌, ◌⊎◌}
+use Rattle.std.specs.Prelude.{Bool, IsSomeAnd, IsTrue, List, Option, Some, [], is_some, map, not, ℕ, ◌*◌, ◌++◌, ◌+◌, ◌∷◌, ◌≡◌, ◌≢◌, ◌≤◌, ◌⊎◌}
 use mathlib.Core.List.{IsPrefix}
 use Rattle.chan_types.specs.declared.journal.Entry.{Entry}
 use Rattle.chan_types.specs.declared.spec.Spec.{Spec}
@@ -24,8 +24,9 @@ use Rattle.tool_line.specs.declared.ending.Exit.TheVariants.{Failure, OutOfMemor
 use Rattle.net_world.specs.Logs.{LogGets}
 use Rattle.adig_tool.specs.Entries.{closing, is_own, no_orders}
 use Rattle.tool_line.specs.Outside.{GrowsBy, Outside, OutputTold}
-use Rattle.adig_tool.specs.Output.{page_for, text_at}
+use Rattle.adig_tool.specs.Output.{book_of, page_for, text_at}
 use Rattle.tool_line.specs.Put.{IsPut}
+use Rattle.tool_line.specs.Words.{Text}
 use Rattle.adig_tool.specs.Session.{first_request}
 use Rattle.owner_laws.specs.Sessions.{BeginsCut, BeginsPending, EndsWithFailedWait, longest_slice}
 use Rattle.run_end.specs.Ends.{AreGood}
@@ -78,12 +79,12 @@ pub record IsGivenTime (setting : Setting) (turns : ℕ) (journal : List Entry) 
   pub waited : NoWaitFailed calls
 
 -- the whole page was put, with exit status 0 or 1; or memory was wanting, with 5
-abbrev pub IsComplete : Spec → Ended → OutputTold → OutputTold → Type 0
-IsComplete spec ended before after =
-    (((ended.status ≡ 0) ⊎ (ended.status ≡ 1)) × IsSomeAnd (page_for spec ended.calls) (GrowsBy before.bytes after.bytes)) ⊎ (ended.status ≡ 5)
+abbrev pub IsComplete : Option Text → ℕ → OutputTold → OutputTold → Type 0
+IsComplete page status before after =
+    (((status ≡ 0) ⊎ (status ≡ 1)) × IsSomeAnd page (GrowsBy before.bytes after.bytes)) ⊎ (status ≡ 5)
 
--- what a run promises that asks this of a channel of this setting
-pub record Promise (spec : Spec) (setting : Setting) (turns : ℕ) (ended : Ended) (before after : Outside) : Type 0 where
+-- what a run promises that asks this of a channel of this setting, and puts its page, or where that is asked for its book
+pub record Promise (spec : Spec) (as_book : Bool) (setting : Setting) (turns : ℕ) (ended : Ended) (before after : Outside) : Type 0 where
   -- How the run came to its end, before its text was put: the text is chosen by that, and the exit status.
   pub end : Exit
   pub ends : IsRunEnd end
@@ -114,6 +115,6 @@ pub record Promise (spec : Spec) (setting : Setting) (turns : ℕ) (ended : Ende
   -- Where the network tells its calls, those of this run are its servers, turns and waits, and the journal notes what they tell.
   pub traffic : LogGets (IsTraffic setting turns end ended.journal) before.network.log after.network.log
   -- A run that is given time comes to its page, where the output doesn't fail in it, unless memory is wanting.
-  pub completes : LogGets (λ calls. IsGivenTime setting turns ended.journal calls → ¬ Rose before.output.faults after.output.faults → IsComplete spec ended before.output after.output) before.network.log after.network.log
+  pub completes : LogGets (λ calls. IsGivenTime setting turns ended.journal calls → ¬ Rose before.output.faults after.output.faults → IsComplete (page_for spec as_book (book_of setting ended.journal) ended.calls) ended.status before.output after.output) before.network.log after.network.log
   -- The text was put, once, and the exit status is that of the end; 4 only where the output failed in this run, and 5 for want of memory.
-  pub put : IsPut (text_at spec ended.calls end) end ended.status before.output after.output
+  pub put : IsPut (text_at (page_for spec as_book (book_of setting ended.journal) ended.calls) end) end ended.status before.output after.output

@@ -13,7 +13,7 @@ use run_end::Ended;
 use std::alloc::Global;
 use tool_line::{AdigAsk, Exit, FileFault, RESOLV_MOST, set_options};
 
-/// Reads resolv.conf, asks with its options and what the words set in place of them, and puts the page.
+/// Reads resolv.conf, asks with its options and what the words set in place of them, and puts the page, or the book.
 pub fn ask<W: World, F: Files, K: Sink>(
     alloc: Global,
     asked: AdigAsk,
@@ -34,12 +34,14 @@ pub fn ask<W: World, F: Files, K: Sink>(
         resolv,
         settings,
         spec,
+        journal,
+        cookie: _,
     } = asked;
     let Ok(file) = files.read(resolv.as_str(), RESOLV_MOST) else {
         return Ended::early(alloc, Exit::OutOfMemory.number());
     };
     match set_options(alloc, settings, &file) {
-        Ok(options) => resolve(alloc, &spec, options, world, sink, turns),
+        Ok(options) => resolve(alloc, &spec, journal, options, world, sink, turns),
         Err(FileFault::Failed) => leave(alloc, sink, Exit::FileFault),
         Err(FileFault::TooLarge) => leave(alloc, sink, Exit::FileFault),
         Err(FileFault::NoMemory) => Ended::early(alloc, Exit::OutOfMemory.number()),

@@ -3,10 +3,13 @@
 
 mod asking;
 mod closing;
+mod cookies;
+mod ended;
+mod lent;
 mod putting;
 mod resolving;
 mod running;
 mod session;
 
-pub use run_end::Ended;
+pub use ended::Ended;
 pub use running::run;

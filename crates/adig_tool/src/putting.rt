@@ -1,13 +1,15 @@
 //! How a run's text is put, once, and what the exit status is then.
 
 ghost use Rattle.std.specs.Prelude.{◌≡◌, Some};
+ghost use Rattle.journal_text.specs.BookText.{text_of_book};
 ghost use Rattle.tool_line.specs.Ending.{text_of};
 ghost use Rattle.tool_line.specs.declared.ending.Tool.TheVariants.{Adig};
-ghost use Rattle.adig_tool.specs.Output.{page_for, text_at};
+ghost use Rattle.adig_tool.specs.Output.{answer_page, page_for, text_at};
 ghost use Rattle.tool_line.specs.Put.{IsPut};
 
 use chan_types::{Calls, Spec};
 use item_list::NoMemory;
+use journal_text::{Book, print_book};
 use net_world::{PutEnd, Sink};
 use std::alloc::Global;
 use tool_line::{Exit, Tool, page_of};
@@ -39,7 +41,7 @@ pub fn put_line<K: Sink>(sink: &mut K, end: Exit) -> u8
 
 /// Puts the page of a request whose callback was called, if it was.
 fn put_page<K: Sink>(alloc: Global, spec: &Spec, calls: &Calls, end: Exit, sink: &mut K) -> u8
-    ensures { IsPut (page_for spec.now calls.now) end result
+    ensures { IsPut (answer_page spec.now calls.now) end result
         (record { bytes = K.bytes sink.old; faults = K.faults sink.old; puts = K.puts sink.old })
         (record { bytes = K.bytes sink.new; faults = K.faults sink.new; puts = K.puts sink.new }) }
 {
@@ -52,14 +54,40 @@ fn put_page<K: Sink>(alloc: Global, spec: &Spec, calls: &Calls, end: Exit, sink:
     }
 }
 
-/// Puts the text of a run that came to this end: its page, or the line in place of it.
-pub fn tell<K: Sink>(alloc: Global, spec: &Spec, calls: &Calls, end: Exit, sink: &mut K) -> u8
-    ensures { IsPut (text_at spec.now calls.now end) end result
+/// Puts the text of the book.
+fn put_book<K: Sink>(alloc: Global, book: &Book, end: Exit, sink: &mut K) -> u8
+    ensures { IsPut (Some (text_of_book book.now)) end result
+        (record { bytes = K.bytes sink.old; faults = K.faults sink.old; puts = K.puts sink.old })
+        (record { bytes = K.bytes sink.new; faults = K.faults sink.new; puts = K.puts sink.new }) }
+{
+    match print_book(alloc, book) {
+        Ok(text) => put(sink, text.as_slice(), end),
+        Err(NoMemory) => Exit::OutOfMemory.number(),
+    }
+}
+
+/// Puts the text of a run that came to this end: its page, or with the flag its book, or the line in place of either.
+pub fn tell<K: Sink>(
+    alloc: Global,
+    spec: &Spec,
+    as_book: bool,
+    book: &Book,
+    calls: &Calls,
+    end: Exit,
+    sink: &mut K,
+) -> u8
+    ensures { IsPut (text_at (page_for spec.now as_book book.now calls.now) end) end result
         (record { bytes = K.bytes sink.old; faults = K.faults sink.old; puts = K.puts sink.old })
         (record { bytes = K.bytes sink.new; faults = K.faults sink.new; puts = K.puts sink.new }) }
 {
     match end {
-        Exit::Success | Exit::Failure => put_page(alloc, spec, calls, end, sink),
+        Exit::Success | Exit::Failure => {
+            if as_book {
+                put_book(alloc, book, end, sink)
+            } else {
+                put_page(alloc, spec, calls, end, sink)
+            }
+        }
         _ => put_line(sink, end),
     }
 }

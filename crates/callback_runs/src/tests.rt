@@ -3,9 +3,10 @@
 
 ghost use Rattle.std.specs.Prelude.{◌≡◌, [], IfOk};
 
+mod destroying;
 mod rows;
 
-use chan_types::{Bytes, Command, NoMemory, Script, Spec};
+use chan_types::{Bytes, Command, Entry, NoMemory, Script, Spec};
 use channel_model::{Desk, Landed, Refused};
 use channel_table::Alone;
 use completion_ticket::{Callback, Hand, Scripted};
@@ -151,10 +152,24 @@ fn channel(alloc: Global) -> Result<Alone<Callback<Scripted>>, NoMemory> {
 
 /// A request whose callback has this script, and these moves behind it. What each move answers, and the journal's lines.
 fn played(alloc: Global, script: Script, moves: &[Move]) -> Result<(Vec<u64>, String), Fail> {
+    let (told, entries) = told_behind(alloc, false, script, moves)?;
+    Ok((told, journal_told(alloc, entries.as_slice())?))
+}
+
+/// The same, on a channel that is destroyed before, where it is said: what each move answers, and the journal's entries.
+fn told_behind(
+    alloc: Global,
+    is_destroyed: bool,
+    script: Script,
+    moves: &[Move],
+) -> Result<(Vec<u64>, Vec<Entry>), Fail> {
+    let spec = query(alloc)?;
     let mut hand = Hand::make(alloc)?;
     let mut desk = channel(alloc)?;
-    let _number = asked(&mut desk, query(alloc)?, script);
+    if is_destroyed {
+        let _first = desk.destroy();
+    }
+    let _number = asked(&mut desk, spec, script);
     let told = told_by(alloc, &mut desk, &mut hand, moves)?;
-    let journal = desk.close();
-    Ok((told, journal_told(alloc, journal.entries.as_slice())?))
+    Ok((told, desk.close().entries))
 }

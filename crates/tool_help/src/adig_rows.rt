@@ -7,7 +7,7 @@ ghost use Rattle.tool_line.specs.Adig.{adig_options};
 use crate::row::OptionRow;
 
 /// The options of adig, in the order of the table by which its words are read.
-static ROWS: [OptionRow; 16] = [
+static ROWS: [OptionRow; 18] = [
     OptionRow {
         name: "server",
         value: Some("ADDRESS,.."),
@@ -87,6 +87,16 @@ static ROWS: [OptionRow; 16] = [
         name: "mix",
         value: None,
         text: "letters have a random case, which replies repeat",
+    },
+    OptionRow {
+        name: "journal",
+        value: None,
+        text: "the journal of the run is put in place of the page",
+    },
+    OptionRow {
+        name: "cookie",
+        value: None,
+        text: "queries over UDP have a DNS cookie",
     },
 ];
 

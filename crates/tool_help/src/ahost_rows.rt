@@ -7,7 +7,7 @@ ghost use Rattle.tool_line.specs.Ahost.{ahost_options};
 use crate::row::OptionRow;
 
 /// The options of ahost, in the order of the table by which its words are read.
-static ROWS: [OptionRow; 20] = [
+static ROWS: [OptionRow; 21] = [
     OptionRow {
         name: "server",
         value: Some("ADDRESS,.."),
@@ -107,6 +107,11 @@ static ROWS: [OptionRow; 20] = [
         name: "then",
         value: Some("ADDRESS,.."),
         text: "the servers that are set behind the first turn",
+    },
+    OptionRow {
+        name: "journal",
+        value: None,
+        text: "the journal of the run is put in place of the page",
     },
 ];
 

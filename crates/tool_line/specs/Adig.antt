@@ -31,6 +31,8 @@ adig_options =
     ∷ (codes "search", false)
     ∷ (codes "reverse", false)
     ∷ (codes "mix", false)
+    ∷ (codes "journal", false)
+    ∷ (codes "cookie", false)
     ∷ []
 
 -- the one plain word, if there is exactly one
@@ -68,6 +70,10 @@ pub record IsSaid (under : Lookup) (ask : AdigAsk) : Type 0 where
   pub settings : AreSetBy under ask.settings
   -- the request
   pub spec : spec_in under ≡ Some ask.spec
+  -- whether the book of the run is asked for in place of the page
+  pub journal : ask.journal ≡ is_used under (codes "journal")
+  -- whether queries over UDP are to have a DNS cookie (RFC 7873)
+  pub cookie : ask.cookie ≡ is_used under (codes "cookie")
 
 -- these words ask this of adig
 abbrev pub AdigAsks : List Text → AdigAsk → Type 0

@@ -39,6 +39,7 @@ ahost_options =
     ∷ (codes "load", true)
     ∷ (codes "seed", true)
     ∷ (codes "then", true)
+    ∷ (codes "journal", false)
     ∷ []
 
 -- the requests for these hosts: there is one host or more, and with `--load` there is none
@@ -80,6 +81,16 @@ later_in under =
     (read_if addresses_in (value_under under (codes "then"))))
     (read_if (number_in 1 65535) (value_under under (codes "port")))
 
+-- whether the book of the run is asked for in place of the page: it isn't with a load
+abbrev pub journal_for : Bool → Bool → Option Bool
+journal_for true true = None
+journal_for true false = Some false
+journal_for false journal = Some journal
+
+-- whether the words ask for the book
+abbrev pub journal_in : Lookup → Option Bool
+journal_in under = journal_for (is_used under (codes "load")) (is_used under (codes "journal"))
+
 -- what is said under the names asks this
 pub record IsSaid (under : Lookup) (ask : AhostAsk) : Type 0 where
   -- the paths of resolv.conf and of the hosts file: those of the words, or where they lie (resolv.conf(5), hosts(5))
@@ -96,6 +107,8 @@ pub record IsSaid (under : Lookup) (ask : AhostAsk) : Type 0 where
   pub load : load_in under ≡ Some ask.load
   -- the servers that are set while requests are pending
   pub later : later_in under ≡ Some ask.later
+  -- whether the book of the run is asked for in place of the page
+  pub journal : journal_in under ≡ Some ask.journal
 
 -- these words ask this of ahost
 abbrev pub AhostAsks : List Text → AhostAsk → Type 0

@@ -17,7 +17,7 @@ use net_addr::read;
 use std::alloc::Global;
 
 /// The options of adig.
-static OPTIONS: [Choice<'static>; 16] = [
+static OPTIONS: [Choice<'static>; 18] = [
     Choice {
         name: "server",
         takes_value: true,
@@ -82,6 +82,14 @@ static OPTIONS: [Choice<'static>; 16] = [
         name: "mix",
         takes_value: false,
     },
+    Choice {
+        name: "journal",
+        takes_value: false,
+    },
+    Choice {
+        name: "cookie",
+        takes_value: false,
+    },
 ];
 
 /// What a command line asks of adig.
@@ -93,6 +101,10 @@ pub struct AdigAsk {
     pub settings: Settings,
     /// The request.
     pub spec: Spec,
+    /// Whether the book of the run stands in place of the page.
+    pub journal: bool,
+    /// Whether queries over UDP have a DNS cookie (RFC 7873).
+    pub cookie: bool,
 }
 
 /// What the words ask of adig. They are refused where they ask nothing.
@@ -119,6 +131,8 @@ fn ask_in(alloc: Global, words: &Words) -> Result<AdigAsk, WordFault>
         resolv,
         settings,
         spec,
+        journal: words.has("journal"),
+        cookie: words.has("cookie"),
     })
 }
 

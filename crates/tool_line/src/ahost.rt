@@ -18,7 +18,7 @@ use net_addr::{AddrList, Family, ServerList};
 use std::alloc::Global;
 
 /// The options of ahost.
-static OPTIONS: [Choice<'static>; 20] = [
+static OPTIONS: [Choice<'static>; 21] = [
     Choice {
         name: "server",
         takes_value: true,
@@ -99,6 +99,10 @@ static OPTIONS: [Choice<'static>; 20] = [
         name: "then",
         takes_value: true,
     },
+    Choice {
+        name: "journal",
+        takes_value: false,
+    },
 ];
 
 /// A list of requests.
@@ -130,6 +134,8 @@ pub struct AhostAsk {
     pub load: Option<Load>,
     /// The servers that are set while requests are pending.
     pub later: Option<ServerList>,
+    /// Whether the book of the run stands in place of the page.
+    pub journal: bool,
 }
 
 /// What the words ask of ahost. They are refused where they ask nothing.
@@ -156,6 +162,7 @@ fn ask_in(alloc: Global, words: &Words) -> Result<AhostAsk, WordFault>
     let workers = number_or(words, "workers", 0, 16, 0)?;
     let load = load_in(words)?;
     let later = later_in(alloc, words)?;
+    let journal = journal_in(words)?;
     Ok(AhostAsk {
         resolv,
         hosts,
@@ -165,6 +172,7 @@ fn ask_in(alloc: Global, words: &Words) -> Result<AhostAsk, WordFault>
         workers,
         load,
         later,
+        journal,
     })
 }
 
@@ -305,4 +313,23 @@ fn later_for(
         }
         None => Ok(None),
     }
+}
+
+/// Whether the book of the run is asked for.
+fn journal_in(words: &Words) -> Result<bool, WordFault>
+    ensures read { IfOk result (λ journal. meaning.journal_in (said words.now) ≡ Some journal) }
+    ensures refused { OnErr result (meaning.journal_in (said words.now) ≡ None) }
+{
+    journal_for(words.has("load"), words.has("journal"))
+}
+
+/// Whether the book is asked for: with a load there is none.
+fn journal_for(loads: bool, journal: bool) -> Result<bool, WordFault>
+    ensures read { IfOk result (λ found. meaning.journal_for loads journal ≡ Some found) }
+    ensures refused { OnErr result (meaning.journal_for loads journal ≡ None) }
+{
+    if loads && journal {
+        return Err(WordFault::Refused);
+    }
+    Ok(journal)
 }

@@ -13,7 +13,7 @@ const FRAME_REST: &[u8] =
     b"\x2d\x12\x34\x81\x80\0\x01\0\x01\0\0\0\0\x07example\x03com\0\0\x01\0\x01\xc0\x0c\0\x01\0\x01\0\0\x01\x2c\0\x04\xc0\0\x02\x01";
 
 /// A truncated reply is asked again over TCP. The reply's frame comes in two pieces, of which the first has one byte.
-const TRUNCATION: Case = Case {
+pub const TRUNCATION: Case = Case {
     shows: "a truncated reply is asked over TCP",
     run: Scenario {
         comings: &[
@@ -57,7 +57,7 @@ close 1
 };
 
 /// The peer ends the link: the attempt fails, and the next one goes over a new link.
-const ENDED_LINK: Case = Case {
+pub const ENDED_LINK: Case = Case {
     shows: "an ended link is opened again",
     run: Scenario {
         line: "--server 192.0.2.53 --no-edns --tcp --tries 2 example.com",

@@ -69,7 +69,7 @@ const MIXED_REPLY: &[u8] =
     b"\x12\x34\x81\x80\0\x01\0\x01\0\0\0\0\x07ExAmple\x03com\0\0\x01\0\x01\xc0\x0c\0\x01\0\x01\0\0\x01\x2c\0\x04\xc0\0\x02\x01";
 
 /// With `--mix` a reply has to repeat the letters: the first one doesn't, and is a stray.
-const MIXED_RUN: Case = Case {
+pub const MIXED_RUN: Case = Case {
     shows: "mixed letters are repeated",
     run: Scenario {
         line: "--server 192.0.2.53 --no-edns --mix example.com",

@@ -20,7 +20,7 @@ const QUERIES: &[u8] =
 
 /// A name without a dot is asked under each domain, and then as it is. One was empty, so that is the status; the message is
 /// the last reply.
-const SEARCH: Case = Case {
+pub const SEARCH: Case = Case {
     shows: "a search goes through the domains",
     run: Scenario {
         line: "--search --no-edns www",
@@ -122,7 +122,7 @@ const NAMES: &[u8] =
     b"\x12\x34\x81\x80\0\x01\0\x01\0\0\0\0\x011\x012\x010\x03192\x07in-addr\x04arpa\0\0\x0c\0\x01\xc0\x0c\0\x0c\0\x01\0\0\0\x3c\0\x0b\x04host\x04test\0";
 
 /// With `--reverse` the name of an address is asked, and type, class and `--search` have no effect.
-const BACKWARDS: Case = Case {
+pub const BACKWARDS: Case = Case {
     shows: "an address is asked backwards",
     run: Scenario {
         line: "--server 192.0.2.53 --reverse --search --type MX --no-edns 192.0.2.1",

@@ -95,7 +95,7 @@ fn a_failing_call_is_a_fault(rt: HostRuntime) -> Result<(), Fail> {
 
 /// The first wait fails. It is call 6, from 0: before it stand a serve, the clock, a receive, a word, a send, and the word for
 /// a further leg. The request is destroyed, and its callback called.
-const FAILING_WAIT: Case = Case {
+pub const FAILING_WAIT: Case = Case {
     shows: "a failing wait is a fault",
     run: Scenario {
         fails: &[6],
@@ -119,7 +119,7 @@ const STALLED: Wanted<'static> = Wanted {
     sent: Sent::All(b""),
 };
 
-const NO_TURNS: Case = Case {
+pub const NO_TURNS: Case = Case {
     shows: "no turns is stalled",
     run: Scenario { turns: 0, ..RUN },
     wanted: STALLED,
@@ -147,7 +147,7 @@ pub const NOT_FOUND: Wanted<'static> = Wanted {
     ..STALLED
 };
 
-const ONION: Case = Case {
+pub const ONION: Case = Case {
     shows: "onion is not found without turns",
     run: Scenario {
         line: "--server 192.0.2.53 x.onion",

@@ -20,14 +20,14 @@ fn asks(alloc: Global) -> Result<Act, NoMemory> {
 }
 
 /// The script that asks.
-fn asking(alloc: Global) -> Result<Script, Fail> {
+pub fn asking(alloc: Global) -> Result<Script, Fail> {
     let mut steps = Steps::new(alloc);
     steps.push(always(asks(alloc)?))?;
     Ok(Script::new(1, steps)?)
 }
 
 /// The script that destroys the channel, and then asks.
-fn destroying(alloc: Global) -> Result<Script, Fail> {
+pub fn destroying(alloc: Global) -> Result<Script, Fail> {
     let mut steps = Steps::new(alloc);
     steps.push(always(Act::Destroy))?;
     steps.push(always(asks(alloc)?))?;
@@ -35,7 +35,7 @@ fn destroying(alloc: Global) -> Result<Script, Fail> {
 }
 
 /// Three requests are cancelled, and the callback of the first asks one more: that one stays, and its reply counts.
-const CANCELLED: [Move; 10] = [
+pub const CANCELLED: [Move; 10] = [
     Move::Ask,
     Move::Ask,
     Move::Cancel,
@@ -67,7 +67,7 @@ fn a_callback_asks_behind_a_cancel(rt: HostRuntime) -> Result<(), Fail> {
 
 /// The first of three requests gets its reply, and its callback destroys the channel: what it asks behind that is refused,
 /// and so is what its owner asks; the others end with EDESTRUCTION.
-const DESTROYED: [Move; 9] = [
+pub const DESTROYED: [Move; 9] = [
     Move::Ask,
     Move::Ask,
     Move::Reply,

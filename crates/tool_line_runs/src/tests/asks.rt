@@ -216,6 +216,30 @@ fn adig_asks_for_names(rt: HostRuntime) -> Result<(), Fail> {
     Ok(())
 }
 
+/// Lines of adig, and which of the two they ask for: the journal in place of the page, and cookies.
+const FLAGGED: &[(&str, bool, bool)] = &[
+    ("x", false, false),
+    ("--journal x", true, false),
+    ("--cookie x", false, true),
+    ("--cookie x --journal", true, true),
+    ("-- --journal", false, false),
+];
+
+/// Whether a line of adig asks for them so.
+fn is_flagged(alloc: Global, row: &(&str, bool, bool)) -> Result<bool, Fail> {
+    let (line, journal, cookie) = *row;
+    let ask = adig_asked(alloc, line)?;
+    Ok(ask.journal == journal && ask.cookie == cookie)
+}
+
+#[test]
+fn adig_asks_for_journal_and_cookies(rt: HostRuntime) -> Result<(), Fail> {
+    for row in FLAGGED {
+        assert!(rt; is_flagged(rt.alloc(), row)?, "{}", row.0);
+    }
+    Ok(())
+}
+
 /// Whether the addresses of this host are asked, of IPv4 alone and unsorted.
 fn is_host(spec: &Spec, text: &[u8]) -> bool {
     match spec {
@@ -302,6 +326,20 @@ fn sets_options(alloc: Global, line: &str) -> Result<bool, Fail> {
 fn ahost_sets_options(rt: HostRuntime) -> Result<(), Fail> {
     assert!(rt; sets_later(rt.alloc(), AHOST_SOME)?);
     assert!(rt; sets_options(rt.alloc(), AHOST_SOME)?);
+    Ok(())
+}
+
+/// Whether a line of ahost asks for the journal in place of the page.
+fn asks_journal(alloc: Global, line: &str) -> Result<bool, Fail> {
+    let ask = ahost_asked(alloc, line)?;
+    Ok(ask.journal)
+}
+
+#[test]
+fn ahost_asks_for_the_journal(rt: HostRuntime) -> Result<(), Fail> {
+    assert!(rt; asks_journal(rt.alloc(), "--journal x")?);
+    assert!(rt; !asks_journal(rt.alloc(), "x")?);
+    assert!(rt; !asks_journal(rt.alloc(), "--load 3")?);
     Ok(())
 }
 

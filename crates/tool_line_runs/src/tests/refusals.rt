@@ -13,6 +13,9 @@ const REFUSED: &str = "--
 --tcp=1 x
 --tcp= x
 --no-edns=no x
+--journal --journal x
+--journal=1 x
+--journal
 --dns x
 --help x
 --version x
@@ -69,9 +72,11 @@ const ADIG_REFUSES: &str = "x y
 --workers 1 x
 --load 1
 --seed 1 x
---then 192.0.2.1 x";
+--then 192.0.2.1 x
+--cookie --cookie x
+--cookie=1 x";
 
-/// Words that ahost refuses: options of adig, values that can't be read, and names or later servers beside a load.
+/// Words that ahost refuses: options of adig, values that can't be read, and names, later servers or a journal beside a load.
 const AHOST_REFUSES: &str = "--type A x
 --class IN x
 --primary x
@@ -93,7 +98,10 @@ const AHOST_REFUSES: &str = "--type A x
 --seed 65536 x
 --then a x
 --load 1 x
---load 1 --then 192.0.2.1";
+--load 1 --then 192.0.2.1
+--load 1 --journal
+--journal --load 1 --seed 2
+--cookie x";
 
 /// Words that adig takes.
 const ADIG_TAKES: &str = "x
@@ -112,7 +120,11 @@ x --tcp
 --class any x
 --tcp --no-edns --primary --ignore-tc --no-recurse --no-check --search --mix x
 --reverse ::1
---tcp -- --tcp";
+--tcp -- --tcp
+--journal x
+--cookie x
+x --cookie --journal
+--journal -- --journal";
 
 /// Words that ahost takes.
 const AHOST_TAKES: &str = "x
@@ -125,7 +137,9 @@ x y
 --family any x
 --mix --no-sort --no-search --follow --first --quit x
 --then 192.0.2.1,192.0.2.2 x
---sources ::1 --hosts h x";
+--sources ::1 --hosts h x
+--journal x y
+x --follow --journal";
 
 /// Whether adig takes the words.
 fn adig_takes<'a>(alloc: Global, words: &'a [&'a str]) -> Result<bool, WordFault> {
