@@ -2,6 +2,7 @@
 //! calls of its callbacks as lines of text.
 
 mod bodies;
+mod books;
 mod boxes;
 mod ending;
 mod families;

@@ -10,6 +10,7 @@ use Rattle.item_list.specs.declared.no_memory.NoMemory.{NoMemory}
 use Rattle.net_addr.specs.declared.addr.ServerAddr.{ServerAddr}
 use Rattle.net_world.specs.Cause.{Rose}
 use Rattle.net_world.specs.declared.log.WorldCall.{WorldCall}
+use Rattle.resolv_options.specs.Values.{OptionValues}
 use Rattle.channel_model.specs.Commands.{Asking, closing_position}
 use Rattle.channel_model.specs.Course.{IsCourse, IsCourseSoFar, has_no_turn}
 use Rattle.channel_model.specs.Endings.{IsStalledBehind}
@@ -280,22 +281,22 @@ module _ (setting : Setting) (later : Option (List ServerAddr)) (turns : ℕ) (r
   comes_to_end (inr (inr (inr (inr w)))) = inr w
 
 -- and then its report is put, where the output doesn't fail
-pub complete_of : (report : Report) (calls : List Answer) (journal : List Entry) (end : Exit) (status : ℕ) (old new : OutputTold) → IsPut (text_at report journal calls end) end status old new → ¬ Rose old.faults new.faults →
-    IsPageEnd end ⊎ (end ≡ OutOfMemory) → IsComplete report (record { status = status; journal = journal; calls = calls }) old new
-complete_of report calls journal end status old new put quiet (inl (inl is)) = of (subst (λ e. PutsText (text_at report journal calls e) e status old new) is put.told)
+pub complete_of : (report : Report) (options : OptionValues) (calls : List Answer) (journal : List Entry) (end : Exit) (status : ℕ) (old new : OutputTold) → IsPut (text_at report options journal calls end) end status old new →
+    ¬ Rose old.faults new.faults → IsPageEnd end ⊎ (end ≡ OutOfMemory) → IsComplete report options (record { status = status; journal = journal; calls = calls }) old new
+complete_of report options calls journal end status old new put quiet (inl (inl is)) = of (subst (λ e. PutsText (text_at report options journal calls e) e status old new) is put.told)
   where
-    of : PutsText (Some (report_of report journal calls)) Success status old new → IsComplete report (record { status = status; journal = journal; calls = calls }) old new
+    of : PutsText (Some (report_of report options journal calls)) Success status old new → IsComplete report options (record { status = status; journal = journal; calls = calls }) old new
     of (inl whole) = inl (inl whole.0, whole.1)
     of (inr (inl part)) = absurd (quiet part.1)
     of (inr (inr none)) = inr none.0
-complete_of report calls journal end status old new put quiet (inl (inr is)) = of (subst (λ e. PutsText (text_at report journal calls e) e status old new) is put.told)
+complete_of report options calls journal end status old new put quiet (inl (inr is)) = of (subst (λ e. PutsText (text_at report options journal calls e) e status old new) is put.told)
   where
-    of : PutsText (Some (report_of report journal calls)) Failure status old new → IsComplete report (record { status = status; journal = journal; calls = calls }) old new
+    of : PutsText (Some (report_of report options journal calls)) Failure status old new → IsComplete report options (record { status = status; journal = journal; calls = calls }) old new
     of (inl whole) = inl (inr whole.0, whole.1)
     of (inr (inl part)) = absurd (quiet part.1)
     of (inr (inr none)) = inr none.0
-complete_of report calls journal end status old new put quiet (inr is) =
-    inr (let h : PutsText None OutOfMemory status old new = subst (λ e. PutsText (text_at report journal calls e) e status old new) is put.told in h.0)
+complete_of report options calls journal end status old new put quiet (inr is) =
+    inr (let h : PutsText None OutOfMemory status old new = subst (λ e. PutsText (text_at report options journal calls e) e status old new) is put.told in h.0)
 
 -- ---- the whole
 

@@ -116,15 +116,15 @@ setting_of options hosts = record { options = options; hosts = hosts }
 -- where the promise is kept over a log of the load's zone and seed, a run that is given time comes to its summary: such a network wakes in time and its waits don't fail
 load_completes : (load : Load) (plans : List Plan) (turns : ℕ) (ended : Ended) (told : List WorldCall) (before after : OutputTold) → IsLogOf (load_zone load.names) load.seed told →
     Promise (asked_by_load load plans) load_setting turns ended (over_calls [] before) (over_calls told after) → 2 * attempts_allowed load_setting ended.journal + received_in told < turns → ¬ Rose before.faults after.faults →
-    IsComplete (Summary load) ended before after
+    IsComplete (Summary load) plain_values ended before after
 load_completes load plans turns ended told before after network promise enough quiet = by promise.ends
   where
     traffic : IsTraffic load_setting None turns promise.end ended.journal told
     traffic = subst (IsTraffic load_setting None turns promise.end ended.journal) (same_item promise.traffic.0 told (sym promise.traffic.1)) promise.traffic.2
 
-    served : promise.end ≢ OutOfMemory → IsComplete (Summary load) ended before after
+    served : promise.end ≢ OutOfMemory → IsComplete (Summary load) plain_values ended before after
     served other =
-        let completes = subst (λ calls. IsGivenTime load_setting turns ended.journal calls → ¬ Rose before.faults after.faults → IsComplete (Summary load) ended before after)
+        let completes = subst (λ calls. IsGivenTime load_setting turns ended.journal calls → ¬ Rose before.faults after.faults → IsComplete (Summary load) plain_values ended before after)
         (same_item promise.completes.0 told (sym promise.completes.1)) promise.completes.2 in
         completes
         (record {
@@ -134,13 +134,13 @@ load_completes load plans turns ended told before after network promise enough q
         })
         quiet
 
-    by : IsRunEnd promise.end → IsComplete (Summary load) ended before after
+    by : IsRunEnd promise.end → IsComplete (Summary load) plain_values ended before after
     by (inl (inl is)) = served (λ out. absurd (let h : Success ≡ OutOfMemory = sym is ∙ out in cc h))
     by (inl (inr is)) = served (λ out. absurd (let h : Failure ≡ OutOfMemory = sym is ∙ out in cc h))
     by (inr (inl is)) = served (λ out. absurd (let h : WaitFault ≡ OutOfMemory = sym is ∙ out in cc h))
     by (inr (inr (inl is))) = served (λ out. absurd (let h : Stalled ≡ OutOfMemory = sym is ∙ out in cc h))
     by (inr (inr (inr is))) =
-        inr (let h : PutsText None OutOfMemory ended.status before after = subst (λ e. PutsText (text_at (Summary load) ended.journal ended.calls e) e ended.status before after) is promise.put.told in h.0)
+        inr (let h : PutsText None OutOfMemory ended.status before after = subst (λ e. PutsText (text_at (Summary load) plain_values ended.journal ended.calls e) e ended.status before after) is promise.put.told in h.0)
 
 -- it is kept where a channel was asked of this setting, over a network that was made so, and that is in the end as it was made
 pub load_run : (load : Load) (plans : List Plan) (turns : ℕ) (ended : Ended) (specs : List Spec) (options : OptionValues) (hosts : List HostLine) (made left : PeerState) (before after : OutputTold) →

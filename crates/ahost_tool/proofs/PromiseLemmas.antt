@@ -6,6 +6,7 @@ use Rattle.std.proofs.lemmas.Bool.{and_from}
 use Rattle.std.proofs.lemmas.List.{append-nil, append_assoc}
 use Rattle.std.proofs.lemmas.List.Folds.{list_all-append}
 use mathlib.Core.List.{IsPrefix}
+use Rattle.chan_types.specs.declared.answer.Answer.{Answer}
 use Rattle.chan_types.specs.declared.journal.Entry.{Entry}
 use Rattle.chan_types.specs.declared.journal.What.TheVariants.{Destroy}
 use Rattle.item_list.specs.declared.no_memory.NoMemory.{NoMemory}
@@ -36,6 +37,7 @@ use Rattle.ahost_tool.specs.Promise.{IsComplete, IsGivenTime, IsOver, IsPageEnd,
 use Rattle.ahost_tool.specs.Session.{AsksFirst, FallsIntoTurns, HasObeyed, IsSession, SetsAtMost}
 use Rattle.owner_laws.specs.Sessions.{longest_slice}
 use Rattle.ahost_tool.specs.declared.caller.Caller.{Caller}
+use Rattle.run_end.specs.declared.ended.Ended.{Ended}
 use Rattle.run_end.specs.declared.loop_end.LoopEnd.{LoopEnd}
 use Rattle.run_end.specs.declared.loop_end.LoopEnd.TheVariants.{Completed, Stalled, WaitFault}
 use Rattle.ahost_tool.proofs.ClosingLemmas.{closing, destroy_destroys, destroy_is, destroyed_once, destroyed_pending, destroyed_stays, destroys_counted}
@@ -276,7 +278,7 @@ module _ {B : Type 0} (asked : Asked) (setting : Setting) (turns : ℕ) (result 
       omega (arith, destroys_counted [] fin.alone.seen, destroyed_once setting (past_of fin.alone.seen) lawful.allowed ∙ ap (λ b. cond b 1 0) fin_destroyed)
 
   pub promise_of : (end : Exit) (status waits_old waits_new : ℕ) (output_old output_new : OutputTold) → IsEndOf result fin.lost fin.calls end →
-      (result ≡ Ok WaitFault → Rose waits_old waits_new) → IsPut (text_at asked.report fin.alone.seen fin.calls end) end status output_old output_new →
+      (result ≡ Ok WaitFault → Rose waits_old waits_new) → IsPut (text_at asked.report setting.options fin.alone.seen fin.calls end) end status output_old output_new →
       Promise asked setting turns (record { status = status; journal = fin.alone.seen; calls = fin.calls })
       (record { network = record { log = log_old; wait_faults = waits_old }; output = output_old })
       (record { network = record { log = log_new; wait_faults = waits_new }; output = output_new })
@@ -308,14 +310,22 @@ module _ {B : Type 0} (asked : Asked) (setting : Setting) (turns : ℕ) (result 
             (λ cs falls. subst (λ j. IsTraffic setting asked.later turns end j cs) (sym fin_seen) (traffic_of setting asked.later turns result fin.calls end mid.alone more mid_setting none_turn unset c cs falls))
             log_old log_new s.told;
         completes = told_as (FallsIntoTurns asked.later turns result mid.alone) (λ cs. IsGivenTime setting turns fin.alone.seen cs → ¬ Rose output_old.faults output_new.faults →
-            IsComplete asked.report (record { status = status; journal = fin.alone.seen; calls = fin.calls }) output_old output_new)
-            (λ cs falls time quiet. complete_of asked.report fin.calls fin.alone.seen end status output_old output_new put quiet
+            IsComplete asked.report setting.options (record { status = status; journal = fin.alone.seen; calls = fin.calls }) output_old output_new)
+            (λ cs falls time quiet. complete_of asked.report setting.options fin.calls fin.alone.seen end status output_old output_new put quiet
             (comes_to_end setting asked.later turns result fin.calls end mid.alone more mid_setting servers tries
             (subst (λ k. IsLawful k mid.alone.seen) mid_setting s.kept.1.lawful) s.kept.1.ruled
             cs falls (subst (λ j. IsGivenTime setting turns j cs) fin_seen time) c))
             log_old log_new s.told;
         put = put;
       }
+
+-- ---- a run that hands out this journal and these answers
+
+pub promise_ended : (asked : Asked) (setting : Setting) (turns : ℕ) (ended : Ended) (journal : List Entry) (calls : List Answer) (before after : Outside) → ended.journal ≡ journal → ended.calls ≡ calls →
+    Promise asked setting turns (record { status = ended.status; journal = journal; calls = calls }) before after → Promise asked setting turns ended before after
+promise_ended asked setting turns ended journal calls before after journal_is calls_are promise =
+    subst (λ j. Promise asked setting turns (record { status = ended.status; journal = j; calls = ended.calls }) before after) (sym journal_is)
+    (subst (λ cs. Promise asked setting turns (record { status = ended.status; journal = journal; calls = cs }) before after) (sym calls_are) promise)
 
 -- ---- a run that made no channel, for want of memory
 
@@ -367,7 +377,7 @@ promise_early asked setting turns outside = record {
   stalled = λ is. absurd (cc is);
   sets = at_most_none setting asked.later [] refl;
   traffic = log_same (IsTraffic setting asked.later turns OutOfMemory []) (nothing_called setting asked.later turns) outside.network.log;
-  completes = log_same (λ calls. IsGivenTime setting turns [] calls → ¬ Rose outside.output.faults outside.output.faults → IsComplete asked.report (record { status = 5; journal = []; calls = [] }) outside.output outside.output)
+  completes = log_same (λ calls. IsGivenTime setting turns [] calls → ¬ Rose outside.output.faults outside.output.faults → IsComplete asked.report setting.options (record { status = 5; journal = []; calls = [] }) outside.output outside.output)
       (λ time quiet. inr refl) outside.network.log;
   put = record { told = (refl, (refl, refl)); counted = omega arith };
 }

@@ -18,11 +18,11 @@ use Rattle.tool_line.specs.declared.files.FileFault.{FileFault as FaultOfFile}
 use Rattle.tool_line.specs.declared.files.FileFault.TheVariants.{Failed, NoMemory as NoMemoryLeft, TooLarge}
 use Rattle.tool_line.specs.declared.switches.Switches.{Switches}
 use Rattle.ahost_tool.specs.Asked.{Asked, asked_of}
+use Rattle.ahost_tool.specs.Page.{report_for}
 use Rattle.ahost_tool.specs.Promise.{Promise}
 use Rattle.ahost_tool.specs.Running.{Comes, EndsEarly, IsRunFor, IsServed, count_names}
-use Rattle.ahost_tool.specs.Setting.{IsPartlyRead, IsRead, IsSettingOf, ReadsSetting}
+use Rattle.ahost_tool.specs.Setting.{IsPartlyRead, IsRead, IsSettingOf, ReadsSetting, hosts_bytes}
 use Rattle.run_end.specs.declared.ended.Ended.{Ended}
-use Rattle.ahost_tool.specs.declared.reporting.Report.TheVariants.{Page}
 use Rattle.ahost_tool.proofs.PromiseLemmas.{promise_early}
 use Rattle.ahost_tool.proofs.SettingLemmas.{none_read}
 
@@ -72,6 +72,7 @@ same_run words plans a b turns ended files_before files_after before after x y r
     let specs : a.specs ≡ b.specs = some_same _ _ (sym says.specs ∙ y.say.specs) in
     let orders : a.orders ≡ b.orders = says.orders ∙ sym y.say.orders in
     let later : a.later ≡ b.later = some_same _ _ (sym says.later ∙ y.say.later) in
+    let journal : a.journal ≡ b.journal = some_same _ _ (sym says.journal ∙ y.say.journal) in
     record {
       setting = run.setting;
       reads = run.reads;
@@ -82,9 +83,10 @@ same_run words plans a b turns ended files_before files_after before after x y r
       made = run.made;
       made_all = run.made_all;
       comes =
-          subst (λ s. Comes (asked_of Page s plans b.orders b.later) turns run.setting ended before after) specs
-          (subst (λ o. Comes (asked_of Page a.specs plans o b.later) turns run.setting ended before after) orders
-          (subst (λ l. Comes (asked_of Page a.specs plans a.orders l) turns run.setting ended before after) later run.comes));
+          subst (λ j. Comes (asked_of (report_for j (hosts_bytes run.reads)) b.specs plans b.orders b.later) turns run.setting ended before after) journal
+          (subst (λ s. Comes (asked_of (report_for a.journal (hosts_bytes run.reads)) s plans b.orders b.later) turns run.setting ended before after) specs
+          (subst (λ o. Comes (asked_of (report_for a.journal (hosts_bytes run.reads)) a.specs plans o b.later) turns run.setting ended before after) orders
+          (subst (λ l. Comes (asked_of (report_for a.journal (hosts_bytes run.reads)) a.specs plans a.orders l) turns run.setting ended before after) later run.comes)));
     }
 
 -- and what is served of it is so
@@ -134,7 +136,7 @@ partly_run ask plans turns files_before files_after outside partly = record {
   read = partly.setting;
   made = inr (refl, (partly.first, partly.is_first, partly.made));
   made_all = λ some. absurd (some refl);
-  comes = early_comes (asked_of Page ask.specs plans ask.orders ask.later) turns partly.result outside;
+  comes = early_comes (asked_of (report_for ask.journal (hosts_bytes partly.reads)) ask.specs plans ask.orders ask.later) turns partly.result outside;
 }
 
 -- or before that
@@ -145,7 +147,8 @@ early_run ask plans turns files outside = partly_run ask plans turns files files
 
 module _ (ask : AhostAsk) (plans : List Plan) (turns : ℕ) (files_before files_after : FilesTold) (resolv hosts : Text) (resolv_is : resolv ≡ string_bytes ask.resolv) (hosts_is : hosts ≡ string_bytes ask.hosts) where
   module _ (ended : Ended) (before after : Outside) where
-    run_for : (setting : Result (OptionValues × List HostLine) FaultOfFile) → IsRead resolv hosts ask.settings setting files_before files_after → Comes (asked_of Page ask.specs plans ask.orders ask.later) turns setting ended before after →
+    run_for : (setting : Result (OptionValues × List HostLine) FaultOfFile) (read : IsRead resolv hosts ask.settings setting files_before files_after) →
+        Comes (asked_of (report_for ask.journal (hosts_bytes read.reads)) ask.specs plans ask.orders ask.later) turns setting ended before after →
         IsRunFor ask plans turns ended files_before files_after before after
     run_for setting read comes = record {
       setting = setting;
@@ -159,9 +162,11 @@ module _ (ask : AhostAsk) (plans : List Plan) (turns : ℕ) (files_before files_
     }
 
     -- the run asked a channel with what they set
-    pub good_run : (options : OptionValues) (lines : List HostLine) → ReadsSetting resolv hosts ask.settings (Ok (options, lines)) files_before files_after →
-        Promise (asked_of Page ask.specs plans ask.orders ask.later) (record { options = options; hosts = lines }) turns ended before after → IsRunFor ask plans turns ended files_before files_after before after
-    good_run options lines read promise = run_for (Ok (options, lines)) read promise
+    pub good_run : (options : OptionValues) (lines : List HostLine) (bytes : List ℕ) → ReadsSetting resolv hosts ask.settings (Ok (options, lines, bytes)) files_before files_after →
+        Promise (asked_of (report_for ask.journal bytes) ask.specs plans ask.orders ask.later) (record { options = options; hosts = lines }) turns ended before after → IsRunFor ask plans turns ended files_before files_after before after
+    good_run options lines bytes read promise =
+        run_for (Ok (options, lines)) read.0
+        (subst (λ bs. Promise (asked_of (report_for ask.journal bs) ask.specs plans ask.orders ask.later) (record { options = options; hosts = lines }) turns ended before after) (sym read.1) promise)
 
     -- a file that can't be read ended the run
     pub fault_run : (fault : FaultOfFile) → fault ≢ NoMemoryLeft → ReadsSetting resolv hosts ask.settings (Err fault) files_before files_after → EndsEarly FileFault ended before after → IsRunFor ask plans turns ended files_before files_after before after

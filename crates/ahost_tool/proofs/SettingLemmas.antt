@@ -16,7 +16,7 @@ use Rattle.tool_line.specs.Words.{Text}
 use Rattle.tool_line.specs.declared.files.FileFault.{FileFault}
 use Rattle.tool_line.specs.declared.files.FileFault.TheVariants.{Failed, NoMemory as NoMemoryLeft, TooLarge}
 use Rattle.tool_line.proofs.ReadLemmas.{read_nothing}
-use Rattle.ahost_tool.specs.Setting.{GivesHosts, GivesSetting, IsPartlyRead, IsRead, IsSettingOf, ReadsFile, ReadsSetting}
+use Rattle.ahost_tool.specs.Setting.{GivesBytes, GivesHosts, GivesSetting, IsPartlyRead, IsRead, IsSettingOf, ReadsFile, ReadsSetting, bytes_read}
 
 -- what a read answered that didn't want memory
 abbrev ok_of : FileRead → Result FileRead NoMemory
@@ -161,9 +161,10 @@ module _ (resolv hosts : Text) (settings : SettingValues) (before after : FilesT
       made = made;
     }
 
-    -- and set this
-    pub reads_both : (lines : List HostLine) → hosts_of other ≡ Ok lines → IsRead resolv hosts settings (Ok (options, lines)) before after
-    reads_both lines says = both_read (Ok (options, lines)) (refl, (other, two, says, refl))
+    -- and set this, with these bytes of the hosts file
+    pub reads_both : (lines : List HostLine) (bytes : List ℕ) → hosts_of other ≡ Ok lines → bytes ≡ bytes_read other → GivesBytes resolv hosts settings (options, lines, bytes) before after
+    unfolding both_read
+    reads_both lines bytes says are = (both_read (Ok (options, lines)) (refl, (other, two, says, refl)), sym are)
 
     -- or the hosts file has a fault
     pub hosts_fault : (fault : FileFault) → (fault ≢ NoMemoryLeft → hosts_of other ≡ Err fault) → ReadsSetting resolv hosts settings (Err fault) before after

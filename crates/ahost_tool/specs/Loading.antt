@@ -64,4 +64,4 @@ pub record IsLoadRun (load : Load) (plans : List Plan) (turns : ℕ) (ended : En
   -- The promise of a run is kept over it, and before the run it had told nothing.
   pub promise : Promise (asked_by_load load plans) load_setting turns ended (over_calls [] before) (over_calls told after)
   -- Such a network wakes in time, and its waits don't fail. So a run that is given more turns than two for each attempt that its requests may spend and one for each item that was received comes to its summary, where the output doesn't fail in it, unless memory is wanting.
-  pub completes : 2 * attempts_allowed load_setting ended.journal + received_in told < turns → ¬ Rose before.faults after.faults → IsComplete (Summary load) ended before after
+  pub completes : 2 * attempts_allowed load_setting ended.journal + received_in told < turns → ¬ Rose before.faults after.faults → IsComplete (Summary load) plain_values ended before after

@@ -20,6 +20,7 @@ use Rattle.channel_progress.specs.Allowed.{attempts_allowed}
 use Rattle.channel_progress.specs.Waking.{NoWaitFailed, WakesInTime}
 use Rattle.net_world.specs.Logs.{LogGets}
 use Rattle.net_addr.specs.declared.addr.ServerAddr.{ServerAddr}
+use Rattle.resolv_options.specs.Values.{OptionValues}
 use Rattle.tool_line.specs.Outside.{GrowsBy, Outside, OutputTold}
 use Rattle.tool_line.specs.Put.{IsPut}
 use Rattle.tool_line.specs.declared.ending.Exit.{Exit}
@@ -85,10 +86,10 @@ pub record IsGivenTime (setting : Setting) (turns : ℕ) (journal : List Entry) 
   pub wakes : WakesInTime calls
   pub waited : NoWaitFailed calls
 
--- the whole report was put, with exit status 0 or 1; or memory was wanting, with 5
-abbrev pub IsComplete : Report → Ended → OutputTold → OutputTold → Type 0
-IsComplete report ended before after =
-    (((ended.status ≡ 0) ⊎ (ended.status ≡ 1)) × GrowsBy before.bytes after.bytes (report_of report ended.journal ended.calls)) ⊎ (ended.status ≡ 5)
+-- the whole report of a channel of these options was put, with exit status 0 or 1; or memory was wanting, with 5
+abbrev pub IsComplete : Report → OptionValues → Ended → OutputTold → OutputTold → Type 0
+IsComplete report options ended before after =
+    (((ended.status ≡ 0) ⊎ (ended.status ≡ 1)) × GrowsBy before.bytes after.bytes (report_of report options ended.journal ended.calls)) ⊎ (ended.status ≡ 5)
 
 -- what a run promises that asks this of a channel of this setting
 pub record Promise (asked : Asked) (setting : Setting) (turns : ℕ) (ended : Ended) (before after : Outside) : Type 0 where
@@ -129,6 +130,6 @@ pub record Promise (asked : Asked) (setting : Setting) (turns : ℕ) (ended : En
   -- Where the network tells its calls, those of this run are its servers, turns and waits, and the journal notes what they tell.
   pub traffic : LogGets (IsTraffic setting asked.later turns end ended.journal) before.network.log after.network.log
   -- A run that is given time comes to its report, where the output doesn't fail in it, unless memory is wanting.
-  pub completes : LogGets (λ calls. IsGivenTime setting turns ended.journal calls → ¬ Rose before.output.faults after.output.faults → IsComplete asked.report ended before.output after.output) before.network.log after.network.log
+  pub completes : LogGets (λ calls. IsGivenTime setting turns ended.journal calls → ¬ Rose before.output.faults after.output.faults → IsComplete asked.report setting.options ended before.output after.output) before.network.log after.network.log
   -- The text was put, once, and the exit status is that of the end; 4 only where the output failed in this run, and 5 for want of memory.
-  pub put : IsPut (text_at asked.report ended.journal ended.calls end) end ended.status before.output after.output
+  pub put : IsPut (text_at asked.report setting.options ended.journal ended.calls end) end ended.status before.output after.output

@@ -20,9 +20,9 @@ use Rattle.tool_line.specs.declared.ending.Tool.TheVariants.{Ahost}
 use Rattle.tool_line.specs.declared.files.FileFault.{FileFault as FaultOfFile}
 use Rattle.ahost_tool.specs.Asked.{Asked, asked_of}
 use Rattle.ahost_tool.specs.Promise.{Promise}
-use Rattle.ahost_tool.specs.Setting.{IsSettingOf}
+use Rattle.ahost_tool.specs.Page.{report_for}
+use Rattle.ahost_tool.specs.Setting.{IsSettingOf, hosts_bytes}
 use Rattle.run_end.specs.declared.ended.Ended.{Ended}
-use Rattle.ahost_tool.specs.declared.reporting.Report.TheVariants.{Page}
 
 -- how many names are asked for: those of a load, or those of the words
 abbrev pub count_names : Option Load → List Spec → ℕ
@@ -63,4 +63,5 @@ pub record IsRunFor (ask : AhostAsk) (plans : List Plan) (turns : ℕ) (ended : 
   -- These reads were made, once each, in this order and with these limits, and no other; where memory was wanting, with exit status 5, the first of them, or none. A run whose channel has a journal has made all of them.
   pub made : HasReadAt ended.status reads files_before.reads files_after.reads
   pub made_all : ended.journal ≢ [] → HasRead reads files_before.reads files_after.reads
-  pub comes : Comes (asked_of Page ask.specs plans ask.orders ask.later) turns setting ended before after
+  -- It puts its page, or where the words ask for it its book, with the bytes of the hosts file that were read.
+  pub comes : Comes (asked_of (report_for ask.journal (hosts_bytes reads)) ask.specs plans ask.orders ask.later) turns setting ended before after

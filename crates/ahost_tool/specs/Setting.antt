@@ -5,7 +5,7 @@ use Rattle.hosts_file.specs.declared.hosts.HostLine.{HostLine}
 use Rattle.net_world.specs.Cause.{Rose}
 use Rattle.net_world.specs.Files.{IsReadOf}
 use Rattle.net_world.specs.declared.answers.FileRead.{FileRead}
-use Rattle.net_world.specs.declared.answers.FileRead.TheVariants.{Failed as NotRead}
+use Rattle.net_world.specs.declared.answers.FileRead.TheVariants.{Absent, Content, Failed as NotRead, Large}
 use Rattle.net_world.specs.declared.read_call.ReadCall.{ReadCall}
 use Rattle.resolv_options.specs.Values.{OptionValues}
 use Rattle.tool_line.specs.Files.{hosts_of, options_set}
@@ -21,6 +21,19 @@ pub record ReadsFile (path : Text) (most : ℕ) (file : FileRead) (before after 
   pub read : IsReadOf before.files path most file
   -- a read fails only where the count of failures rose in this run
   pub fault : file ≡ NotRead → Rose before.faults after.faults
+
+-- the bytes of a file as it was read: none where there is none, or where they weren't read
+abbrev pub bytes_read : FileRead → List ℕ
+bytes_read (Content bytes) = bytes
+bytes_read Absent = []
+bytes_read Large = []
+bytes_read NotRead = []
+
+-- the bytes of the hosts file, which is read second
+abbrev pub hosts_bytes : List ReadCall → List ℕ
+hosts_bytes [] = []
+hosts_bytes (resolv ∷ []) = []
+hosts_bytes (resolv ∷ hosts ∷ more) = bytes_read hosts.read
 
 -- the lines of the hosts file, behind a resolv.conf that gave these options, and the read of it
 abbrev pub GivesHosts : Text → OptionValues → Result (OptionValues × List HostLine) FileFault → List ReadCall → FilesTold → FilesTold → Type 0
@@ -57,9 +70,14 @@ pub record IsPartlyRead (resolv hosts : Text) (settings : SettingValues) (before
   pub is_first : IsPrefix first reads
   pub made : HasRead first before.reads after.reads
 
+-- they were read and give a setting, and the bytes of the hosts file are these
+abbrev pub GivesBytes : Text → Text → SettingValues → OptionValues × List HostLine × List ℕ → FilesTold → FilesTold → Type 0
+GivesBytes resolv hosts settings found before after =
+    (read : IsRead resolv hosts settings (Ok (found.0, found.1)) before after) × (hosts_bytes read.reads ≡ found.2)
+
 -- what a read of both answered
-abbrev pub ReadsSetting : Text → Text → SettingValues → Result (OptionValues × List HostLine) FileFault → FilesTold → FilesTold → Type 0
-ReadsSetting resolv hosts settings (Ok setting) before after = IsRead resolv hosts settings (Ok setting) before after
+abbrev pub ReadsSetting : Text → Text → SettingValues → Result (OptionValues × List HostLine × List ℕ) FileFault → FilesTold → FilesTold → Type 0
+ReadsSetting resolv hosts settings (Ok setting) before after = GivesBytes resolv hosts settings setting before after
 ReadsSetting resolv hosts settings (Err Failed) before after = IsRead resolv hosts settings (Err Failed) before after
 ReadsSetting resolv hosts settings (Err TooLarge) before after = IsRead resolv hosts settings (Err TooLarge) before after
 ReadsSetting resolv hosts settings (Err NoMemoryLeft) before after = IsPartlyRead resolv hosts settings before after

@@ -6,7 +6,7 @@ ghost use Rattle.tool_line.specs.Outside.{files_told, outside};
 ghost use Rattle.ahost_tool.specs.Running.{EndsEarly, IsRunFor};
 
 use crate::putting::put_line;
-use crate::reporting::Report;
+use crate::reporting::report_for;
 use crate::resolving::resolve;
 use crate::setting::read_setting;
 use crate::task::Task;
@@ -16,7 +16,7 @@ use run_end::Ended;
 use std::alloc::Global;
 use tool_line::{AhostAsk, Exit, FileFault};
 
-/// Reads resolv.conf and the hosts file, asks with what they and the words set, and puts the page.
+/// Reads resolv.conf and the hosts file, asks with what they and the words set, and puts the page or the book of the run.
 pub(crate) fn ask<B: Done + Drop, W: World, F: Files, K: Sink>(
     alloc: Global,
     asked: AhostAsk,
@@ -45,16 +45,19 @@ pub(crate) fn ask<B: Done + Drop, W: World, F: Files, K: Sink>(
         workers: _,
         load: _,
         later,
+        journal,
     } = asked;
-    let task = Task {
-        specs,
-        bodies,
-        orders,
-        later,
-        report: Report::Page,
-    };
     match read_setting(alloc, resolv.as_str(), hosts.as_str(), settings, files) {
-        Ok((options, hosts)) => resolve(alloc, task, options, hosts, world, sink, turns),
+        Ok((options, hosts, bytes)) => {
+            let task = Task {
+                specs,
+                bodies,
+                orders,
+                later,
+                report: report_for(journal, bytes),
+            };
+            resolve(alloc, task, options, hosts, world, sink, turns)
+        }
         Err(FileFault::Failed) => leave(alloc, sink, Exit::FileFault),
         Err(FileFault::TooLarge) => leave(alloc, sink, Exit::FileFault),
         Err(FileFault::NoMemory) => Ended::early(alloc, Exit::OutOfMemory.number()),

@@ -7,6 +7,7 @@ mod caller;
 mod closing;
 mod delivering;
 mod loading;
+mod outcome;
 mod page;
 mod performing;
 mod putting;

@@ -9,9 +9,10 @@ ghost use Rattle.ahost_tool.specs.Asked.{asked_of};
 
 use crate::caller::Caller;
 use crate::closing::close;
+use crate::outcome::Outcome;
 use crate::putting::tell;
 use crate::session::session;
-use crate::task::Task;
+use crate::task::{Requests, Task};
 use chan_types::{Calls, Orders};
 use completion_ticket::Done;
 use hosts_file::Hosts;
@@ -41,11 +42,22 @@ pub(crate) fn resolve<B: Done + Drop, W: World, K: Sink>(
         (outside (W.log world.new) (W.wait_faults world.new) (K.bytes sink.new) (K.faults sink.new) (K.puts sink.new)) }
     ensures origin { W.origin world.new ≡ W.origin world.old }
 {
-    let report = task.report;
-    let Ok((known, mut caller)) = caller_with(alloc, options, hosts, task.orders) else {
+    let Task {
+        specs,
+        bodies,
+        orders,
+        later,
+        report,
+    } = task;
+    let Ok((known, mut caller)) = caller_with(alloc, options, hosts, orders) else {
         return Ended::early(alloc, Exit::OutOfMemory.number());
     };
-    let loop_end = session(alloc, &known, task, &mut caller, world, turns);
+    let requests = Requests {
+        specs,
+        bodies,
+        later,
+    };
+    let loop_end = session(alloc, &known, requests, &mut caller, world, turns);
     close(&mut caller);
     let Caller {
         alone,
@@ -55,22 +67,23 @@ pub(crate) fn resolve<B: Done + Drop, W: World, K: Sink>(
     } = caller;
     let journal = alone.close().into_journal();
     let end = ending_of(loop_end, lost, &calls);
-    let status = tell(alloc, report, journal.entries(), &calls, end, sink);
-    Ended {
-        status,
+    let outcome = Outcome {
+        options: known,
         journal,
         calls,
-    }
+    };
+    tell(alloc, report, outcome, end, sink)
 }
 
-/// The owner of a channel with these options and hosts, and the options once more.
+/// The owner of a channel with these options and hosts, and the options once more. They name a server and a try.
 fn caller_with<B: Done + Drop>(
     alloc: Global,
     options: Options,
     hosts: Hosts,
     orders: Orders,
 ) -> Result<(Options, Caller<B>), NoMemory>
-    ensures { IfOk result (λ made. (made.0 ≡ options) × (made.1 ≡ fresh_caller options hosts orders)) }
+    ensures made { IfOk result (λ made. (made.0 ≡ options) × (made.1 ≡ fresh_caller options hosts orders)) }
+    ensures limits { IfOk result (λ made. (1 ≤ length options.servers) × (1 ≤ options.tries)) }
 {
     let known = options.copy(alloc)?;
     let caller = Caller::make(alloc, options, hosts, orders)?;

@@ -15,8 +15,8 @@ use std::alloc::Global;
 use tool_line::{AhostAsk, Exit, WordFault, ahost_ask};
 
 /// Reads the words, resolv.conf and the hosts file, asks for the addresses of each name with the body at its place, and
-/// puts the page: at most `turns` turns over the network. A load is asked for over a network of its own, and no file is
-/// read: its summary is put.
+/// puts the page, or with `--journal` the book of the run: at most `turns` turns over the network. A load is asked for over
+/// a network of its own, and no file is read: its summary is put.
 pub fn run<B: Done + Drop, W: World, F: Files, K: Sink>(
     alloc: Global,
     words: &[&str],

@@ -8,7 +8,7 @@ ghost use Rattle.ahost_tool.specs.Asked.{askings};
 
 use crate::caller::Caller;
 use crate::delivering::deliver_all;
-use crate::task::Task;
+use crate::task::Requests;
 use chan_types::Spec;
 use channel_model::{Desk, Refused, SetFault};
 use channel_table::Alone;
@@ -28,29 +28,27 @@ use std::collections::VecDeque;
 pub(crate) fn session<B: Done + Drop, W: World>(
     alloc: Global,
     options: &Options,
-    task: Task<B>,
+    requests: Requests<B>,
     caller: &mut Caller<B>,
     world: &mut W,
     turns: u64,
 ) -> Result<LoopEnd, NoMemory>
     requires new { IsNew caller.old }
     requires options { options.now ≡ caller.old.alone.setting.options }
-    requires fresh { All (λ body. B.told body ≡ None) task.bodies.items }
-    requires servers { IfSome task.later (λ later. (1 ≤ length later) × (length later ≤ 8)) }
-    ensures session { IsSession (askings task.specs (map B.plan task.bodies.items)) task.later turns result
+    requires fresh { All (λ body. B.told body ≡ None) requests.bodies.items }
+    requires servers { IfSome requests.later (λ later. (1 ≤ length later) × (length later ≤ 8)) }
+    ensures session { IsSession (askings requests.specs (map B.plan requests.bodies.items)) requests.later turns result
         caller.old caller.new (W.log world.old) (W.log world.new) }
     ensures waits { W.wait_faults world.old ≤ W.wait_faults world.new }
     ensures origin { W.origin world.new ≡ W.origin world.old }
     ensures wait_fault { result ≡ Ok LoopEnd.WaitFault
         → Rose (W.wait_faults world.old) (W.wait_faults world.new) }
 {
-    let Task {
+    let Requests {
         specs,
         bodies,
-        orders: _,
         later,
-        report: _,
-    } = task;
+    } = requests;
     let mut runner = Runner::make(alloc, world, options)?;
     accept_all(&mut caller.alone, specs.into_vec(), bodies)?;
     make_turns(caller, later, &mut runner, world, turns)

@@ -16,3 +16,11 @@ pub(crate) struct Task<B: Done + Drop> {
     pub later: Option<ServerList>,
     pub report: Report,
 }
+
+/// The part of it that the turns of a run need: the requests with their bodies, and the later servers.
+#[derive(Drop)]
+pub(crate) struct Requests<B: Done + Drop> {
+    pub specs: SpecList,
+    pub bodies: Vec<B>,
+    pub later: Option<ServerList>,
+}

@@ -34,7 +34,7 @@ const LOCALHOST_IS_IN_THE_HOSTS_FILE: Case = Case {
 };
 
 /// The same with a resolv.conf: its server is told, and nothing is sent to it.
-const A_RESOLV_CONF_NAMES_THE_SERVER: Case = Case {
+pub(super) const A_RESOLV_CONF_NAMES_THE_SERVER: Case = Case {
     shows: "a resolv conf names the server",
     run: Scenario {
         line: "localhost",

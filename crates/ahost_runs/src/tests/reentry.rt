@@ -13,7 +13,7 @@ const REPLY: &[u8] =
     b"\x12\x34\x81\x80\0\x01\0\x01\0\0\0\0\x01x\x04test\0\0\x01\0\x01\xc0\x0c\0\x01\0\x01\0\0\x01\x2c\0\x04\xc0\0\x02\x01";
 
 /// What a callback asks during a cancel isn't cancelled: it is pending then, and its reply counts.
-const A_REQUEST_ASKED_DURING_A_CANCEL_STAYS: Case = Case {
+pub(super) const A_REQUEST_ASKED_DURING_A_CANCEL_STAYS: Case = Case {
     shows: "a request asked during a cancel stays",
     run: Scenario {
         line: "--server 192.0.2.53 --no-edns --family 4 x.test. y.test. z.test. 192.0.2.1",
@@ -52,7 +52,7 @@ destroy
 };
 
 /// A callback destroys the channel and then asks: that request is refused, and the others end with the channel.
-const A_DESTROYED_CHANNEL_REFUSES: Case = Case {
+pub(super) const A_DESTROYED_CHANNEL_REFUSES: Case = Case {
     shows: "a destroyed channel refuses",
     run: Scenario {
         line: "--server 192.0.2.53 --no-edns --family 4 x.test. y.test. z.test.",

@@ -5,7 +5,7 @@ use std::test::Fail;
 
 /// Two servers are silent, and two others are set behind the first turn, of which the first is one of the old ones: it
 /// keeps its key, and the other gets the next.
-const SERVERS_ARE_SET_BEHIND_THE_FIRST_TURN: Case = Case {
+pub(super) const SERVERS_ARE_SET_BEHIND_THE_FIRST_TURN: Case = Case {
     shows: "servers are set behind the first turn",
     run: Scenario {
         line: "--server 192.0.2.1,192.0.2.2 --tries 2 --family 4 --then 192.0.2.2,192.0.2.3 x.test.",

@@ -4,7 +4,8 @@ use Rattle.ahost_tool.proofs.asking.ask.Goals as goal
 -- the files were read
 pub returns-in-Ok-clause-promise : goal.returns-in-Ok-clause-promise
 returns-in-Ok-clause-promise g c =
-    good_run c.args.asked _ c.args.turns _ _ _ _ c.as_str.ensures.value c.as_str-2.ensures.value _ _ _ c.in-Ok.options c.in-Ok.hosts c.in-Ok.ensures.reads c.resolve.ensures.promise
+    good_run c.args.asked _ c.args.turns _ _ _ _ c.as_str.ensures.value c.as_str-2.ensures.value _ _ _ c.in-Ok.options c.in-Ok.hosts c.in-Ok.bytes c.in-Ok.ensures.reads
+    (rw c.report_for.ensures at c.resolve.ensures.promise)
 
 -- ---- a file that can't be read
 

@@ -46,4 +46,4 @@ returns-clause-reads g c =
     (was_read _ _ _ _ _ _ _ _ _ _ c.in_ok-file.file refl (omega arith) c.read-2.ensures.cause.later c.in_ok-file.ensures.answer c.in_ok-file.ensures.cause _)
     c.in_ok-options.ensures.read
     (was_read _ _ _ _ _ _ _ _ _ _ c.in_ok-lines.lines c.read.ensures.files c.read.ensures.cause.later (omega arith) c.in_ok-lines.ensures.answer c.in_ok-lines.ensures.cause _)
-    (read_then _ _ _ _ _ c.in_ok-file.ensures.reads c.in_ok-lines.ensures.reads) _ c.in_ok-hosts.ensures.read
+    (read_then _ _ _ _ _ c.in_ok-file.ensures.reads c.in_ok-lines.ensures.reads) _ _ c.in_ok-hosts.ensures.read c.bytes_of.ensures
