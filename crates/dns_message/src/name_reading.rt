@@ -1,7 +1,7 @@
 //! Reading a name of a message: runs of labels, each ended by the root's zero byte or by a pointer
 //! (RFC 1035, section 4.1.4).
 
-ghost use Rattle.std.specs.Prelude.{◌≡◌, ℕ, List, ◌+◌, ◌-◌, ◌<◌, ◌≤◌, ◌≢◌, ◌++◌, Ok, Err, length, slice_range, IfOk, MatchResult};
+ghost use Rattle.std.specs.Prelude.{◌≡◌, ℕ, List, ◌+◌, ◌-◌, ◌<◌, ◌≤◌, ◌≢◌, ◌++◌, Ok, Err, length, slice_range, IfErr, IfOk, MatchResult};
 ghost use Rattle.dns_message.specs.Reading.{EndsWithin, Gives, byte_at, label_end, run_of, name_of};
 ghost use Rattle.dns_message.specs.Name.{wire_length};
 ghost use Rattle.dns_message.specs.Wire.{IsWire, labels_in};
@@ -38,6 +38,7 @@ fn end_of_label(bytes: &[u8], start: usize, at: usize, taken: usize) -> Result<u
         → label_end bytes.now start at front ≡ Ok next)
         (λ fault. (front : List (List ℕ)) → wire_length front ≡ taken
         → label_end bytes.now start at front ≡ Err fault) }
+    ensures memory { IfErr result (λ fault. fault ≢ MessageFault.NoMemory) }
     ensures end { IfOk result (λ end. end ≡ at + 1 + byte_at bytes.now at) }
     ensures within { IfOk result (λ end. end ≤ length bytes.now) }
     ensures label { IfOk result (λ end. (1 ≤ byte_at bytes.now at) × (byte_at bytes.now at ≤ 63)) }
@@ -65,6 +66,7 @@ pub fn run_at(bytes: &[u8], start: usize, run: usize, taken: usize) -> Result<Ru
         ≡ Ok (front ++ labels_in (slice_range bytes.now run found.stop), found.end))
         (λ fault. (front : List (List ℕ)) → wire_length front ≡ taken
         → run_of bytes.now start run front ≡ Err fault) }
+    ensures memory { IfErr result (λ fault. fault ≢ MessageFault.NoMemory) }
     ensures taken { IfOk result (λ found. (front : List (List ℕ)) → wire_length front ≡ taken
         → wire_length (front ++ labels_in (slice_range bytes.now run found.stop))
         ≡ taken + (found.stop - run)) }
@@ -148,6 +150,7 @@ pub fn name_end(bytes: &[u8], start: usize) -> Result<usize, MessageFault>
     ensures read { MatchResult result
         (λ next. (labels : List (List ℕ)) × (name_of bytes.now start ≡ Ok (labels, next)))
         (λ fault. name_of bytes.now start ≡ Err fault) }
+    ensures memory { IfErr result (λ fault. fault ≢ MessageFault.NoMemory) }
     ensures within { IfOk result (λ next. (start < next) × (next ≤ length bytes.now)) }
 {
     let mut taken = 1;

@@ -1,6 +1,6 @@
 //! The parts of a message that have a fixed place: so many bytes, and numbers, the highest byte first (RFC 1035, section 2.3.2).
 
-ghost use Rattle.std.specs.Prelude.{◌≡◌, ◌+◌, ◌≤◌, length, Ok, Err, IfOk, MatchResult};
+ghost use Rattle.std.specs.Prelude.{◌≡◌, ◌+◌, ◌≤◌, ◌≢◌, length, Ok, Err, IfErr, IfOk, MatchResult};
 ghost use Rattle.byteorder.specs.Endian.{big_from};
 ghost use Rattle.dns_message.specs.Reading.{part_of};
 
@@ -13,6 +13,7 @@ pub fn part_at(bytes: &[u8], at: usize, len: usize) -> Result<&[u8], MessageFaul
     ensures read { MatchResult result
         (λ part. part_of bytes.now at len ≡ Ok part.now)
         (λ fault. part_of bytes.now at len ≡ Err fault) }
+    ensures memory { IfErr result (λ fault. fault ≢ MessageFault.NoMemory) }
     ensures len { IfOk result (λ part. length part.now ≡ len) }
     ensures within { IfOk result (λ part. at + len ≤ length bytes.now) }
 {

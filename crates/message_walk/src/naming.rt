@@ -1,6 +1,6 @@
 //! Whether the name at an offset is a certain one, read run by run (RFC 1035, section 4.1.4).
 
-ghost use Rattle.std.specs.Prelude.{◌≡◌, ◌≤◌, ◌<◌, ◌↔◌, drop, length, IfOk, IsTrue};
+ghost use Rattle.std.specs.Prelude.{◌≡◌, ◌≤◌, ◌<◌, ◌≢◌, ◌↔◌, drop, length, IfErr, IfOk, IsTrue};
 ghost use Rattle.dns_message.specs.Reading.{name_of};
 ghost use Rattle.message_walk.specs.Matching.{SameBytes, agrees, is_front};
 ghost use Rattle.message_walk.specs.Telling.{Tells};
@@ -16,6 +16,7 @@ pub fn name_is(
     exact: bool,
 ) -> Result<(bool, usize), MessageFault>
     ensures read { Tells (λ labels. agrees exact labels name.now) result (name_of bytes.now start) }
+    ensures memory { IfErr result (λ fault. fault ≢ MessageFault.NoMemory) }
     ensures within { IfOk result (λ found. (start < found.1) × (found.1 ≤ length bytes.now)) }
 {
     let wire = name.as_wire();

@@ -1,6 +1,6 @@
 //! Whether the question at an offset is a certain one (RFC 1035, section 4.1.2).
 
-ghost use Rattle.std.specs.Prelude.{◌≤◌, length, IfOk};
+ghost use Rattle.std.specs.Prelude.{◌≤◌, ◌≢◌, length, IfErr, IfOk};
 ghost use Rattle.dns_message.specs.Reading.{question_of};
 ghost use Rattle.message_walk.specs.Matching.{repeats};
 ghost use Rattle.message_walk.specs.Telling.{Tells};
@@ -22,6 +22,7 @@ pub fn question_is(
     exact: bool,
 ) -> Result<(bool, usize), MessageFault>
     ensures read { Tells (λ question. repeats exact question asked.now) result (question_of bytes.now at) }
+    ensures memory { IfErr result (λ fault. fault ≢ MessageFault.NoMemory) }
     ensures end { IfOk result (λ found. found.1 ≤ length bytes.now) }
 {
     let (same, fixed_at) = name_is(bytes, at, &asked.name, exact)?;

@@ -1,6 +1,6 @@
 //! Whether rdata has its shape, without expanding its names (RFC 1035, sections 3.3 and 3.4).
 
-ghost use Rattle.std.specs.Prelude.{◌+◌, ◌≤◌, length, IfOk};
+ghost use Rattle.std.specs.Prelude.{◌+◌, ◌≤◌, ◌≢◌, length, IfErr, IfOk};
 ghost use Rattle.dns_message.specs.Reading.{joined_of, expanded_name, names_rdata, or_else, rdata_of};
 ghost use Rattle.message_walk.specs.Telling.{Ends, Reads};
 
@@ -9,7 +9,8 @@ use dns_message::{MessageFault, NamesShape, Shape, name_end, string_count};
 /// Tells of the rdata of `len` bytes at an offset whether it has this shape.
 pub fn check_rdata(bytes: &[u8], at: usize, len: usize, shape: Shape) -> Result<(), MessageFault>
     requires { at + len ≤ length bytes.now }
-    ensures { Reads result (rdata_of bytes.now at len shape) }
+    ensures read { Reads result (rdata_of bytes.now at len shape) }
+    ensures memory { IfErr result (λ fault. fault ≢ MessageFault.NoMemory) }
 {
     let rdata = &bytes[at..at + len];
     let fits = match shape {
@@ -29,7 +30,8 @@ pub fn check_rdata(bytes: &[u8], at: usize, len: usize, shape: Shape) -> Result<
 /// Tells whether the rdata is so many bytes, so many names and so many bytes.
 fn check_names(bytes: &[u8], at: usize, len: usize, shape: NamesShape) -> Result<(), MessageFault>
     requires { at + len ≤ length bytes.now }
-    ensures { Reads result (names_rdata bytes.now at len shape) }
+    ensures read { Reads result (names_rdata bytes.now at len shape) }
+    ensures memory { IfErr result (λ fault. fault ≢ MessageFault.NoMemory) }
 {
     let bad = MessageFault::BadRdata(at as u64);
     if len < shape.front {
@@ -51,6 +53,7 @@ fn names_end(
 ) -> Result<usize, MessageFault>
     requires { at ≤ length bytes.now }
     ensures read { Ends result (joined_of (λ p. or_else bad (expanded_name bytes.now p)) count at) }
+    ensures memory { bad ≢ MessageFault.NoMemory → IfErr result (λ fault. fault ≢ MessageFault.NoMemory) }
     ensures within { IfOk result (λ next. next ≤ length bytes.now) }
 {
     let mut next = at;

@@ -1,6 +1,6 @@
 //! What one record says (RFC 1035, section 4.1.3).
 
-ghost use Rattle.std.specs.Prelude.{◌≡◌, ◌≤◌, [], ◌∷◌, length, IfOk};
+ghost use Rattle.std.specs.Prelude.{◌≡◌, ◌≤◌, ◌≢◌, [], ◌∷◌, length, IfErr, IfOk};
 ghost use Rattle.dns_message.specs.Reading.{record_of};
 ghost use Rattle.message_walk.specs.Sections.{section_of, wanted_by};
 ghost use Rattle.message_walk.specs.Telling.{Tells};
@@ -24,6 +24,7 @@ pub fn record_told(
 ) -> Result<(Section, usize), MessageFault>
     requires { at ≤ length bytes.now }
     ensures read { Tells (λ rr. section_of wanted (rr ∷ [])) result (record_of bytes.now at) }
+    ensures memory { IfErr result (λ fault. fault ≢ MessageFault.NoMemory) }
     ensures end { IfOk result (λ found. found.1 ≤ length bytes.now) }
 {
     let fixed_at = name_end(bytes, at)?;

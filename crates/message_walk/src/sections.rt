@@ -1,6 +1,6 @@
 //! What the records of a section say (RFC 1035, section 4.1.3; RFC 6891, section 6.1.1).
 
-ghost use Rattle.std.specs.Prelude.{◌≡◌, ◌≤◌, length, IfOk};
+ghost use Rattle.std.specs.Prelude.{◌≡◌, ◌≤◌, ◌≢◌, length, IfErr, IfOk};
 ghost use Rattle.dns_message.specs.Reading.{items_of, record_of};
 ghost use Rattle.message_walk.specs.Sections.{both, section_of, together};
 ghost use Rattle.message_walk.specs.Telling.{Tells};
@@ -37,6 +37,7 @@ pub fn section_at(
 ) -> Result<(Section, usize), MessageFault>
     requires { at ≤ length bytes.now }
     ensures read { Tells (section_of wanted) result (items_of (record_of bytes.now) count at) }
+    ensures memory { IfErr result (λ fault. fault ≢ MessageFault.NoMemory) }
     ensures end { IfOk result (λ found. found.1 ≤ length bytes.now) }
 {
     let mut section = Section {

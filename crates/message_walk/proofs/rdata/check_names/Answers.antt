@@ -3,8 +3,8 @@ use Rattle.std.specs.Prelude.{◌||◌, not, slice_range}
 use Rattle.std.proofs.lemmas.Bool.Decides.{nat_tests}
 use Rattle.message_walk.proofs.rdata.check_names.Goals as goal
 
-pub returns : goal.returns
-returns c =
+pub returns-clause-read : goal.returns-clause-read
+returns-clause-read c =
     let ended = c.in_ok-next.ensures.read in
     let front : ltb c.args.len c.args.shape.front ≡ false = grind (arith, nat_tests) in
     let back : (ltb (c.args.at + c.args.len) c.in_ok-next.next || not (c.args.at + c.args.len - c.in_ok-next.next == c.args.shape.back)) ≡ false = grind (arith, nat_tests) in (

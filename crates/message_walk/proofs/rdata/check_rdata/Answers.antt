@@ -10,8 +10,8 @@ two : (count : Option ℕ) → option_eq eqb count (Some 2) ≡ true → is_two 
 two None e = e
 two (Some count) e = e
 
-pub returns-then-fits : goal.returns-then-fits
-returns-then-fits c =
+pub returns-then-fits-clause-read : goal.returns-then-fits-clause-read
+returns-then-fits-clause-read c =
     let rdata = slice_range c.args.bytes.now c.args.at (c.args.at + c.args.len) in
     elim c.match-shape.branch [
       | in-Any w ↦ (rdata, rw w.in-Any.is refl)

@@ -16,7 +16,7 @@ returns-clause-read c =
     let class = c.u16_in-class.result in
     let len = c.u16_in-len.result in
     let name = c.in_ok-fixed_at.ensures.read in
-    let checked = c.in_ok-check_rdata.ensures in
+    let checked = c.in_ok-check_rdata.ensures.read in
     let rr : Record = record { name = name.0; kind = kind; class = class; ttl = c.u32_in.result; rdata = checked.0 } in
     let within : len ≤ length bytes - p = omega (arith, c.in_ok-rdata.ensures.within) in
     let whole : part_of bytes p len ≡ Ok (slice_range bytes p (p + len)) = part_is bytes p len within in
