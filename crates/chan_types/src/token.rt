@@ -7,11 +7,15 @@ use crate::script::Script;
 use std::alloc::Global;
 use std::marker::Model;
 
-/// What a request is accepted with, and what comes back with its answer. It has a script, which never changes.
+/// What a request is accepted with, and what comes back with its answer. It has a script, which never changes, and a name
+/// that contracts see: who it is.
 pub trait Token: Drop {
+    ghost use Rattle.std.specs.Prelude.{ℕ};
     ghost use Rattle.chan_types.specs.declared.script.Script.{Script};
 
     ghost plan: { Self → Script };
+
+    ghost name: { Self → ℕ };
 
     /// The commands that will be given for the answer.
     fn script(&self) -> &Script
@@ -50,6 +54,8 @@ impl Token for Quiet {
     ghost use Rattle.chan_types.specs.Plans.{blank};
 
     ghost plan = { λ quiet. blank 0 };
+
+    ghost name = { λ quiet. 0 };
 
     fn script(&self) -> &Script {
         &self.script

@@ -10,6 +10,8 @@ use Rattle.channel_model.specs.Journal.{own_entries}
 use Rattle.channel_model.specs.Known.{Calls, GoesOn, IsSameDesk, Known, StandsAt}
 use Rattle.channel_model.specs.Lawful.{IsLawful}
 use Rattle.channel_model.specs.Meanings.{Meaning}
+use Rattle.channel_model.specs.Names.{NamesBecome}
+use Rattle.channel_model.proofs.NameLemmas.{names_stay_behind, names_stay_refl, names_stay_trans}
 use Rattle.channel_model.specs.Seen.{entries_of}
 
 -- the entries of others aren't the desk's own
@@ -34,12 +36,13 @@ goes_on_refl known = record {
   seen = sym (append-nil known.seen);
   lawful = λ was. was;
   own = sym (append-nil known.own);
+  names = names_stay_refl known.names;
 }
 
 -- and by adding at a later position what a call adds, whatever it means
 pub adds_goes_on : (by : ℕ) (old new : Known) (here : List Entry) (added : Option What) → IsSameDesk old new → StandsAt old here
-    → new.seen ≡ here ++ entries_of old.seat by added → new.own ≡ old.own ++ entries_of old.seat by added → IsLawful new.setting new.seen → GoesOn old new
-adds_goes_on by old new here added desk stands seen own lawful =
+    → new.seen ≡ here ++ entries_of old.seat by added → new.own ≡ old.own ++ entries_of old.seat by added → NamesBecome added old.names new.names → IsLawful new.setting new.seen → GoesOn old new
+adds_goes_on by old new here added desk stands seen own names lawful =
     let more : List Entry = entries_of old.seat by added in
     let mine : own_entries old.seat (stands.others ++ more) ≡ more =
     own-append old.seat stands.others more ∙ ap₂ (λ xs ys. xs ++ ys) (own-others old.seat stands.others stands.by_others) (own_added old.seat by added) in
@@ -49,11 +52,12 @@ adds_goes_on by old new here added desk stands seen own lawful =
       seen = seen ∙ ap (λ h. h ++ more) stands.parts ∙ append_assoc old.seen stands.others more;
       lawful = λ _. lawful;
       own = own ∙ sym (ap (λ es. old.own ++ es) mine);
+      names = names_stay_behind old.seat by added stands.others old.names new.names names;
     }
 
 -- so each call lets its desk go on
 pub call_goes_on : (meaning : Meaning) (by : ℕ) (old new : Known) → Calls meaning by old new → GoesOn old new
-call_goes_on meaning by old new call = adds_goes_on by old new call.here call.added call.desk call.stands call.seen call.own call.lawful
+call_goes_on meaning by old new call = adds_goes_on by old new call.here call.added call.desk call.stands call.seen call.own call.names call.lawful
 
 -- behind one call, what is seen has gone on by entries of others, and then by what the call added
 pub calls_stretch : (meaning : Meaning) (by : ℕ) (old new : Known) (calls : Calls meaning by old new) →
@@ -77,6 +81,7 @@ goes_on_trans old middle new before behind = record {
   own = behind.own ∙ ap₂ (λ es seat. es ++ own_entries seat behind.since) before.own before.desk.seat
       ∙ append_assoc old.own (own_entries old.seat before.since) (own_entries old.seat behind.since)
       ∙ ap (λ es. old.own ++ es) (sym (own-append old.seat before.since behind.since));
+  names = names_stay_trans before.since behind.since old.names middle.names new.names before.names behind.names;
 }
 
 -- the entries that a desk made stay those of its seat

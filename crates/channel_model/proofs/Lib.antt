@@ -5,6 +5,7 @@ pub mod FlightLemmas
 pub mod LawfulLemmas
 pub mod TestLemmas
 pub mod CompletionLemmas
+pub mod NameLemmas
 pub mod DeskLemmas
 pub mod IdentifierLemmas
 pub mod SortingLemmas

@@ -3,6 +3,8 @@
 pub use Rattle.channel_model.proofs.JournalLemmas.{IsLawfulPast-before, fate-one, followed_by-append, lawful_push, past_of-prefix, past_of-push}
 -- Calls of a desk, one after the other.
 pub use Rattle.channel_model.proofs.DeskLemmas.{adds_goes_on, call_goes_on, calls_stretch, goes_on_refl, goes_on_trans, own-append, own-others, own_added, own_stays}
+-- The names of tokens, from entry to entry.
+pub use Rattle.channel_model.proofs.NameLemmas.{name_kept_by_insert, name_kept_by_remove, name_put, names_stay_behind, names_stay_refl, names_stay_trans, unknown_gives, unknown_keeps}
 -- Legs in flight and waiting, in any past and in a lawful one.
 pub use Rattle.channel_model.proofs.FlightLemmas.{begun_or-other, each_flies, flight-cases, flight-leg, flight-started, has_leg-new, in_flight-none, is_leg-itself, is_leg-says, unless_closed-says}
 pub use Rattle.channel_model.proofs.LawfulLemmas.{Waits, each_waits, ended_lands, first_waits, flies_by_position, flight_open, idle_says, legs_of_request, none_says, one_leg, start_allowed, start_idle, waits_says}

@@ -7,10 +7,11 @@ use Rattle.chan_types.specs.declared.journal.What.{What}
 use Rattle.channel_model.specs.Journal.{own_entries, past_of}
 use Rattle.channel_model.specs.Lawful.{IsLawful}
 use Rattle.channel_model.specs.Meanings.{Meaning}
+use Rattle.channel_model.specs.Names.{Names, NamesBecome, NamesStay}
 use Rattle.channel_model.specs.Seen.{entries_of}
 use Rattle.channel_model.specs.Setting.{Setting}
 
--- the channel's setting; which channel it is, where there are several; the desk's seat; the request whose callback's commands it performs, or 0; the entries that it made; and a journal with which the channel's begins
+-- the channel's setting; which channel it is, where there are several; the desk's seat; the request whose callback's commands it performs, or 0; the entries that it made; a journal with which the channel's begins; and the names of the tokens in it, if it has the channel alone
 pub record Known : Type 0 where
   pub setting : Setting
   pub home : Gv
@@ -18,6 +19,7 @@ pub record Known : Type 0 where
   pub voice : ℕ
   pub own : List Entry
   pub seen : List Entry
+  pub names : Option Names
 
 -- the journal stood so when a call took effect: what stands there behind what the desk had seen was made by other seats
 pub record StandsAt (old : Known) (here : List Entry) : Type 0 where
@@ -41,12 +43,14 @@ pub record Calls (meaning : Meaning) (by : ℕ) (old new : Known) : Type 0 where
   pub stands : StandsAt old here
   pub seen : new.seen ≡ here ++ entries_of old.seat by added
   pub own : new.own ≡ old.own ++ entries_of old.seat by added
+  pub names : NamesBecome added old.names new.names
   pub lawful : IsLawful new.setting new.seen
 
--- between two moments the desk stayed the same, the journal that it has seen went on and is lawful if it was, and the desk made those of the new entries that have its seat
+-- between two moments the desk stayed the same, the journal that it has seen went on and is lawful if it was, the desk made those of the new entries that have its seat, and tokens stayed but those of requests that were accepted or taken
 pub record GoesOn (old new : Known) : Type 0 where
   pub desk : IsSameDesk old new
   pub since : List Entry
   pub seen : new.seen ≡ old.seen ++ since
   pub lawful : IsLawful old.setting old.seen → IsLawful new.setting new.seen
   pub own : new.own ≡ old.own ++ own_entries old.seat since
+  pub names : NamesStay since old.names new.names

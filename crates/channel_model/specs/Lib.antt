@@ -17,6 +17,7 @@ pub mod Choice
 pub mod Lawful
 pub mod Tests
 pub mod Identifiers
+pub mod Names
 pub mod Known
 pub mod Meanings
 pub mod Seen

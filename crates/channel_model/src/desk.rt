@@ -2,6 +2,7 @@
 
 ghost use Rattle.std.specs.Prelude.{length, ◌≤◌};
 ghost use Rattle.channel_model.specs.Known.{Known, Calls};
+ghost use Rattle.channel_model.specs.Names.{KeepsName, GivesName};
 ghost use Rattle.channel_model.specs.Meanings.{Accepts, Cancels, Destroys, Takes, Starts, Arrives, Expires, Fails, TellsDue, TellsCounts, TellsBusy, SetsServers};
 
 use crate::answers::{Begun, Counts, Landed, Lapse, Refused, SetFault};
@@ -20,7 +21,8 @@ pub trait Desk {
     /// Accepts a request, and answers its number. A name that can't be asked completes it at once.
     fn accept(&mut self, spec: Spec, token: Self::Token) -> Result<u64, Refused<Self::Token>>
         ensures done { Calls (Accepts Self.Token.plan spec token result) (known self.old).voice
-            (known self.old) (known self.new) };
+            (known self.old) (known self.new) }
+        ensures named { KeepsName (Self.Token.name token) result (known self.new).names };
 
     /// Completes every pending request as cancelled, and answers how many there were.
     fn cancel(&mut self) -> u64
@@ -30,9 +32,10 @@ pub trait Desk {
     fn destroy(&mut self) -> bool
         ensures done { Calls (Destroys result) (known self.old).voice (known self.old) (known self.new) };
 
-    /// Moves out the first ready request.
+    /// Moves out the first ready request, with the token that it was accepted with.
     fn take(&mut self) -> Option<Ticket<Self::Token>>
-        ensures done { Calls (Takes Self.Token.plan result) 0 (known self.old) (known self.new) };
+        ensures done { Calls (Takes Self.Token.plan result) 0 (known self.old) (known self.new) }
+        ensures named { GivesName Self.Token.name result (known self.old).names };
 
     /// Begins an attempt of the first waiting leg at this moment, with an identifier from this word upwards, and its
     /// letters in the case of the bits of `mix`, where the channel is set so and the query goes over UDP.

@@ -6,6 +6,7 @@ ghost use Rattle.chan_types.specs.declared.journal.What.{What};
 ghost use Rattle.channel_model.specs.Journal.{own_entries};
 ghost use Rattle.channel_model.specs.Known.{Known, GoesOn, IsSameDesk, StandsAt};
 ghost use Rattle.channel_model.specs.Lawful.{IsLawful};
+ghost use Rattle.channel_model.specs.Names.{NamesBecome};
 ghost use Rattle.channel_model.specs.Seen.{entries_of};
 
 /// Between two moments of a desk the journal that it has seen went on, and its own entries with it: nothing or one call does
@@ -16,7 +17,7 @@ pub fn desks_go_on()
     ensures call { (by : ℕ) (old new : Known) (here : List Entry) (added : Option What)
         → IsSameDesk old new → StandsAt old here
         → new.seen ≡ here ++ entries_of old.seat by added → new.own ≡ old.own ++ entries_of old.seat by added
-        → IsLawful new.setting new.seen → GoesOn old new }
+        → NamesBecome added old.names new.names → IsLawful new.setting new.seen → GoesOn old new }
     ensures together { (old middle new : Known) → GoesOn old middle → GoesOn middle new → GoesOn old new }
     ensures own { (old new : Known) → GoesOn old new → old.own ≡ own_entries old.seat old.seen
         → new.own ≡ own_entries new.seat new.seen }

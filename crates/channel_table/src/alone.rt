@@ -1,5 +1,6 @@
 //! A channel with one owner.
 
+ghost use Rattle.std.specs.FinMap as finite;
 ghost use Rattle.std.specs.Prelude.{◌≡◌, [], IfOk};
 ghost use Rattle.channel_table.specs.Calling.{known_by_owner};
 
@@ -13,7 +14,8 @@ use resolv_options::Options;
 use std::alloc::Global;
 use std::marker::Model;
 
-/// A channel with one owner, who has seat 0. Contracts see its setting, and the whole journal, which he made alone.
+/// A channel with one owner, who has seat 0. Contracts see its setting, the whole journal, which he made alone, and the names
+/// of its tokens.
 #[derive(Drop)]
 pub struct Alone<T: Token, J: ChannelJournal = KeptJournal> {
     table: Table<T, J>,
@@ -24,20 +26,20 @@ impl<T: Token, J: ChannelJournal> Model for Alone<T, J> {
     ghost use Rattle.std.specs.Coded.{codes};
     ghost use Rattle.chan_types.specs.PlanCode.{moves_code};
     ghost use Rattle.channel_table.specs.Calling.{Owned, owned};
-    ghost use Rattle.channel_table.specs.Tokens.{seen};
+    ghost use Rattle.channel_table.specs.Tokens.{tokens_code};
 
     ghost Value = { Owned };
 
-    ghost coded = { Prim.hlevel (codes, moves_code) };
+    ghost coded = { Prim.hlevel (codes, moves_code, tokens_code) };
 
-    ghost view = { λ alone. owned alone.voice (seen alone.table) };
+    ghost view = { λ alone. owned T.name alone.voice alone.table };
 }
 
 impl<T: Token, J: ChannelJournal> Alone<T, J> {
     /// A channel without a request.
     pub fn make(alloc: Global, options: Options, hosts: Hosts) -> Result<Alone<T, J>, NoMemory>
         ensures { IfOk result (λ alone. alone
-            ≡ record { setting = record { options = options; hosts = hosts }; voice = 0; seen = [] }) }
+            ≡ record { setting = record { options = options; hosts = hosts }; voice = 0; seen = []; names = finite.empty }) }
     {
         Ok(Alone {
             table: Table::make(alloc, options, hosts)?,
@@ -57,6 +59,20 @@ impl<T: Token, J: ChannelJournal> Alone<T, J> {
         ensures { J.told result ≡ self.seen }
     {
         self.table.close()
+    }
+
+    /// The journal as it stands: to be read where it keeps its entries.
+    pub fn journal(&self) -> &J
+        ensures { J.told result.now ≡ self.now.seen }
+    {
+        self.table.journal()
+    }
+
+    /// The options that the channel was made with.
+    pub fn options(&self) -> &Options
+        ensures { result.now ≡ self.now.setting.options }
+    {
+        self.table.options()
     }
 }
 

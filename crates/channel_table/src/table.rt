@@ -2,6 +2,7 @@
 
 ghost use Rattle.std.specs.FinMap as map;
 ghost use Rattle.std.specs.Prelude.{◌≡◌, ◌≤◌, [], IfOk, length};
+ghost use Rattle.channel_model.specs.Journal.{accepted, past_of};
 ghost use Rattle.channel_model.specs.Servers.{keyed_from};
 
 mod accepting;
@@ -34,7 +35,7 @@ use std::collections::VecDeque;
 use std::marker::Model;
 
 /// What the requests of a channel have come to, and its journal, which is kept or which only proofs see. Contracts see its
-/// setting and its journal: what its calls answer is what the journal means. No call reads the journal. They see too the
+/// setting and its journal: what its calls answer is what the journal means, though none reads it but to show it. They see too the
 /// tokens of the requests that are pending or ready, by their numbers: accept adds one, take gives it back, and no other
 /// call touches them.
 #[derive(Drop)]
@@ -114,6 +115,27 @@ impl<T: Token, J: ChannelJournal> Table<T, J> {
     {
         let Table { journal, .. } = self;
         journal
+    }
+
+    /// The journal as it stands: to be read where it keeps its entries.
+    pub fn journal(&self) -> &J
+        ensures { J.told result.now ≡ self.now.journal }
+    {
+        &self.journal
+    }
+
+    /// How many requests were accepted.
+    pub fn accepted(&self) -> u64
+        ensures { result ≡ length (accepted (past_of self.now.journal)) }
+    {
+        self.accepted
+    }
+
+    /// The options that the channel was made with.
+    pub fn options(&self) -> &Options
+        ensures { result.now ≡ self.now.setting.options }
+    {
+        &self.options
     }
 }
 

@@ -1,5 +1,5 @@
 -- What contracts see of hands, callbacks and what remains of them.
-use Rattle.std.specs.Prelude.{ℕ, Bool, false, List, Option}
+use Rattle.std.specs.Prelude.{ℕ, ◌*◌, ◌+◌, Bool, false, if◌then◌else◌, List, Option}
 use Rattle.chan_types.specs.Plans.{Plan}
 use Rattle.chan_types.specs.declared.command.Command.{Command}
 use Rattle.chan_types.specs.declared.orders.Orders.{Orders}
@@ -25,6 +25,10 @@ pub record CalledState : Type 0 where
   pub number : ℕ
   pub boxed : Bool
   pub name : ℕ
+
+-- who a callback is among the tokens of a channel, as one number: a body that the caller gave and a script alone are never the same
+abbrev pub token_name : CallbackState → ℕ
+token_name callback = if callback.boxed then 2 * callback.name + 1 else 2 * callback.name
 
 -- what remains of this callback behind its call with the answer of this number
 abbrev pub called_with : ℕ → CallbackState → CalledState

@@ -87,7 +87,11 @@ impl<B: Done + Drop> Callback<B> {
 }
 
 impl<B: Done + Drop> Token for Callback<B> {
+    ghost use Rattle.completion_ticket.specs.States.{token_name};
+
     ghost plan = { λ callback. callback.plan };
+
+    ghost name = { token_name };
 
     fn script(&self) -> &Script {
         match &self.body {

@@ -11,6 +11,8 @@ pub(crate) struct Recorded {
 impl Token for Recorded {
     ghost plan = { λ recorded. recorded.script };
 
+    ghost name = { λ recorded. recorded.script.tag };
+
     fn script(&self) -> &Script {
         &self.script
     }
