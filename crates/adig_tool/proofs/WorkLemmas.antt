@@ -13,19 +13,21 @@ use Rattle.chan_types.specs.declared.journal.What.{What}
 use Rattle.chan_types.specs.declared.journal.What.TheVariants.{Accept, Arrive, Cancel, Destroy, Expire, Fault, Start, Take, Servers}
 use Rattle.chan_types.specs.declared.spec.Spec.{Spec}
 use Rattle.chan_types.specs.declared.ticket.Ticket.{Ticket}
-use Rattle.channel_model.proofs.Theorems.{each-append, each-then, fate-one, followed_by-append, take-ready}
+use Rattle.channel_model.proofs.Theorems.{each-append, each-then, fate-one, followed_by-append, names_stay_behind, names_stay_refl, names_stay_trans, take-ready}
 use Rattle.channel_model.specs.Completion.{fate, ready, taken, taken_by, without}
 use Rattle.channel_model.specs.Course.{has_no_turn, is_of_turn}
 use Rattle.channel_model.specs.Journal.{Accepted, Past, accepted, accepted_by, followed_by, own_entries, past_of}
 use Rattle.channel_model.specs.Known.{Calls, GoesOn}
 use Rattle.channel_model.specs.Lawful.{first}
 use Rattle.channel_model.specs.Meanings.{Accepts, Meaning, Takes, TellsCounts}
+use Rattle.channel_model.specs.Names.{NamesBecome, NamesStay}
 use Rattle.channel_model.specs.Seen.{entries_of}
 use Rattle.channel_model.specs.Setting.{Setting}
 use Rattle.channel_model.specs.Turn.{parts_of_entry}
 use Rattle.channel_model.specs.declared.answers.Counts.{Counts}
 use Rattle.channel_model.specs.declared.answers.Refused.{Refused}
 use Rattle.channel_table.specs.Calling.{Owned, known_by_owner}
+use Rattle.event_runner.proofs.PauseLemmas.{names_same}
 use Rattle.event_runner.specs.Goes.{AreMadeInTurns, is_made_in_turn}
 use Rattle.adig_tool.specs.Session.{first_request, is_of_session, leaves_running}
 use Rattle.adig_tool.specs.SessionParts.{Delivers, TellsPending, Works, take_entry}
@@ -79,6 +81,12 @@ turn_runs (Servers list) of_turn = absurd (cc of_turn)
 nothing_added : (meaning : Meaning) (by : ℕ) (a b : Owned) (call : Calls meaning by (known_by_owner a) (known_by_owner b)) → call.added ≡ None → b ≡ a
 nothing_added meaning by a b call none =
     owned_same a b call.desk.setting call.desk.voice (call.own ∙ ap (λ o. a.seen ++ entries_of 0 by o) none ∙ append-nil a.seen)
+    (names_same (Some a.names) (Some b.names) (subst (λ o. NamesBecome o (Some a.names) (Some b.names)) none call.names))
+
+-- what a call added is what it did to the tokens
+names_added : (meaning : Meaning) (by : ℕ) (a b : Owned) (call : Calls meaning by (known_by_owner a) (known_by_owner b)) (entries : List Entry) → entries_of 0 by call.added ≡ entries → NamesStay entries (Some a.names) (Some b.names)
+names_added meaning by a b call entries is =
+    subst (λ es. NamesStay es (Some a.names) (Some b.names)) is (names_stay_behind 0 by call.added [] (Some a.names) (Some b.names) call.names)
 
 -- a list with what may stand before it
 to_list : {A : Type 0} (o : Option A) (xs : List A) → option_to_list o ++ xs ≡ cons_option o xs
@@ -117,6 +125,7 @@ works_none a = record {
   setting = refl;
   voice = refl;
   lawful = λ was. was;
+  names = names_stay_refl (Some a.names);
   plain = refl;
   accepts_are = refl;
   takes_are = refl;
@@ -136,6 +145,7 @@ works_trans x y qs rs a b c p q =
       setting = q.setting ∙ p.setting;
       voice = q.voice ∙ p.voice;
       lawful = λ was. q.lawful (p.lawful was);
+      names = names_stay_trans p.entries q.entries (Some a.names) (Some b.names) (Some c.names) p.names q.names;
       plain = list_all-append is_of_session p.entries q.entries ∙ and_from (list_all is_of_session p.entries) (list_all is_of_session q.entries) p.plain q.plain;
       accepts_are =
           filter_map-append (λ e. accepted_by e.what) p.entries q.entries
@@ -161,6 +171,7 @@ works_go_on x qs a b w = record {
   seen = w.seen;
   lawful = w.lawful;
   own = w.seen ∙ ap (λ l. a.seen ++ l) (sym (works_own x qs a b w));
+  names = w.names;
 }
 
 -- a turn, or a part of one: what was made is a session's, accepts nothing and takes nothing
@@ -176,6 +187,7 @@ turn_works a b goes made =
       setting = goes.desk.setting;
       voice = goes.desk.voice;
       lawful = goes.lawful;
+      names = goes.names;
       plain = both_all es seats turns;
       accepts_are = none_given accepted_by is_made_in_turn (λ e is. (turn_runs e.what (and_parts (is_of_turn e) (e.by == 0) is).0).1) es turns;
       takes_are = none_given taken_by is_made_in_turn (λ e is. (turn_runs e.what (and_parts (is_of_turn e) (e.by == 0) is).0).2) es turns;
@@ -198,15 +210,17 @@ pub accept_works : {T : Type 0} (plan : T → Plan) (asked spec : Spec) (token :
 accept_works plan asked spec token number a b same quiet empty nobody call =
     let happens = owner_called (Accepts plan asked token (Ok number)) a.voice a b call in
     let entry : ℕ → ℕ → Spec → Plan → List Entry = λ by n asks script. record { seat = 0; by = by; what = Accept n asks script } ∷ [] in
-    let is : number ≡ 1 = happens.meant.2 ∙ ap (λ journal. length (accepted (past_of journal)) + 1) empty in (
+    let is : number ≡ 1 = happens.meant.2 ∙ ap (λ journal. length (accepted (past_of journal)) + 1) empty in
+    let added : entries_of 0 a.voice call.added ≡ entry 0 1 spec (blank 0) =
+    ap (entries_of 0 a.voice) happens.meant.0 ∙ ap (λ v. entry v number asked (plan token)) nobody ∙ ap (λ n. entry 0 n asked (plan token)) is
+    ∙ ap (λ asks. entry 0 1 asks (plan token)) same ∙ ap (entry 0 1 spec) quiet in (
       record {
         entries = entry 0 1 spec (blank 0);
-        seen = happens.journal ∙ ap (λ o. a.seen ++ entries_of 0 a.voice o) happens.meant.0
-            ∙ ap (λ v. a.seen ++ entry v number asked (plan token)) nobody ∙ ap (λ n. a.seen ++ entry 0 n asked (plan token)) is
-            ∙ ap (λ asks. a.seen ++ entry 0 1 asks (plan token)) same ∙ ap (λ script. a.seen ++ entry 0 1 spec script) quiet;
+        seen = happens.journal ∙ ap (λ es. a.seen ++ es) added;
         setting = call.desk.setting;
         voice = call.desk.voice;
         lawful = λ _. call.lawful;
+        names = names_added (Accepts plan asked token (Ok number)) a.voice a b call (entry 0 1 spec (blank 0)) added;
         plain = refl;
         accepts_are = refl;
         takes_are = refl;
@@ -236,7 +250,8 @@ pub delivers_one : {T : Type 0} (plan : T → Plan) (ticket : Ticket T) (a b : O
 delivers_one plan ticket a b calls_old calls_new call added =
     let answer : Answer = ticket.call in
     let happens = owner_called (Takes plan (Some ticket)) 0 a b call in
-    let seen : b.seen ≡ a.seen ++ take_entry answer ∷ [] = happens.journal ∙ ap (λ o. a.seen ++ entries_of 0 0 o) happens.meant.0 in
+    let added_is : entries_of 0 0 call.added ≡ take_entry answer ∷ [] = ap (entries_of 0 0) happens.meant.0 in
+    let seen : b.seen ≡ a.seen ++ take_entry answer ∷ [] = happens.journal ∙ ap (λ es. a.seen ++ es) added_is in
     record {
       answers = answer ∷ [];
       works = record {
@@ -245,6 +260,7 @@ delivers_one plan ticket a b calls_old calls_new call added =
         setting = call.desk.setting;
         voice = call.desk.voice;
         lawful = λ _. call.lawful;
+        names = names_added (Takes plan (Some ticket)) 0 a b call (take_entry answer ∷ []) added_is;
         plain = refl;
         accepts_are = refl;
         takes_are = refl;

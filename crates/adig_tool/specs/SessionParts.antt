@@ -9,6 +9,7 @@ use Rattle.chan_types.specs.declared.journal.What.TheVariants.{Take}
 use Rattle.channel_model.specs.Completion.{fate, pending, taken_by}
 use Rattle.channel_model.specs.Journal.{Accepted, accepted_by, past_of}
 use Rattle.channel_model.specs.Lawful.{IsLawful}
+use Rattle.channel_model.specs.Names.{NamesStay}
 use Rattle.channel_table.specs.Calling.{Owned, known_by_owner}
 use Rattle.event_runner.specs.Running.{Running}
 use Rattle.event_runner.specs.State.{IsTurnOwner}
@@ -30,6 +31,8 @@ pub record Works (accepts : List Accepted) (answers : List Answer) (old new : Ow
   pub setting : new.setting ≡ old.setting
   pub voice : new.voice ≡ old.voice
   pub lawful : IsLawful old.setting old.seen → IsLawful new.setting new.seen
+  -- tokens stayed but those of requests that were accepted or taken
+  pub names : NamesStay entries (Some old.names) (Some new.names)
   pub plain : IsTrue (list_all is_of_session entries)
   pub accepts_are : filter_map (λ entry. accepted_by entry.what) entries ≡ accepts
   pub takes_are : filter_map (λ entry. taken_by entry.what) entries ≡ map (λ answer. answer.number) answers

@@ -1,5 +1,5 @@
 -- What is left on a channel, by its counts, and what was taken there.
-use Rattle.std.proofs.Common.{◌≡◌, ◌≢◌, ◌∙◌, ℕ, ◌+◌, ◌<◌, ◌≤◌, List, [], ◌∷◌, ◌++◌, length, refl, ap, sym, arith, ltb-false, ltb-true}
+use Rattle.std.proofs.Common.{◌≡◌, ◌≢◌, ◌∙◌, ℕ, ◌+◌, ◌<◌, ◌≤◌, List, [], ◌∷◌, ◌++◌, length, refl, ap, sym, subst, arith, ltb-false, ltb-true}
 use Rattle.std.specs.Prelude.{Bool, Err, IfOk, None, Ok, Result, Some, false, nat_lt, true, ◌^◌}
 use Rattle.std.proofs.lemmas.List.{append-nil}
 use Rattle.chan_types.specs.declared.journal.Entry.{Entry}
@@ -11,9 +11,11 @@ use Rattle.channel_model.specs.Completion.{pending, ready}
 use Rattle.channel_model.specs.Journal.{past_of}
 use Rattle.channel_model.specs.Known.{Calls, GoesOn, Known}
 use Rattle.channel_model.specs.Meanings.{Meaning, Takes, TellsCounts}
+use Rattle.channel_model.specs.Names.{NamesBecome}
 use Rattle.channel_model.specs.Seen.{entries_of}
 use Rattle.channel_model.specs.Setting.{Setting}
 use Rattle.channel_model.specs.declared.answers.Counts.{Counts}
+use Rattle.event_runner.proofs.PauseLemmas.{names_same}
 use Rattle.event_runner.specs.Running.{HasLooked}
 use Rattle.channel_session.specs.Left.{IsLeft, LooksAt, ready_of}
 use Rattle.channel_session.specs.Progressing.{HasTaken}
@@ -24,6 +26,7 @@ pub call_looks : (meaning : Meaning) (by : ℕ) (old new : Known) (call : Calls 
 call_looks meaning by old new call none = record {
   goes_on = call_goes_on meaning by old new call;
   own = call.own ∙ ap (λ added. old.own ++ entries_of old.seat by added) none ∙ append-nil old.own;
+  names = names_same old.names new.names (subst (λ added. NamesBecome added old.names new.names) none call.names);
 }
 
 -- what a list of a position is, where a call that added nothing left its desk

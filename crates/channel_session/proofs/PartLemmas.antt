@@ -130,6 +130,7 @@ pub looked_then : (a b c : Known) → HasLooked a b → HasLooked b c → HasLoo
 looked_then a b c x y = record {
   goes_on = goes_of a c (x.goes_on.since ++ y.goes_on.since) (trail_trans a b c x.goes_on.since y.goes_on.since (trail_of a b x.goes_on) (trail_of b c y.goes_on));
   own = y.own ∙ x.own;
+  names = y.names ∙ x.names;
 }
 
 -- ---- turns
@@ -187,7 +188,7 @@ rests_at_once known sitting after log none same = subst (λ s. Rests (Ok Skipped
         (subst (λ behind. RunsSince longest_pause turns 0 (reach_of behind) known sitting.running began log) none stands.runs);
   },
   here,
-  record { goes_on = here.goes_on; own = refl },
+  record { goes_on = here.goes_on; own = refl; names = refl },
 )
   where
     here : Advances 0 (moment_of known sitting log) (moment_of known sitting log)

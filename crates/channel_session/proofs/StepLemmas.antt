@@ -9,6 +9,7 @@ use Rattle.net_world.specs.declared.log.WorldCall.{WorldCall}
 use Rattle.channel_model.proofs.Theorems.{goes_on_refl, goes_on_trans}
 use Rattle.channel_model.specs.Known.{Calls, GoesOn, Known}
 use Rattle.channel_model.specs.Meanings.{Takes}
+use Rattle.channel_model.specs.Names.{GivesName}
 use Rattle.event_runner.proofs.Theorems.{ran_at_most}
 use Rattle.event_runner.specs.Running.{HasLooked}
 use Rattle.event_runner.specs.declared.answers.Paused.{Paused}
@@ -38,9 +39,9 @@ pub steps_err : (f g : ℕ) (result : Result Stepped NoMemory) → is_err result
 steps_err f g (Ok stepped) err a b cut = absurd (cc err)
 steps_err f g (Err fault) err a b cut = cut
 
-pub comes_err : {T : Type 0} (plan : T → Script) (most f g : ℕ) (result : Result (Progress T) NoMemory) → is_err result ≡ true → (a b : Moment) → IsCutOff most a b → ComesTo plan most f g result a b
-comes_err plan most f g (Ok progress) err a b cut = absurd (cc err)
-comes_err plan most f g (Err fault) err a b cut = cut
+pub comes_err : {T : Type 0} (plan : T → Script) (name : T → ℕ) (most f g : ℕ) (result : Result (Progress T) NoMemory) → is_err result ≡ true → (a b : Moment) → IsCutOff most a b → ComesTo plan name most f g result a b
+comes_err plan name most f g (Ok progress) err a b cut = absurd (cc err)
+comes_err plan name most f g (Err fault) err a b cut = cut
 
 module _ (f g : ℕ) (a : Moment) (old new : Known) (sitting : Sitting) (log : Option (List WorldCall)) (looked : HasLooked old new) where
   -- none is pending behind a wait, where one was
@@ -97,9 +98,10 @@ rose_since a b c first then_ rose = λ room. rises (nat_lt (b + 1) (2 ^ 64)) ref
 
 -- what it settles where all turns were made: the ticket was taken here, or nothing is left, or something is
 module _ {T : Type 0} (plan : T → Script) where
-  pub taken_settled : (ticket : Ticket T) (old new : Known) (sitting : Sitting) (log : Option (List WorldCall)) → Calls (Takes plan (Some ticket)) 0 old new →
-      AdvancesAtMost 0 (moment_of old sitting log) (moment_of new sitting log) × HasTaken plan ticket old new
-  taken_settled ticket old new sitting log call = ((0, omega arith, took plan ticket old new sitting log call), record { before = old; goes_on = goes_on_refl old; takes = call })
+  pub taken_settled : (name : T → ℕ) (ticket : Ticket T) (old new : Known) (sitting : Sitting) (log : Option (List WorldCall)) → Calls (Takes plan (Some ticket)) 0 old new → GivesName name (Some ticket) old.names →
+      AdvancesAtMost 0 (moment_of old sitting log) (moment_of new sitting log) × HasTaken plan name ticket old new
+  taken_settled name ticket old new sitting log call named =
+      ((0, omega arith, took plan ticket old new sitting log call), record { before = old; goes_on = goes_on_refl old; takes = call; named = named })
 
   looked_settled : (a b c : Known) (sitting : Sitting) (log : Option (List WorldCall)) → Calls (Takes {T = T} plan None) 0 a b → HasLooked b c → Advances 0 (moment_of a sitting log) (moment_of c sitting log)
   looked_settled a b c sitting log none looked =
@@ -121,7 +123,7 @@ disturbed_since a b c goes is = record { before = is.before; after = is.after; f
 pub same_turns : (m n : ℕ) (a b : Moment) → m ≡ n → Advances m a b → Advances n a b
 same_turns m n a b is = subst (λ k. Advances k a b) is
 
-module _ {T : Type 0} (plan : T → Script) (f0 f g : ℕ) (first : f0 ≤ f) (later : f ≤ g) (m : ℕ) (a b c : Moment) (x : Advances m a b) where
+module _ {T : Type 0} (plan : T → Script) (name : T → ℕ) (f0 f g : ℕ) (first : f0 ≤ f) (later : f ≤ g) (m : ℕ) (a b c : Moment) (x : Advances m a b) where
   at_most : (n most : ℕ) → m + n ≤ most → Advances n b c → AdvancesAtMost most a c
   at_most n most fits y = (m + n, fits, advances_then m n a b c x y)
 
@@ -129,27 +131,27 @@ module _ {T : Type 0} (plan : T → Script) (f0 f g : ℕ) (first : f0 ≤ f) (l
   rests_at_most n most fits y = (m + n, fits, rests_then m n a b c x y)
 
   -- a step behind so many turns
-  pub over_then : (most : ℕ) → m + 0 ≤ most → Steps f g (Ok WasOver) b c → IsCome plan most f0 g Over a c
+  pub over_then : (most : ℕ) → m + 0 ≤ most → Steps f g (Ok WasOver) b c → IsCome plan name most f0 g Over a c
   over_then most fits s = (at_most 0 most fits s.0, s.1)
 
-  pub fault_then : (most : ℕ) → m + 0 ≤ most → Steps f g (Ok NotWaited) b c → IsCome plan most f0 g WaitFaulted a c
+  pub fault_then : (most : ℕ) → m + 0 ≤ most → Steps f g (Ok NotWaited) b c → IsCome plan name most f0 g WaitFaulted a c
   fault_then most fits s = (rests_at_most 0 most fits s.0, rose_since f0 f g first later s.1)
 
-  pub disturbed_then : (most : ℕ) → m + 0 ≤ most → Steps f g (Ok WasDisturbed) b c → IsCome plan most f0 g Disturbed a c
+  pub disturbed_then : (most : ℕ) → m + 0 ≤ most → Steps f g (Ok WasDisturbed) b c → IsCome plan name most f0 g Disturbed a c
   disturbed_then most fits s = (
     ⊎_elim (λ y. inl (at_most 0 most fits y)) (λ y. inr (rests_at_most 0 most fits y)) s.0,
     disturbed_since a.known b.known c.known x.goes_on s.1,
   )
 
   -- a request was taken behind so many turns
-  pub completed_then : (most : ℕ) (ticket : Ticket T) → m + 0 ≤ most → Advances 0 b c → Calls (Takes plan (Some ticket)) 0 b.known c.known → IsCome plan most f0 g (Completed ticket) a c
-  completed_then most ticket fits y call = (at_most 0 most fits y, record { before = b.known; goes_on = x.goes_on; takes = call })
+  pub completed_then : (most : ℕ) (ticket : Ticket T) → m + 0 ≤ most → Advances 0 b c → Calls (Takes plan (Some ticket)) 0 b.known c.known → GivesName name (Some ticket) b.known.names → IsCome plan name most f0 g (Completed ticket) a c
+  completed_then most ticket fits y call named = (at_most 0 most fits y, record { before = b.known; goes_on = x.goes_on; takes = call; named = named })
 
   -- all turns were made
-  pub come_then : (most : ℕ) (progress : Progress T) → m ≡ most → IsCome plan 0 f g progress b c → IsCome plan most f0 g progress a c
+  pub come_then : (most : ℕ) (progress : Progress T) → m ≡ most → IsCome plan name 0 f g progress b c → IsCome plan name most f0 g progress a c
   come_then most (Completed ticket) all is = (
     (m + is.0.0, omega (arith, all, is.0.1), advances_then m is.0.0 a b c x is.0.2),
-    record { before = is.1.before; goes_on = goes_on_trans a.known b.known is.1.before x.goes_on is.1.goes_on; takes = is.1.takes },
+    record { before = is.1.before; goes_on = goes_on_trans a.known b.known is.1.before x.goes_on is.1.goes_on; takes = is.1.takes; named = is.1.named },
   )
   come_then most Over all is = ((m + is.0.0, omega (arith, all, is.0.1), advances_then m is.0.0 a b c x is.0.2), is.1)
   come_then most WaitFaulted all is = ((m + is.0.0, omega (arith, all, is.0.1), rests_then m is.0.0 a b c x is.0.2), rose_since f0 f g first later is.1)

@@ -67,7 +67,8 @@ impl Session {
         world: &mut W,
         turns: u64,
     ) -> Result<Progress<D::Token>, NoMemory>
-        ensures comes_to { ComesTo D.Token.plan turns (W.wait_faults world.old) (W.wait_faults world.new) result
+        ensures comes_to { ComesTo D.Token.plan D.Token.name turns
+            (W.wait_faults world.old) (W.wait_faults world.new) result
             (moment_of (D.known desk.old) self.old (W.log world.old))
             (moment_of (D.known desk.new) self.new (W.log world.new)) }
         ensures waits { W.wait_faults world.old ≤ W.wait_faults world.new }
@@ -165,8 +166,8 @@ fn nothing_left(paused: Paused) -> Stepped
 /// What it comes to where all turns were made: it takes the first ready request, or looks what is left.
 fn settle<D: Desk>(desk: &mut D) -> Progress<D::Token>
     ensures { (sitting : Sitting) (log : Option (List WorldCall)) (faults : ℕ)
-        → IsCome D.Token.plan 0 faults faults result (moment_of (D.known desk.old) sitting log)
-        (moment_of (D.known desk.new) sitting log) }
+        → IsCome D.Token.plan D.Token.name 0 faults faults result
+        (moment_of (D.known desk.old) sitting log) (moment_of (D.known desk.new) sitting log) }
 {
     match desk.take() {
         Some(ticket) => Progress::Completed(ticket),

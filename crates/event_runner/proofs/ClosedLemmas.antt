@@ -111,6 +111,7 @@ adds_nothing meaning by journal c meant = record {
   stands = record { others = []; parts = sym (append-nil journal); by_others = tt };
   seen = sym (append-nil journal);
   own = sym (append-nil journal);
+  names = refl;
   lawful = record { allowed = was_lawful (past_of journal) c };
 }
 
@@ -125,6 +126,7 @@ adds_entry meaning by old new what c is allowed meant = record {
   stands = record { others = []; parts = sym (append-nil old); by_others = tt };
   seen = is;
   own = is;
+  names = refl;
   lawful = lawful_push plain_setting old new (record { seat = 0; by = by; what = what }) (record { allowed = was_lawful (past_of old) c }) is allowed;
 }
 

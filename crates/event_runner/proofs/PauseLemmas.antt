@@ -8,12 +8,13 @@ use Rattle.net_world.specs.declared.answers.Waited.{Waited}
 use Rattle.net_world.specs.declared.log.WorldCall.{WorldCall}
 use Rattle.net_world.specs.declared.log.WorldCall.TheVariants.{Wait}
 use Rattle.channel_model.specs.declared.answers.Counts.{Counts}
-use Rattle.channel_model.proofs.Theorems.{call_goes_on, goes_on_trans}
+use Rattle.channel_model.proofs.Theorems.{call_goes_on, goes_on_refl, goes_on_trans}
 use Rattle.channel_model.specs.Course.{skips}
 use Rattle.channel_model.specs.Journal.{past_of}
 use Rattle.channel_model.specs.Known.{Calls, Known}
 use Rattle.channel_model.specs.Lawful.{Due, first_due}
 use Rattle.channel_model.specs.Meanings.{Meaning, TellsCounts, TellsDue}
+use Rattle.channel_model.specs.Names.{Names, NamesBecome}
 use Rattle.channel_model.specs.Seen.{entries_of}
 use Rattle.channel_model.specs.Turn.{most_entries}
 use Rattle.event_runner.specs.declared.answers.Paused.{Paused}
@@ -24,11 +25,21 @@ use Rattle.event_runner.specs.State.{Gets}
 seen_is : (meaning : Meaning) (old new : Known) (call : Calls meaning 0 old new) → call.added ≡ None → new.seen ≡ call.here
 seen_is meaning old new call none = call.seen ∙ ap (λ o. call.here ++ entries_of old.seat 0 o) none ∙ append-nil call.here
 
+-- nothing was done
+pub looked_none : (known : Known) → HasLooked known known
+looked_none known = record { goes_on = goes_on_refl known; own = refl; names = refl }
+
+-- all tokens stay where nothing is added
+pub names_same : (old new : Option Names) → NamesBecome None old new → new ≡ old
+names_same None new become = become
+names_same (Some names) new become = become.1 ∙ ap (λ (m : Names). Some m) become.2
+
 -- a call that adds nothing is a look
 pub look_of : (meaning : Meaning) (old new : Known) (call : Calls meaning 0 old new) → call.added ≡ None → HasLooked old new
 look_of meaning old new call none = record {
   goes_on = call_goes_on meaning 0 old new call;
   own = call.own ∙ ap (λ o. old.own ++ entries_of old.seat 0 o) none ∙ append-nil old.own;
+  names = names_same old.names new.names (subst (λ o. NamesBecome o old.names new.names) none call.names);
 }
 
 -- what the counts say of a pause
@@ -66,7 +77,7 @@ module _ (old middle new : Known) (counts : Counts) (first : Calls (TellsCounts 
   both_look =
       let one = look_of (TellsCounts counts) old middle first first.meant.nothing in
       let two = look_of (TellsDue due) middle new then_ then_.meant.nothing in
-      record { goes_on = goes_on_trans old middle new one.goes_on two.goes_on; own = two.own ∙ one.own }
+      record { goes_on = goes_on_trans old middle new one.goes_on two.goes_on; own = two.own ∙ one.own; names = two.names ∙ one.names }
 
 pub pause_err : (latest : ℕ) (result : Result Paused NoMemory) (old new : Known) (l m : Option (List WorldCall)) → is_err result ≡ true → HasLooked old new → m ≡ l → Pauses latest result old new l m
 pause_err latest (Ok answer) old new l m err goes log = absurd (cc err)

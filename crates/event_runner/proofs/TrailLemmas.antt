@@ -6,11 +6,12 @@ use Rattle.std.proofs.lemmas.List.Folds.{list_all-append}
 use Rattle.std.specs.List.{AllByRecursion, list_all}
 use Rattle.chan_types.specs.declared.journal.Entry.{Entry}
 use Rattle.chan_types.specs.declared.journal.What.{What}
-use Rattle.channel_model.proofs.Theorems.{calls_stretch, own-append, own-others, own_added}
+use Rattle.channel_model.proofs.Theorems.{calls_stretch, names_stay_behind, names_stay_refl, names_stay_trans, own-append, own-others, own_added}
 use Rattle.channel_model.specs.Journal.{own_entries}
 use Rattle.channel_model.specs.Known.{Calls, GoesOn, IsSameDesk, Known}
 use Rattle.channel_model.specs.Lawful.{IsLawful}
 use Rattle.channel_model.specs.Meanings.{Meaning}
+use Rattle.channel_model.specs.Names.{NamesStay}
 use Rattle.channel_model.specs.Course.{is_of_turn}
 use Rattle.channel_model.specs.Seen.{entries_of}
 use Rattle.event_runner.specs.Goes.{AreMadeInTurns, is_made_in_turn}
@@ -21,14 +22,15 @@ pub record Trail (old new : Known) (entries : List Entry) : Type 0 where
   pub seen : new.seen ≡ old.seen ++ entries
   pub lawful : IsLawful old.setting old.seen → IsLawful new.setting new.seen
   pub own : new.own ≡ old.own ++ own_entries old.seat entries
+  pub names : NamesStay entries old.names new.names
 
 -- so it goes on
 abbrev pub goes_of : (old new : Known) (entries : List Entry) → Trail old new entries → GoesOn old new
-goes_of old new entries t = record { desk = t.desk; since = entries; seen = t.seen; lawful = t.lawful; own = t.own }
+goes_of old new entries t = record { desk = t.desk; since = entries; seen = t.seen; lawful = t.lawful; own = t.own; names = t.names }
 
 -- and what goes on went on by some entries
 pub trail_of : (old new : Known) (goes : GoesOn old new) → Trail old new goes.since
-trail_of old new goes = record { desk = goes.desk; seen = goes.seen; lawful = goes.lawful; own = goes.own }
+trail_of old new goes = record { desk = goes.desk; seen = goes.seen; lawful = goes.lawful; own = goes.own; names = goes.names }
 
 -- nothing was done
 pub trail_none : (known : Known) → Trail known known []
@@ -37,6 +39,7 @@ trail_none known = record {
   seen = sym (append-nil known.seen);
   lawful = λ was. was;
   own = sym (append-nil known.own);
+  names = names_stay_refl known.names;
 }
 
 -- one call
@@ -46,6 +49,7 @@ trail_call meaning by old new call = record {
   seen = (calls_stretch meaning by old new call).0;
   lawful = λ _. call.lawful;
   own = (calls_stretch meaning by old new call).1;
+  names = names_stay_behind old.seat by call.added call.stands.others old.names new.names call.names;
 }
 
 -- one behind the other
@@ -62,6 +66,7 @@ trail_trans a b c es fs x y = record {
   own = y.own ∙ ap₂ (λ l seat. l ++ own_entries seat fs) x.own x.desk.seat
       ∙ append_assoc a.own (own_entries a.seat es) (own_entries a.seat fs)
       ∙ ap (λ l. a.own ++ l) (sym (own-append a.seat es fs));
+  names = names_stay_trans es fs a.names b.names c.names x.names y.names;
 }
 
 -- entries that were made in turns, and others

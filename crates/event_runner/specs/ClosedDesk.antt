@@ -1,5 +1,5 @@
 -- The desk of this crate's tests: it is that of a channel which was destroyed before anything was asked.
-use Rattle.std.specs.Prelude.{List, [], ◌∷◌, ◌≡◌}
+use Rattle.std.specs.Prelude.{List, None, [], ◌∷◌, ◌≡◌}
 use base.Stored.{Gv}
 use Rattle.chan_types.specs.declared.journal.Entry.{Entry}
 use Rattle.chan_types.specs.declared.journal.What.TheVariants.{Accept, Arrive, Cancel, Destroy, Expire, Fault, Servers, Start, Take}
@@ -12,9 +12,9 @@ use Rattle.channel_model.specs.Setting.{Setting}
 abbrev pub plain_setting : Setting
 plain_setting = record { options = plain_values; hosts = [] }
 
--- what the desk knows: it is the channel's only one, in seat 0
+-- what the desk knows: it is the channel's only one, in seat 0, and knows no names of tokens
 abbrev pub known_of : List Entry → Known
-known_of journal = record { setting = plain_setting; home = Gv.gnil; seat = 0; voice = 0; own = journal; seen = journal }
+known_of journal = record { setting = plain_setting; home = Gv.gnil; seat = 0; voice = 0; own = journal; seen = journal; names = None }
 
 -- the channel was destroyed at the beginning, and then messages came and links failed
 abbrev pub IsClosed : Past → Type 0

@@ -35,10 +35,11 @@ run_of known running log = record { known = known; rows = running.rows; told = r
 abbrev pub wakes_by : Setting → ℕ → Past → ℕ
 wakes_by setting latest past = option_map_or (λ due. min due.at latest) (first_due setting past) latest
 
--- a desk looked at its channel, and made no entry
+-- a desk looked at its channel: it made no entry, and all tokens stayed
 pub record HasLooked (old new : Known) : Type 0 where
   pub goes_on : GoesOn old new
   pub own : new.own ≡ old.own
+  pub names : new.names ≡ old.names
 
 -- it looked at the channel, and nothing is to be waited for there
 pub record HasSkipped (old new : Known) (log_old log_new : Option (List WorldCall)) : Type 0 where

@@ -1,6 +1,6 @@
 //! How the query of an attempt goes out.
 
-ghost use Rattle.std.specs.Prelude.{◌≡◌, ◌≢◌, ℕ, List, Ok, Option, map};
+ghost use Rattle.std.specs.Prelude.{◌≡◌, ◌≢◌, ◌≤◌, ℕ, List, Ok, Option, map};
 ghost use Rattle.channel_model.specs.KeptLinks.{link_of_row};
 ghost use Rattle.channel_model.specs.Links.{held_link};
 ghost use Rattle.net_world.specs.declared.log.WorldCall.{WorldCall};
@@ -42,6 +42,7 @@ pub fn ask<D: Desk, W: World>(
         (state_of before kept.old (W.log world.old))
         (state_of (D.known desk.new) kept.new (W.log world.new)) }
     ensures waits { W.wait_faults world.new ≡ W.wait_faults world.old }
+    ensures faults { W.faults world.old ≤ W.faults world.new }
     ensures origin { W.origin world.new ≡ W.origin world.old }
 {
     tell(world, kept, server, address)?;
@@ -68,6 +69,7 @@ fn tell<W: World>(
         → Tells server address.now result (state_of known kept.old (W.log world.old))
         (state_of known kept.new (W.log world.new)) }
     ensures waits { W.wait_faults world.new ≡ W.wait_faults world.old }
+    ensures faults { W.faults world.old ≤ W.faults world.new }
     ensures origin { W.origin world.new ≡ W.origin world.old }
 {
     if kept.told.contains(&server) {
@@ -94,6 +96,7 @@ fn send<D: Desk, W: World>(
         → Ends (λ done. Asks reading word bits) (CutAsking reading word bits) result
         (state_of before was log) (state_of (D.known desk.new) now (W.log world.new)) }
     ensures waits { W.wait_faults world.new ≡ W.wait_faults world.old }
+    ensures faults { W.faults world.old ≤ W.faults world.new }
     ensures origin { W.origin world.new ≡ W.origin world.old }
 {
     match world.send(server, message)? {
@@ -126,6 +129,7 @@ fn connect<D: Desk, W: World>(
         → Ends (λ done. Asks reading word bits) (CutAsking reading word bits) result
         (state_of before was log) (state_of (D.known desk.new) kept.new (W.log world.new)) }
     ensures waits { W.wait_faults world.new ≡ W.wait_faults world.old }
+    ensures faults { W.faults world.old ≤ W.faults world.new }
     ensures origin { W.origin world.new ≡ W.origin world.old }
 {
     match world.connect(server, link)? {

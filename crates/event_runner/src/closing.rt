@@ -1,6 +1,6 @@
 //! The part of a turn that closes links.
 
-ghost use Rattle.std.specs.Prelude.{◌≡◌, ◌<◌, ◌+◌, ℕ, IfOk, MatchBool, vec_len};
+ghost use Rattle.std.specs.Prelude.{◌≡◌, ◌<◌, ◌≤◌, ◌+◌, ℕ, IfOk, MatchBool, vec_len};
 ghost use Rattle.channel_model.specs.Turn.{closing};
 ghost use Rattle.event_runner.specs.State.{state_of};
 ghost use Rattle.event_runner.specs.Goes.{Ends};
@@ -22,6 +22,7 @@ pub fn close_idle<D: Desk, W: World>(
         (state_of (D.known desk.old) kept.old (W.log world.old))
         (state_of (D.known desk.new) kept.new (W.log world.new)) }
     ensures waits { W.wait_faults world.new ≡ W.wait_faults world.old }
+    ensures faults { W.faults world.old ≤ W.faults world.new }
     ensures origin { W.origin world.new ≡ W.origin world.old }
 {
     let mut index = 0;
@@ -48,6 +49,7 @@ fn look_at<D: Desk, W: World>(
     ensures left { IfOk result (λ stays. MatchBool stays (vec_len kept.new.links
         ≡ vec_len kept.old.links) (vec_len kept.new.links + 1 ≡ vec_len kept.old.links)) }
     ensures waits { W.wait_faults world.new ≡ W.wait_faults world.old }
+    ensures faults { W.faults world.old ≤ W.faults world.new }
     ensures origin { W.origin world.new ≡ W.origin world.old }
 {
     let link = &kept.links[index];

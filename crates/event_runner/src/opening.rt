@@ -17,6 +17,8 @@ pub fn tell_all<W: World>(
     requires { length servers.now ≤ 8 }
     ensures opens { Opens (λ keys. keys.items) servers.now result (W.log world.old) (W.log world.new) }
     ensures waits { W.wait_faults world.new ≡ W.wait_faults world.old }
+    ensures faults { W.faults world.old ≤ W.faults world.new }
+    ensures clock { W.reading world.new ≡ W.reading world.old }
     ensures origin { W.origin world.new ≡ W.origin world.old }
 {
     let mut told = Vec::new(alloc);

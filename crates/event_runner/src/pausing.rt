@@ -25,6 +25,8 @@ pub fn pause_once<D: Desk, W: World>(
     ensures wait_fault { result ≡ Ok Paused.WaitFault
         → Rose (W.wait_faults world.old) (W.wait_faults world.new) }
     ensures waits { W.wait_faults world.old ≤ W.wait_faults world.new }
+    ensures faults { W.faults world.old ≤ W.faults world.new }
+    ensures clock { W.reading world.new ≡ W.reading world.old }
     ensures origin { W.origin world.new ≡ W.origin world.old }
 {
     if skips(&desk.counts()) {

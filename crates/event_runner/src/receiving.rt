@@ -1,6 +1,6 @@
 //! The part of a turn that receives.
 
-ghost use Rattle.std.specs.Prelude.{◌≡◌, List, Option};
+ghost use Rattle.std.specs.Prelude.{◌≡◌, ◌≤◌, List, Option};
 ghost use Rattle.net_world.specs.declared.log.WorldCall.{WorldCall};
 ghost use Rattle.net_world.specs.declared.log.WorldCall.TheVariants.{Receive};
 ghost use Rattle.net_world.specs.declared.answers.Got.TheVariants.{Datagram, Piece, Ended, Failed as LinkFailed};
@@ -31,6 +31,7 @@ pub fn receive_all<D: Desk, W: World>(
         (CutPart reading receiving) result (state_of (D.known desk.old) kept.old (W.log world.old))
         (state_of (D.known desk.new) kept.new (W.log world.new)) }
     ensures waits { W.wait_faults world.new ≡ W.wait_faults world.old }
+    ensures faults { W.faults world.old ≤ W.faults world.new }
     ensures origin { W.origin world.new ≡ W.origin world.old }
 {
     for received in 0..MOST {
@@ -52,6 +53,7 @@ fn receive_one<D: Desk, W: World>(
         (state_of (D.known desk.old) kept.old (W.log world.old))
         (state_of (D.known desk.new) kept.new (W.log world.new)) }
     ensures waits { W.wait_faults world.new ≡ W.wait_faults world.old }
+    ensures faults { W.faults world.old ≤ W.faults world.new }
     ensures origin { W.origin world.new ≡ W.origin world.old }
 {
     match world.receive()? {
@@ -103,6 +105,7 @@ fn take_end<D: Desk, W: World>(
         (state_of (D.known desk.old) kept.old before)
         (state_of (D.known desk.new) kept.new (W.log world.new)) }
     ensures waits { W.wait_faults world.new ≡ W.wait_faults world.old }
+    ensures faults { W.faults world.old ≤ W.faults world.new }
     ensures origin { W.origin world.new ≡ W.origin world.old }
 {
     match find_link(&kept.links, number) {
@@ -132,6 +135,7 @@ fn take_failure<D: Desk, W: World>(
         (state_of (D.known desk.old) kept.old before)
         (state_of (D.known desk.new) kept.new (W.log world.new)) }
     ensures waits { W.wait_faults world.new ≡ W.wait_faults world.old }
+    ensures faults { W.faults world.old ≤ W.faults world.new }
     ensures origin { W.origin world.new ≡ W.origin world.old }
 {
     match find_link(&kept.links, number) {

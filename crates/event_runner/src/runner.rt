@@ -49,6 +49,8 @@ impl Runner {
         ensures fresh { IfOk result (λ runner. runner
             ≡ record runner { reading = 0; broken = false; rows = []; mix = options.now.flags.mix }) }
         ensures waits { W.wait_faults world.new ≡ W.wait_faults world.old }
+        ensures faults { W.faults world.old ≤ W.faults world.new }
+        ensures clock { W.reading world.new ≡ W.reading world.old }
         ensures origin { W.origin world.new ≡ W.origin world.old }
     {
         let told = tell_all(alloc, world, options.servers().as_slice())?;
@@ -82,6 +84,7 @@ impl Runner {
             → IsTrue (is_err result) × (D.known desk.new ≡ D.known desk.old)
             × (W.log world.new ≡ W.log world.old) }
         ensures waits { W.wait_faults world.new ≡ W.wait_faults world.old }
+        ensures faults { W.faults world.old ≤ W.faults world.new }
         ensures origin { W.origin world.new ≡ W.origin world.old }
     {
         if self.broken {
@@ -111,6 +114,8 @@ impl Runner {
             → IsTrue (is_err result) × (D.known desk.new ≡ D.known desk.old)
             × (W.log world.new ≡ W.log world.old) }
         ensures waits { W.wait_faults world.old ≤ W.wait_faults world.new }
+        ensures faults { W.faults world.old ≤ W.faults world.new }
+        ensures clock { W.reading world.new ≡ W.reading world.old }
         ensures origin { W.origin world.new ≡ W.origin world.old }
     {
         if self.broken {

@@ -1,6 +1,6 @@
 //! The part of a turn that starts attempts.
 
-ghost use Rattle.std.specs.Prelude.{◌≡◌, List, Option};
+ghost use Rattle.std.specs.Prelude.{◌≡◌, ◌≤◌, List, Option};
 ghost use Rattle.channel_model.specs.Turn.{starting};
 ghost use Rattle.event_runner.specs.State.{state_of, Draws};
 ghost use Rattle.event_runner.specs.Goes.{Ends};
@@ -26,6 +26,7 @@ pub fn start_all<D: Desk, W: World>(
         (CutPart reading starting) result (state_of (D.known desk.old) kept.old (W.log world.old))
         (state_of (D.known desk.new) kept.new (W.log world.new)) }
     ensures waits { W.wait_faults world.new ≡ W.wait_faults world.old }
+    ensures faults { W.faults world.old ≤ W.faults world.new }
     ensures origin { W.origin world.new ≡ W.origin world.old }
 {
     for started in 0..MOST {
@@ -47,6 +48,7 @@ fn start_one<D: Desk, W: World>(
         (state_of (D.known desk.old) kept.old (W.log world.old))
         (state_of (D.known desk.new) kept.new (W.log world.new)) }
     ensures waits { W.wait_faults world.new ≡ W.wait_faults world.old }
+    ensures faults { W.faults world.old ≤ W.faults world.new }
     ensures origin { W.origin world.new ≡ W.origin world.old }
 {
     let word = world.word()?;
@@ -80,6 +82,7 @@ fn start_one<D: Desk, W: World>(
 fn draw_bits<W: World>(world: &mut W, mix: bool) -> Result<u16, NoMemory>
     ensures draws { Draws mix result (W.log world.old) (W.log world.new) }
     ensures waits { W.wait_faults world.new ≡ W.wait_faults world.old }
+    ensures faults { W.faults world.old ≤ W.faults world.new }
     ensures origin { W.origin world.new ≡ W.origin world.old }
 {
     if mix { world.word() } else { Ok(0) }

@@ -27,6 +27,7 @@ pub fn turn_once<D: Desk, W: World>(
         (state_of (D.known desk.new) kept.new (W.log world.new)) }
     ensures clock { IfOk result (λ turned. W.reading world.old ≤ turned.reading) }
     ensures waits { W.wait_faults world.new ≡ W.wait_faults world.old }
+    ensures faults { W.faults world.old ≤ W.faults world.new }
     ensures origin { W.origin world.new ≡ W.origin world.old }
 {
     let reading = world.now()?;

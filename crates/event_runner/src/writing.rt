@@ -1,6 +1,6 @@
 //! The part of a turn that writes what is framed.
 
-ghost use Rattle.std.specs.Prelude.{◌≡◌, ◌<◌, ◌+◌, ℕ, Bool, IfOk, List, MatchBool, Option, vec_len};
+ghost use Rattle.std.specs.Prelude.{◌≡◌, ◌<◌, ◌≤◌, ◌+◌, ℕ, Bool, IfOk, List, MatchBool, Option, vec_len};
 ghost use Rattle.channel_model.specs.KeptLinks.{Row};
 ghost use Rattle.channel_model.specs.Known.{Known};
 ghost use Rattle.channel_model.specs.Turn.{writing};
@@ -25,6 +25,7 @@ pub fn write_all<D: Desk, W: World>(
         (state_of (D.known desk.old) kept.old (W.log world.old))
         (state_of (D.known desk.new) kept.new (W.log world.new)) }
     ensures waits { W.wait_faults world.new ≡ W.wait_faults world.old }
+    ensures faults { W.faults world.old ≤ W.faults world.new }
     ensures origin { W.origin world.new ≡ W.origin world.old }
 {
     let mut index = 0;
@@ -51,6 +52,7 @@ fn write_one<D: Desk, W: World>(
     ensures left { IfOk result (λ stays. MatchBool stays (vec_len kept.new.links
         ≡ vec_len kept.old.links) (vec_len kept.new.links + 1 ≡ vec_len kept.old.links)) }
     ensures waits { W.wait_faults world.new ≡ W.wait_faults world.old }
+    ensures faults { W.faults world.old ≤ W.faults world.new }
     ensures origin { W.origin world.new ≡ W.origin world.old }
 {
     let link = &mut kept.links[index];
@@ -72,6 +74,7 @@ fn flush<W: World>(world: &mut W, link: &mut HeldLink) -> Result<bool, NoMemory>
     ensures number { link.new.number ≡ link.old.number }
     ensures server { link.new.server ≡ link.old.server }
     ensures waits { W.wait_faults world.new ≡ W.wait_faults world.old }
+    ensures faults { W.faults world.old ≤ W.faults world.new }
     ensures origin { W.origin world.new ≡ W.origin world.old }
 {
     while !link.unwritten().is_empty() {

@@ -1,6 +1,6 @@
 -- What a call of a channel's one owner did: the journal has nobody else's entries.
 use Rattle.std.proofs.Common.{◌≡◌, ◌≢◌, ◌∙◌, ℕ, ◌==◌, ◌||◌, Bool, false, List, [], ◌∷◌, length, ap, sym, subst}
-use Rattle.std.specs.Prelude.{Option}
+use Rattle.std.specs.Prelude.{Option, Some, unwrap_or}
 use Rattle.std.proofs.lemmas.List.{append_cancel_left, append_cancel_right}
 use Rattle.chan_types.specs.declared.journal.Entry.{Entry}
 use Rattle.net_world.specs.declared.answers.Waited.{Waited}
@@ -10,6 +10,7 @@ use Rattle.channel_model.specs.Course.{skips}
 use Rattle.channel_model.specs.Journal.{own_entries, past_of}
 use Rattle.channel_model.specs.Known.{Calls, GoesOn}
 use Rattle.channel_model.specs.Meanings.{Meaning}
+use Rattle.channel_model.specs.Names.{Names}
 use Rattle.channel_model.specs.Seen.{Happens, Seen, entries_of}
 use Rattle.channel_model.specs.Setting.{Setting}
 use Rattle.channel_table.specs.Calling.{Owned, known_by_owner}
@@ -22,13 +23,14 @@ use Rattle.event_runner.proofs.Theorems.{waited_here}
 abbrev pub seen_by : Owned → Seen
 seen_by channel = record { setting = channel.setting; journal = channel.seen }
 
--- channels with the same setting, voice and journal are one
-pub owned_same : (a b : Owned) → b.setting ≡ a.setting → b.voice ≡ a.voice → b.seen ≡ a.seen → b ≡ a
-owned_same a b setting voice seen =
-    let by_setting : Setting → Owned = λ s. record { setting = s; voice = b.voice; seen = b.seen } in
-    let by_voice : ℕ → Owned = λ v. record { setting = a.setting; voice = v; seen = b.seen } in
-    let by_seen : List Entry → Owned = λ j. record { setting = a.setting; voice = a.voice; seen = j } in
-    ap by_setting setting ∙ ap by_voice voice ∙ ap by_seen seen
+-- channels with the same setting, voice, journal and names of tokens are one; the owner knows the names
+pub owned_same : (a b : Owned) → b.setting ≡ a.setting → b.voice ≡ a.voice → b.seen ≡ a.seen → Some b.names ≡ Some a.names → b ≡ a
+owned_same a b setting voice seen names =
+    let by_setting : Setting → Owned = λ s. record { setting = s; voice = b.voice; seen = b.seen; names = b.names } in
+    let by_voice : ℕ → Owned = λ v. record { setting = a.setting; voice = v; seen = b.seen; names = b.names } in
+    let by_seen : List Entry → Owned = λ j. record { setting = a.setting; voice = a.voice; seen = j; names = b.names } in
+    let by_names : Option Names → Owned = λ known. record { setting = a.setting; voice = a.voice; seen = a.seen; names = unwrap_or known a.names } in
+    ap by_setting setting ∙ ap by_voice voice ∙ ap by_seen seen ∙ ap by_names names
 
 -- a call of the owner took effect at the journal's end
 abbrev pub owner_called : (meaning : Meaning) (by : ℕ) (a b : Owned) → Calls meaning by (known_by_owner a) (known_by_owner b) → Happens meaning 0 by (seen_by a) (seen_by b)
@@ -48,14 +50,14 @@ owner_went_on a b goes = append_cancel_left a.seen (own_entries 0 goes.since) go
 
 -- a look left the channel as it was
 pub looked_same : (a b : Owned) → HasLooked (known_by_owner a) (known_by_owner b) → b ≡ a
-looked_same a b looked = owned_same a b looked.goes_on.desk.setting looked.goes_on.desk.voice looked.own
+looked_same a b looked = owned_same a b looked.goes_on.desk.setting looked.goes_on.desk.voice looked.own looked.names
 
 -- so did a wait
 pub waited_same : (latest : ℕ) (outcome : Waited) (a b : Owned) (l m : Option (List WorldCall)) → HasWaited latest outcome (known_by_owner a) (known_by_owner b) l m → b ≡ a
 waited_same latest outcome a b l m waited =
     let one = waited.looked in
     let two = waited.looked_again in
-    owned_same a b (two.goes_on.desk.setting ∙ one.goes_on.desk.setting) (two.goes_on.desk.voice ∙ one.goes_on.desk.voice) (two.own ∙ one.own)
+    owned_same a b (two.goes_on.desk.setting ∙ one.goes_on.desk.setting) (two.goes_on.desk.voice ∙ one.goes_on.desk.voice) (two.own ∙ one.own) (two.names ∙ one.names)
 
 -- and any pause
 pub paused_same : (latest : ℕ) (answer : Paused) (a b : Owned) (l m : Option (List WorldCall)) → PausesBy latest answer (known_by_owner a) (known_by_owner b) l m → b ≡ a

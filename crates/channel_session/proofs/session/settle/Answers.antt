@@ -2,7 +2,8 @@ use Rattle.channel_session.proofs.StepLemmas.{over_settled, stalled_settled, tak
 use Rattle.channel_session.proofs.session.settle.Goals as goal
 
 pub returns-in-Some : goal.returns-in-Some
-returns-in-Some g c = λ sitting log faults. taken_settled g.D.Token.Token.plan c.in-Some.ticket _ _ sitting log (rw c.in-Some.is at c.take.ensures.done)
+returns-in-Some g c = λ sitting log faults.
+    taken_settled g.D.Token.Token.plan g.D.Token.Token.name c.in-Some.ticket _ _ sitting log (rw c.in-Some.is at c.take.ensures.done) (rw c.in-Some.is at c.take.ensures.named)
 
 pub returns-in-Pending : goal.returns-in-Pending
 returns-in-Pending g c = λ sitting log faults.

@@ -4,7 +4,7 @@ use Rattle.event_runner.proofs.GoesLemmas.{ends_err}
 use Rattle.event_runner.proofs.closing.close_idle.Goals as goal
 
 pub loop-index-init : goal.loop-index-init
-loop-index-init g c = record { goes = λ reading. closes_none reading _; within = omega arith; waits = refl; origin = refl }
+loop-index-init g c = record { goes = λ reading. closes_none reading _; within = omega arith; waits = refl; faults = omega arith; origin = refl }
 
 pub returns-in_err-look_at-clause-goes : goal.returns-in_err-look_at-clause-goes
 returns-in_err-look_at-clause-goes g c = λ reading. ends_err _ _ _ c.from_residual.ensures.0 _ _ (closes_stop reading _ _ _ _ (c.loop-index.invariant.goes reading) (c.in_err-look_at.ensures.goes reading))
@@ -17,6 +17,7 @@ loop-index-preserved-then-branch g c =
       goes = λ reading. closes_more reading _ _ _ _ (c.loop-index.invariant.goes reading) (goes reading);
       within = omega (arith, c.loop-index-test.true, c.len.ensures);
       waits = c.in_ok-look_at.ensures.waits ∙ c.loop-index.invariant.waits;
+      faults = omega (arith, c.in_ok-look_at.ensures.faults, c.loop-index.invariant.faults);
       origin = c.in_ok-look_at.ensures.origin ∙ c.loop-index.invariant.origin;
     }
 
@@ -28,6 +29,7 @@ loop-index-preserved g c =
       goes = λ reading. closes_less reading _ _ _ _ (c.loop-index.invariant.goes reading) (goes reading);
       within = omega (arith, c.loop-index-test.true, c.len.ensures);
       waits = c.in_ok-look_at.ensures.waits ∙ c.loop-index.invariant.waits;
+      faults = omega (arith, c.in_ok-look_at.ensures.faults, c.loop-index.invariant.faults);
       origin = c.in_ok-look_at.ensures.origin ∙ c.loop-index.invariant.origin;
     }
 

@@ -9,6 +9,7 @@ invariant-loop-index g l = record {
   goes : (reading : ℕ) → Goes (ClosesUpTo reading l.index) (state_of (g.D.Desk.known l.initial.desk) l.initial.kept (g.W.World.log l.initial.world)) (state_of (g.D.Desk.known l.desk) l.kept (g.W.World.log l.world));
   within : l.index ≤ vec_len l.kept.links;
   waits : g.W.World.wait_faults l.world ≡ g.W.World.wait_faults l.initial.world;
+  faults : g.W.World.faults l.initial.world ≤ g.W.World.faults l.world;
   origin : g.W.World.origin l.world ≡ g.W.World.origin l.initial.world;
 }
 

@@ -17,5 +17,7 @@ loop-key-preserved g c =
       told = c.in_ok-push.ensures.items ∙ ap (λ ks. ks ++ c.loop-key.key ∷ []) c.loop-key.invariant.told ∙ sym (keys_next c.loop-key.key c.args.servers.now within);
       log = opens_more _ _ _ _ _ c.loop-key.invariant.log _ within c.in_ok-serve.ensures.log;
       waits = search rules;
+      faults = omega (arith, c.in_ok-serve.ensures.cause.later, c.loop-key.invariant.faults);
+      clock = search rules;
       origin = search rules;
     }

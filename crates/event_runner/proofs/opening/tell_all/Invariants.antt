@@ -1,4 +1,4 @@
-use Rattle.std.proofs.Common.{◌≡◌, ◌++◌, map, take}
+use Rattle.std.proofs.Common.{◌≡◌, ◌≤◌, ◌++◌, map, take}
 use Rattle.std.specs.Prelude.{option_map}
 use Rattle.channel_model.specs.Course.{serves_from}
 use Rattle.channel_model.specs.Servers.{keyed_from}
@@ -9,5 +9,7 @@ invariant-loop-key g l = record {
   told : l.told.items ≡ map (λ s. s.key) (keyed_from 0 (take l.key l.servers));
   log : g.W.World.log l.world ≡ option_map (λ calls. calls ++ serves_from 0 (take l.key l.servers)) (g.W.World.log l.initial.world);
   waits : g.W.World.wait_faults l.world ≡ g.W.World.wait_faults l.initial.world;
+  faults : g.W.World.faults l.initial.world ≤ g.W.World.faults l.world;
+  clock : g.W.World.reading l.world ≡ g.W.World.reading l.initial.world;
   origin : g.W.World.origin l.world ≡ g.W.World.origin l.initial.world;
 }

@@ -4,7 +4,7 @@ use Rattle.event_runner.proofs.HearLemmas.{hears_all, hears_more, hears_most, he
 use Rattle.event_runner.proofs.receiving.receive_all.Goals as goal
 
 pub loop-received-init : goal.loop-received-init
-loop-received-init g c = record { goes = hears_so_far _ _; waits = refl; origin = refl }
+loop-received-init g c = record { goes = hears_so_far _ _; waits = refl; faults = omega arith; origin = refl }
 
 pub returns-in_err-receive_one-clause-goes : goal.returns-in_err-receive_one-clause-goes
 returns-in_err-receive_one-clause-goes g c =
@@ -18,6 +18,7 @@ pub loop-received-preserved : goal.loop-received-preserved
 loop-received-preserved g c = record {
   goes = hears_more _ _ _ _ _ c.loop-received.invariant.goes (rw c.if-not-branch.false at c.in_ok-receive_one.ensures.goes);
   waits = c.in_ok-receive_one.ensures.waits ∙ c.loop-received.invariant.waits;
+  faults = omega (arith, c.in_ok-receive_one.ensures.faults, c.loop-received.invariant.faults);
   origin = c.in_ok-receive_one.ensures.origin ∙ c.loop-received.invariant.origin;
 }
 

@@ -4,7 +4,7 @@ use Rattle.event_runner.proofs.StartLemmas.{begins_all, begins_more, begins_most
 use Rattle.event_runner.proofs.starting.start_all.Goals as goal
 
 pub loop-started-init : goal.loop-started-init
-loop-started-init g c = record { goes = begins_so_far _ _; waits = refl; origin = refl }
+loop-started-init g c = record { goes = begins_so_far _ _; waits = refl; faults = omega arith; origin = refl }
 
 pub returns-in_err-start_one-clause-goes : goal.returns-in_err-start_one-clause-goes
 returns-in_err-start_one-clause-goes g c =
@@ -17,6 +17,7 @@ pub loop-started-preserved : goal.loop-started-preserved
 loop-started-preserved g c = record {
   goes = begins_more _ _ _ _ _ c.loop-started.invariant.goes (rw c.if-not-branch.false at c.in_ok-start_one.ensures.goes);
   waits = c.in_ok-start_one.ensures.waits ∙ c.loop-started.invariant.waits;
+  faults = omega (arith, c.in_ok-start_one.ensures.faults, c.loop-started.invariant.faults);
   origin = c.in_ok-start_one.ensures.origin ∙ c.loop-started.invariant.origin;
 }
 

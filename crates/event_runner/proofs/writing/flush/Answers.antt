@@ -1,10 +1,10 @@
-use Rattle.std.proofs.Common.{refl, ◌∙◌, ◌==◌, ap, sym, length, eqb-true}
+use Rattle.std.proofs.Common.{arith, refl, ◌∙◌, ◌==◌, ap, sym, length, eqb-true}
 use Rattle.event_runner.specs.Parts.{with_row}
 use Rattle.event_runner.proofs.WriteLemmas.{flush_err, flushed_as, goes_empty, goes_full, goes_wrote, no_bytes, to_as, to_cut, to_flushed, to_joined, to_none}
 use Rattle.event_runner.proofs.writing.flush.Goals as goal
 
 pub loop-world-init : goal.loop-world-init
-loop-world-init g c = record { goes = λ reading known before after keys mix. to_none reading _ _; number = refl; server = refl; waits = refl; origin = refl }
+loop-world-init g c = record { goes = λ reading known before after keys mix. to_none reading _ _; number = refl; server = refl; waits = refl; faults = omega arith; origin = refl }
 
 pub returns-in_err-write-clause-goes : goal.returns-in_err-write-clause-goes
 returns-in_err-write-clause-goes g c = λ reading known before after keys mix.
@@ -29,6 +29,7 @@ loop-world-preserved g c = record {
   number = rw c.wrote.ensures c.loop-world.invariant.number;
   server = rw c.wrote.ensures c.loop-world.invariant.server;
   waits = c.in_ok-write.ensures.wait_cause ∙ c.loop-world.invariant.waits;
+  faults = omega (arith, c.in_ok-write.ensures.cause.later, c.loop-world.invariant.faults);
   origin = c.in_ok-write.ensures.origin ∙ c.loop-world.invariant.origin;
 }
 

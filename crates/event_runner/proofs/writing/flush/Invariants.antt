@@ -1,4 +1,4 @@
-use Rattle.std.proofs.Common.{◌≡◌, length, ℕ, Bool, List}
+use Rattle.std.proofs.Common.{◌≡◌, ◌≤◌, length, ℕ, Bool, List}
 use Rattle.channel_model.specs.KeptLinks.{Row}
 use Rattle.channel_model.specs.Known.{Known}
 use Rattle.event_runner.specs.Goes.{Goes}
@@ -12,6 +12,7 @@ invariant-loop-world g l = record {
   number : l.link.number ≡ l.initial.link.number;
   server : l.link.server ≡ l.initial.link.server;
   waits : g.W.World.wait_faults l.world ≡ g.W.World.wait_faults l.initial.world;
+  faults : g.W.World.faults l.initial.world ≤ g.W.World.faults l.world;
   origin : g.W.World.origin l.world ≡ g.W.World.origin l.initial.world;
 }
 

@@ -4,7 +4,7 @@ use Rattle.event_runner.proofs.GoesLemmas.{ends_err}
 use Rattle.event_runner.proofs.writing.write_all.Goals as goal
 
 pub loop-index-init : goal.loop-index-init
-loop-index-init g c = record { goes = upto_none _ _; within = omega arith; waits = refl; origin = refl }
+loop-index-init g c = record { goes = upto_none _ _; within = omega arith; waits = refl; faults = omega arith; origin = refl }
 
 pub returns-in_err-write_one-clause-goes : goal.returns-in_err-write_one-clause-goes
 returns-in_err-write_one-clause-goes g c = ends_err _ _ _ c.from_residual.ensures.0 _ _ (upto_stop _ _ _ _ _ c.loop-index.invariant.goes c.in_err-write_one.ensures.goes)
@@ -16,6 +16,7 @@ loop-index-preserved-then-branch g c =
       goes = upto_stays _ _ _ _ _ c.loop-index.invariant.goes (rw c.if-branch.true at c.in_ok-write_one.ensures.goes);
       within = omega (arith, c.loop-index-test.true, c.len.ensures);
       waits = c.in_ok-write_one.ensures.waits ∙ c.loop-index.invariant.waits;
+      faults = omega (arith, c.in_ok-write_one.ensures.faults, c.loop-index.invariant.faults);
       origin = c.in_ok-write_one.ensures.origin ∙ c.loop-index.invariant.origin;
     }
 
@@ -26,6 +27,7 @@ loop-index-preserved g c =
       goes = upto_gone _ _ _ _ _ c.loop-index.invariant.goes (rw c.if-branch.false at c.in_ok-write_one.ensures.goes);
       within = omega (arith, c.loop-index-test.true, c.len.ensures);
       waits = c.in_ok-write_one.ensures.waits ∙ c.loop-index.invariant.waits;
+      faults = omega (arith, c.in_ok-write_one.ensures.faults, c.loop-index.invariant.faults);
       origin = c.in_ok-write_one.ensures.origin ∙ c.loop-index.invariant.origin;
     }
 

@@ -11,8 +11,8 @@ loop-init g c = record { advances = advances_none _; waits = omega arith; origin
 pub returns-in-Some-clause-comes_to : goal.returns-in-Some-clause-comes_to
 returns-in-Some-clause-comes_to g c =
     let taken = rw c.in-Some.is at c.take.ensures.done in
-    completed_then g.D.Token.Token.plan 0 0 0 (omega arith) (omega arith) c.loop.counter _ _ _ c.loop.invariant.advances _ c.in-Some.ticket (omega (arith, c.loop-test.true))
-    (took g.D.Token.Token.plan c.in-Some.ticket _ _ _ _ taken) taken
+    completed_then g.D.Token.Token.plan g.D.Token.Token.name 0 0 0 (omega arith) (omega arith) c.loop.counter _ _ _ c.loop.invariant.advances _ c.in-Some.ticket (omega (arith, c.loop-test.true))
+    (took g.D.Token.Token.plan c.in-Some.ticket _ _ _ _ taken) taken (rw c.in-Some.is at c.take.ensures.named)
 
 pub step-requires : goal.step-requires
 step-requires g c = record { none_ready = none_ready g.D.Token.Token.plan _ _ (rw c.in-None.is at c.take.ensures.done) }
@@ -20,22 +20,22 @@ step-requires g c = record { none_ready = none_ready g.D.Token.Token.plan _ _ (r
 pub returns-in_err-step-in-None-clause-comes_to : goal.returns-in_err-step-in-None-clause-comes_to
 returns-in_err-step-in-None-clause-comes_to g c =
     let looked = advances_then c.loop.counter 0 _ _ _ c.loop.invariant.advances (took_none g.D.Token.Token.plan _ _ _ _ (rw c.in-None.is at c.take.ensures.done)) in
-    comes_err g.D.Token.Token.plan _ _ _ c.from_residual.result c.from_residual.ensures.0 _ _ (cut_then (c.loop.counter + 0) 1 _ _ _ _ (omega (arith, c.loop-test.true)) looked c.in_err-step-in-None.ensures.steps)
+    comes_err g.D.Token.Token.plan g.D.Token.Token.name _ _ _ c.from_residual.result c.from_residual.ensures.0 _ _ (cut_then (c.loop.counter + 0) 1 _ _ _ _ (omega (arith, c.loop-test.true)) looked c.in_err-step-in-None.ensures.steps)
 
 pub returns-in-Over-clause-comes_to : goal.returns-in-Over-clause-comes_to
 returns-in-Over-clause-comes_to g c =
     let looked = advances_then c.loop.counter 0 _ _ _ c.loop.invariant.advances (took_none g.D.Token.Token.plan _ _ _ _ (rw c.in-None.is at c.take.ensures.done)) in
-    over_then g.D.Token.Token.plan 0 0 0 (omega arith) (omega arith) (c.loop.counter + 0) _ _ _ looked _ (omega (arith, c.loop-test.true)) (rw c.in-Over.is at c.in_ok-step-in-None.ensures.steps)
+    over_then g.D.Token.Token.plan g.D.Token.Token.name 0 0 0 (omega arith) (omega arith) (c.loop.counter + 0) _ _ _ looked _ (omega (arith, c.loop-test.true)) (rw c.in-Over.is at c.in_ok-step-in-None.ensures.steps)
 
 pub returns-in-WaitFault-clause-comes_to : goal.returns-in-WaitFault-clause-comes_to
 returns-in-WaitFault-clause-comes_to g c =
     let looked = advances_then c.loop.counter 0 _ _ _ c.loop.invariant.advances (took_none g.D.Token.Token.plan _ _ _ _ (rw c.in-None.is at c.take.ensures.done)) in
-    fault_then g.D.Token.Token.plan _ _ _ c.loop.invariant.waits c.step.ensures.waits (c.loop.counter + 0) _ _ _ looked _ (omega (arith, c.loop-test.true)) (rw c.in-WaitFault.is at c.in_ok-step-in-None.ensures.steps)
+    fault_then g.D.Token.Token.plan g.D.Token.Token.name _ _ _ c.loop.invariant.waits c.step.ensures.waits (c.loop.counter + 0) _ _ _ looked _ (omega (arith, c.loop-test.true)) (rw c.in-WaitFault.is at c.in_ok-step-in-None.ensures.steps)
 
 pub returns-in-Disturbed-clause-comes_to : goal.returns-in-Disturbed-clause-comes_to
 returns-in-Disturbed-clause-comes_to g c =
     let looked = advances_then c.loop.counter 0 _ _ _ c.loop.invariant.advances (took_none g.D.Token.Token.plan _ _ _ _ (rw c.in-None.is at c.take.ensures.done)) in
-    disturbed_then g.D.Token.Token.plan 0 0 0 (omega arith) (omega arith) (c.loop.counter + 0) _ _ _ looked _ (omega (arith, c.loop-test.true)) (rw c.in-Disturbed.is at c.in_ok-step-in-None.ensures.steps)
+    disturbed_then g.D.Token.Token.plan g.D.Token.Token.name 0 0 0 (omega arith) (omega arith) (c.loop.counter + 0) _ _ _ looked _ (omega (arith, c.loop-test.true)) (rw c.in-Disturbed.is at c.in_ok-step-in-None.ensures.steps)
 
 pub loop-preserved : goal.loop-preserved
 loop-preserved g c =
@@ -49,4 +49,4 @@ loop-preserved g c =
 
 pub returns-clause-comes_to : goal.returns-clause-comes_to
 returns-clause-comes_to g c =
-    come_then g.D.Token.Token.plan _ _ _ c.loop.invariant.waits (omega arith) c.loop.counter _ _ _ c.loop.invariant.advances _ c.settle.result (omega (arith, c.loop-test.false, c.loop.auto.counter-end)) (c.settle.ensures _ _ _)
+    come_then g.D.Token.Token.plan g.D.Token.Token.name _ _ _ c.loop.invariant.waits (omega arith) c.loop.counter _ _ _ c.loop.invariant.advances _ c.settle.result (omega (arith, c.loop-test.false, c.loop.auto.counter-end)) (c.settle.ensures _ _ _)
