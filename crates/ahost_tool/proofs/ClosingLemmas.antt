@@ -1,6 +1,6 @@
 -- The closing of a channel: its Destroy, unless a callback has destroyed it, and the deliveries behind that.
 use Rattle.std.proofs.Common.{◌≡◌, ◌∙◌, ◌+◌, ◌||◌, Bool, true, false, not, cond, List, [], ◌∷◌, ◌++◌, refl, sym, ap, subst, inl, inr, arith}
-use Rattle.std.specs.Prelude.{None, count_by, filter, is_none, ◌⊎◌}
+use Rattle.std.specs.Prelude.{None, Some, count_by, filter, is_none, ◌⊎◌}
 use Rattle.std.proofs.lemmas.List.{append-nil}
 use Rattle.std.proofs.lemmas.List.Sums.{sum_by-cons}
 use Rattle.chan_types.specs.declared.journal.Entry.{Entry}
@@ -11,6 +11,8 @@ use Rattle.channel_model.specs.Journal.{Past, accepted_by, followed_by, is_destr
 use Rattle.channel_model.specs.Known.{Calls}
 use Rattle.channel_model.specs.Lawful.{IsAllowed, IsLawful, IsLawfulPast}
 use Rattle.channel_model.specs.Meanings.{Destroys}
+use Rattle.channel_model.specs.Names.{NamesBecome}
+use Rattle.event_runner.proofs.PauseLemmas.{names_same}
 use Rattle.channel_model.specs.Seen.{entries_of}
 use Rattle.channel_model.specs.Setting.{Setting}
 use Rattle.channel_model.proofs.Theorems.{followed_by-append, past_of-push, pending-behind}
@@ -86,7 +88,11 @@ destroy_is is_first a b call = by is_first call
     by true c = let h = owner_called (Destroys true) 0 a b c in inl (denies (is_destroyed (past_of a.seen)) (sym h.meant.answer), h.journal ∙ ap (λ o. a.seen ++ entries_of 0 0 o) h.meant.entry)
     by false c =
         let h = owner_called (Destroys false) 0 a b c in
-        inr (undenied (is_destroyed (past_of a.seen)) (sym h.meant.answer), owned_same a b c.desk.setting c.desk.voice (h.journal ∙ ap (λ o. a.seen ++ entries_of 0 0 o) h.meant.entry ∙ append-nil a.seen))
+        inr (
+          undenied (is_destroyed (past_of a.seen)) (sym h.meant.answer),
+          owned_same a b c.desk.setting c.desk.voice (h.journal ∙ ap (λ o. a.seen ++ entries_of 0 0 o) h.meant.entry ∙ append-nil a.seen)
+              (names_same (Some a.names) (Some b.names) (subst (λ o. NamesBecome o (Some a.names) (Some b.names)) h.meant.entry c.names)),
+        )
 
 -- the channel is destroyed then
 pub destroy_destroys : (is_first : Bool) (a b : Owned) → Calls (Destroys is_first) 0 (known_by_owner a) (known_by_owner b) → is_destroyed (past_of b.seen) ≡ true
@@ -95,6 +101,12 @@ destroy_destroys is_first a b call = by (destroy_is is_first a b call)
     by : ((is_destroyed (past_of a.seen) ≡ false) × (b.seen ≡ a.seen ++ closing ∷ [])) ⊎ ((is_destroyed (past_of a.seen) ≡ true) × (b ≡ a)) → is_destroyed (past_of b.seen) ≡ true
     by (inl first) = ap (λ j. is_destroyed (past_of j)) first.1 ∙ ap is_destroyed (past_of-push a.seen closing)
     by (inr later) = subst (λ o. is_destroyed (past_of o.seen) ≡ true) (sym later.1) later.0
+
+-- a channel that was closed has a lawful journal
+pub closes_lawful : {B : Type 0} (a b : Caller B) → IsIdle a → Closes a b → IsLawful b.alone.setting b.alone.seen
+closes_lawful a b idle f =
+    let idle_d : IsIdle (record a { alone = f.destroyed }) = record { no_command = idle.no_command; own_voice = f.destroys.desk.voice ∙ idle.own_voice } in
+    (quiet_all (record a { alone = f.destroyed }) b idle_d f.delivered).0.lawful f.destroys.lawful
 
 -- the owner destroyed the channel, and delivered what was ready then
 pub closes : {B : Type 0} (is_first : Bool) (a : Caller B) (d : Owned) (b : Caller B) → IsIdle a → Calls (Destroys is_first) a.alone.voice (known_by_owner a.alone) (known_by_owner d) → DeliversAll (record a { alone = d }) b →

@@ -61,8 +61,8 @@ before_closing es more behind h = ap (past_at (es ++ more)) (closing_is es more 
 none_some : {B : Type 0} (called : List CalledState) (a b : Caller B) → ready a.alone.setting (past_of a.alone.seen) ≡ [] → DeliversSome called a b → b ≡ a
 none_some [] a b none d = d
 none_some (c ∷ called) a b none d =
-    let h = owner_called _ 0 a.alone d.1.1 d.1.2 in
-    absurd (let e : first [] ≡ Some d.1.0.call.number = ap first (sym none) ∙ h.meant.1 in cc)
+    let h = owner_called _ 0 a.alone d.2.1 d.2.2 in
+    absurd (let e : first [] ≡ Some d.2.0.call.number = ap first (sym none) ∙ h.meant.1 in cc)
 
 pub none_delivered : {B : Type 0} (a b : Caller B) → ready a.alone.setting (past_of a.alone.seen) ≡ [] → DeliversAll a b → b ≡ a
 none_delivered a b none d = same_none d.middle b d.none ∙ none_some d.called a d.middle none d.some

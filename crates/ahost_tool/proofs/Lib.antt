@@ -19,6 +19,8 @@ pub mod FinalLemmas
 pub mod ProgressLemmas
 pub mod EndLemmas
 pub mod PromiseLemmas
+pub mod PlaceLemmas
+pub mod KeepLemmas
 pub mod NetworkLemmas
 pub mod QuietLemmas
 pub mod SettingLemmas

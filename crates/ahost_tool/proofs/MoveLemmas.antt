@@ -11,7 +11,7 @@ use Rattle.chan_types.specs.declared.journal.Entry.{Entry}
 use Rattle.chan_types.specs.declared.journal.What.{What}
 use Rattle.chan_types.specs.declared.journal.What.TheVariants.{Accept, Arrive, Cancel, Destroy, Expire, Fault, Servers, Start, Take}
 use Rattle.chan_types.specs.declared.ticket.Ticket.{Ticket}
-use Rattle.channel_model.proofs.Theorems.{IsLawfulPast-before, followed_by-append, past_of-push, taken_once}
+use Rattle.channel_model.proofs.Theorems.{IsLawfulPast-before, followed_by-append, names_stay_behind, names_stay_refl, names_stay_trans, past_of-push, taken_once}
 use Rattle.channel_model.specs.Commands.{AllBecame, Asking, accepted_for, asking_in, positions_from}
 use Rattle.channel_model.specs.Completion.{occurrences, ready, taken, taken_by}
 use Rattle.channel_model.specs.Course.{has_no_turn, is_of_turn}
@@ -19,12 +19,15 @@ use Rattle.channel_model.specs.Journal.{Accepted, accepted_by, followed_by, is_d
 use Rattle.channel_model.specs.Known.{Calls, GoesOn}
 use Rattle.channel_model.specs.Lawful.{IsLawful, IsLawfulPast, first}
 use Rattle.channel_model.specs.Meanings.{Takes}
+use Rattle.channel_model.specs.Names.{NamesBecome, NamesStay}
 use Rattle.channel_model.specs.Seen.{Happens, entries_of}
 use Rattle.channel_model.specs.Turn.{parts_of_entry}
 use Rattle.channel_table.specs.Calling.{Owned, known_by_owner}
 use Rattle.completion_ticket.specs.States.{CallbackState, CalledState}
+use Rattle.event_runner.proofs.PauseLemmas.{names_same}
 use Rattle.event_runner.specs.Goes.{AreMadeInTurns, is_made_in_turn}
 use Rattle.ahost_tool.specs.Delivering.{DeliversAll, DeliversOne, DeliversSome, IsIdle, Spends, plan_of}
+use Rattle.ahost_tool.specs.Places.{PlacesState}
 use Rattle.ahost_tool.specs.Kinds.{has_servers, is_cancel, is_of_session, is_ruled, is_servers}
 use Rattle.channel_table.specs.Commanded.{IsOfCommand}
 use Rattle.ahost_tool.specs.Performing.{IsCommanded}
@@ -48,6 +51,7 @@ pub record Moves {B : Type 0} (old new : Caller B) : Type 0 where
   pub asked_none : accepted_for 0 since ≡ []
   pub of_session : list_all is_of_session since ≡ true
   pub lawful : IsLawful old.alone.setting old.alone.seen → IsLawful new.alone.setting new.alone.seen
+  pub names : NamesStay since (Some old.alone.names) (Some new.alone.names)
   pub kept : HasObeyed old.alone.setting old.alone.seen old.hand.orders old.calls old.lost → HasObeyed new.alone.setting new.alone.seen new.hand.orders new.calls new.lost
 
 -- entries of a session are ruled, and of the one seat
@@ -83,6 +87,7 @@ module _ {B : Type 0} where
     asked_none = refl;
     of_session = refl;
     lawful = λ was. was;
+    names = names_stay_refl (Some a.alone.names);
     kept = λ was. was;
   }
 
@@ -97,6 +102,7 @@ module _ {B : Type 0} where
     asked_none = accepted_parts 0 p.since q.since ∙ ap (λ l. l ++ accepted_for 0 q.since) p.asked_none ∙ q.asked_none;
     of_session = list_all-append is_of_session p.since q.since ∙ and_from (list_all is_of_session p.since) (list_all is_of_session q.since) p.of_session q.of_session;
     lawful = λ was. q.lawful (p.lawful was);
+    names = names_stay_trans p.since q.since (Some a.alone.names) (Some b.alone.names) (Some c.alone.names) p.names q.names;
     kept = λ was. q.kept (p.kept was);
   }
 
@@ -116,12 +122,28 @@ module _ {B : Type 0} where
     seen = m.seen;
     lawful = m.lawful;
     own = m.seen ∙ ap (λ l. a.alone.seen ++ l) (sym (own_all m.since (session_seats m.since m.of_session)));
+    names = m.names;
+  }
+
+  -- places play no part in it
+  abbrev pub moves_placed : (a b : Caller B) (places : PlacesState B) → Moves a b → Moves a (record b { places = places })
+  moves_placed a b places m = record {
+    since = m.since;
+    seen = m.seen;
+    setting = m.setting;
+    voice = m.voice;
+    hand = m.hand;
+    asked_none = m.asked_none;
+    of_session = m.of_session;
+    lawful = m.lawful;
+    names = m.names;
+    kept = m.kept;
   }
 
   -- by entries on nobody's command that take and accept nothing
   abbrev pub moves_plain : (a : Caller B) (c : Owned) (es : List Entry) → c.seen ≡ a.alone.seen ++ es → c.setting ≡ a.alone.setting → c.voice ≡ a.alone.voice →
-      (IsLawful a.alone.setting a.alone.seen → IsLawful c.setting c.seen) → list_all is_plain es ≡ true → list_all is_of_session es ≡ true → accepted_for 0 es ≡ [] → Moves a (record a { alone = c })
-  moves_plain a c es seen setting voice lawful plain of_session none = record {
+      (IsLawful a.alone.setting a.alone.seen → IsLawful c.setting c.seen) → NamesStay es (Some a.alone.names) (Some c.names) → list_all is_plain es ≡ true → list_all is_of_session es ≡ true → accepted_for 0 es ≡ [] → Moves a (record a { alone = c })
+  moves_plain a c es seen setting voice lawful names plain of_session none = record {
     since = es;
     seen = seen;
     setting = setting;
@@ -130,6 +152,7 @@ module _ {B : Type 0} where
     asked_none = none;
     of_session = of_session;
     lawful = lawful;
+    names = names;
     kept = λ was.
         subst (λ s. HasObeyed s c.seen a.hand.orders a.calls a.lost) (sym setting)
         (subst (λ j. HasObeyed a.alone.setting j a.hand.orders a.calls a.lost) (sym seen)
@@ -215,9 +238,14 @@ module _ {B : Type 0} (a : Caller B) (c : Owned) (goes : GoesOn (known_by_owner 
 
   -- a turn, or a part of one
   pub moves_turn : Moves a (record a { alone = c })
-  moves_turn = moves_plain a c goes.since goes.seen goes.desk.setting goes.desk.voice goes.lawful
+  moves_turn = moves_plain a c goes.since goes.seen goes.desk.setting goes.desk.voice goes.lawful goes.names
       (all_pass is_turned is_plain turned_plain goes.since turned_all) (all_pass is_turned is_of_session turned_of_session goes.since turned_all)
       (unasked is_turned (λ e h. (turn_is e.what (and_parts (is_of_turn e) (e.by == 0) (and_parts (e.seat == 0) (is_made_in_turn e) h).1).0).1) goes.since turned_all)
+
+  -- takes nothing
+  pub turn_plain : list_all is_plain moves_turn.since ≡ true
+  unfolding moves_turn
+  turn_plain = all_pass is_turned is_plain turned_plain goes.since turned_all
 
   -- sets no servers
   pub turn_unset : has_servers moves_turn.since ≡ false
@@ -248,7 +276,7 @@ first_counts n (m ∷ ns) is = let same : Some m ≡ Some n = is in let m_is : m
     ap_le false h = absurd (cc h)
 
 -- what a callback commanded isn't accepted on nobody's command
-commanded_asks : (by : ℕ) → by ≢ 0 → (es : List Entry) → AllByRecursion (IsCommanded by) es → accepted_for 0 es ≡ []
+pub commanded_asks : (by : ℕ) → by ≢ 0 → (es : List Entry) → AllByRecursion (IsCommanded by) es → accepted_for 0 es ≡ []
 commanded_asks by some [] each = refl
 commanded_asks by some (e ∷ es) each = by_number (e.by == 0) (ne_eqb e.by 0 (λ zero_. some (sym each.0.1 ∙ zero_))) (commanded_asks by some es each.1)
   where
@@ -276,8 +304,8 @@ module _ {B : Type 0} (called : CalledState) (a b : Caller B) (idle : IsIdle a) 
   behind_seen : s.behind.seen ≡ whole
   behind_seen = s.performed.seen ∙ ap (λ l. l ++ commanded_since) took_seen ∙ append_assoc a.alone.seen (take_entry request ∷ []) commanded_since
 
-  b_seen : b.alone.seen ≡ whole
-  b_seen = ap (λ o. o.seen) s.channel ∙ behind_seen
+  pub one_seen : b.alone.seen ≡ whole
+  one_seen = ap (λ o. o.seen) s.channel ∙ behind_seen
 
   b_setting : b.alone.setting ≡ a.alone.setting
   b_setting = ap (λ o. o.setting) s.channel ∙ s.performed.setting ∙ call.desk.setting
@@ -288,37 +316,47 @@ module _ {B : Type 0} (called : CalledState) (a b : Caller B) (idle : IsIdle a) 
       (subst (IsLawfulPast a.alone.setting) (ap past_of took_seen ∙ past_of-push a.alone.seen (take_entry request))
       (subst (λ k. IsLawful k took.seen) call.desk.setting call.lawful).allowed)
 
-  untaken : occurrences request (taken (past_of a.alone.seen)) ≡ 0
-  untaken = omega (arith, taken_once a.alone.setting (past_of a.alone.seen) request lawful_before, first_counts request (ready a.alone.setting (past_of a.alone.seen)) happens.meant.1)
+  pub one_untaken : occurrences request (taken (past_of a.alone.seen)) ≡ 0
+  one_untaken = omega (arith, taken_once a.alone.setting (past_of a.alone.seen) request lawful_before, first_counts request (ready a.alone.setting (past_of a.alone.seen)) happens.meant.1)
 
-  numbered : request ≢ 0
-  numbered = (done_of a.alone.setting (past_of a.alone.seen) lawful_before request ticket.call happens.meant.2).numbered
+  pub one_numbered : request ≢ 0
+  one_numbered = (done_of a.alone.setting (past_of a.alone.seen) lawful_before request ticket.call happens.meant.2).numbered
 
   one_longer : length took.seen ≡ length a.alone.seen + 1
   one_longer = ap length took_seen ∙ length-append a.alone.seen (take_entry request ∷ [])
 
-  b_lawful : IsLawful b.alone.setting b.alone.seen
-  b_lawful = subst (λ o. IsLawful o.setting o.seen) (sym s.channel) (s.performed.lawful call.lawful)
+  -- the request's token is gone, and those of the requests that its callback asked are new
+  pub one_names : NamesStay (take_entry request ∷ commanded_since) (Some a.alone.names) (Some b.alone.names)
+  unfolding happens
+  one_names =
+      let taken_names : NamesStay (take_entry request ∷ []) (Some a.alone.names) (Some took.names) =
+      subst (λ o. NamesStay (entries_of 0 0 o) (Some a.alone.names) (Some took.names)) happens.meant.0 (names_stay_behind 0 0 call.added [] (Some a.alone.names) (Some took.names) call.names) in
+      subst (λ o. NamesStay (take_entry request ∷ commanded_since) (Some a.alone.names) (Some o.names)) (sym s.channel)
+      (names_stay_trans (take_entry request ∷ []) commanded_since (Some a.alone.names) (Some took.names) (Some s.behind.names) taken_names s.performed.names)
+
+  pub one_lawful : IsLawful b.alone.setting b.alone.seen
+  one_lawful = subst (λ o. IsLawful o.setting o.seen) (sym s.channel) (s.performed.lawful call.lawful)
 
   -- the delivery of a request
   pub moves_one : Moves a b
   moves_one = record {
     since = take_entry request ∷ commanded_since;
-    seen = b_seen;
+    seen = one_seen;
     setting = b_setting;
     voice = ap (λ o. o.voice) s.channel ∙ sym idle.own_voice;
     hand = s.hand;
-    asked_none = commanded_asks request numbered commanded_since s.performed.commanded;
-    of_session = each_passes (IsCommanded request) is_of_session (commanded_of_session request numbered) commanded_since s.performed.commanded;
-    lawful = λ was. b_lawful;
+    asked_none = commanded_asks request one_numbered commanded_since s.performed.commanded;
+    of_session = each_passes (IsCommanded request) is_of_session (commanded_of_session request one_numbered) commanded_since s.performed.commanded;
+    lawful = λ was. one_lawful;
+    names = one_names;
     kept = λ was.
         subst (λ k. HasObeyed k b.alone.seen b.hand.orders b.calls b.lost) (sym b_setting)
-        (subst (λ j. HasObeyed a.alone.setting j b.hand.orders b.calls b.lost) (sym b_seen)
+        (subst (λ j. HasObeyed a.alone.setting j b.hand.orders b.calls b.lost) (sym one_seen)
         (subst (λ h. HasObeyed a.alone.setting whole h.orders b.calls b.lost) (sym s.hand)
         (subst (λ cs. HasObeyed a.alone.setting whole a.hand.orders cs b.lost) (sym s.calls)
         (kept_one a.alone.setting a.alone.seen a.hand.orders a.calls a.lost was commanded_since ticket.call ticket.token.plan s.performed.outcomes b.lost
-        (subst (IsLawful a.alone.setting) b_seen (subst (λ k. IsLawful k b.alone.seen) b_setting b_lawful))
-        happens.meant.2 happens.meant.3 untaken s.performed.commanded
+        (subst (IsLawful a.alone.setting) one_seen (subst (λ k. IsLawful k b.alone.seen) b_setting one_lawful))
+        happens.meant.2 happens.meant.3 one_untaken s.performed.commanded
         (subst (λ n. AllBecame a.alone.setting whole n (gives ticket.token.plan ticket.call a.hand.orders) s.performed.outcomes) one_longer
         (subst (λ j. AllBecame a.alone.setting j (length took.seen) (gives ticket.token.plan ticket.call a.hand.orders) s.performed.outcomes) behind_seen
         (subst (λ k. AllBecame k s.behind.seen (length took.seen) (gives ticket.token.plan ticket.call a.hand.orders) s.performed.outcomes) call.desk.setting s.performed.became)))
@@ -338,14 +376,14 @@ module _ {B : Type 0} (called : CalledState) (a b : Caller B) (idle : IsIdle a) 
   -- takes weight away
   pub one_weighs : weight (past_of b.alone.seen) < weight (past_of a.alone.seen)
   one_weighs =
-      let past_is : past_of b.alone.seen ≡ followed_by (Take request ∷ past_of a.alone.seen) commanded_since = ap past_of b_seen ∙ followed_by-append [] a.alone.seen (take_entry request ∷ commanded_since) in
+      let past_is : past_of b.alone.seen ≡ followed_by (Take request ∷ past_of a.alone.seen) commanded_since = ap past_of one_seen ∙ followed_by-append [] a.alone.seen (take_entry request ∷ commanded_since) in
       omega (
         arith,
         ap weight past_is,
         entries_weigh (Take request ∷ past_of a.alone.seen) commanded_since (each_follows (IsCommanded request) (λ e. taken_by e.what ≡ None) (λ e c. command_takes e.what c.2) commanded_since s.performed.commanded),
         s.performed.handed_on,
         gives_less ticket.token.plan ticket.call a.hand.orders,
-        take_weighs (past_of a.alone.seen) request ticket.token.plan untaken happens.meant.3,
+        take_weighs (past_of a.alone.seen) request ticket.token.plan one_untaken happens.meant.3,
       )
 
 -- ---- several deliveries
@@ -365,21 +403,26 @@ module _ {B : Type 0} where
     any_of (λ e. is_servers e.what) p.0.since q.0.since p.2 q.2,
   )
 
+  quiet_placed : (a b : Caller B) (places : PlacesState B) → MovesQuietly a b → MovesQuietly a (record b { places = places })
+  quiet_placed a b places q = (moves_placed a b places q.0, q.1, q.2)
+
   pub quiet_one : (called : CalledState) (a b : Caller B) → IsIdle a → DeliversOne (Some called) a b → MovesQuietly a b
-  quiet_one called a b idle d = (moves_one called a b idle d.0 d.1 d.2 d.3, one_quiet called a b idle d.0 d.1 d.2 d.3, one_unset called a b idle d.0 d.1 d.2 d.3)
+  quiet_one called a b idle d = (moves_one called a b idle d.0 d.1 d.2 d.4, one_quiet called a b idle d.0 d.1 d.2 d.4, one_unset called a b idle d.0 d.1 d.2 d.4)
 
   pub quiet_some : (called : List CalledState) (a b : Caller B) → IsIdle a → DeliversSome called a b → MovesQuietly a b
   quiet_some [] a b idle d = subst (λ x. MovesQuietly a x) (sym d) (quiet_none a)
   quiet_some (c ∷ called) a b idle d =
-      let one = quiet_one c a d.0 idle d.1 in
-      quiet_trans a d.0 b one (quiet_some called d.0 b (moves_idle a d.0 one.0 idle) d.2)
+      let one = quiet_placed a d.0 d.1 (quiet_one c a d.0 idle d.2) in
+      let next : Caller B = record d.0 { places = d.1 } in
+      quiet_trans a next b one (quiet_some called next b (moves_idle a next one.0 idle) d.3)
 
   -- nothing was ready
   pub same_none : (a b : Caller B) → DeliversOne None a b → b ≡ a
   same_none a b d =
       let nothing : Option (Ticket CallbackState) = None in
       let h = owner_called (Takes plan_of nothing) 0 a.alone b.alone d.0 in
-      let same : b.alone ≡ a.alone = owned_same a.alone b.alone d.0.desk.setting d.0.desk.voice (h.journal ∙ ap (λ o. a.alone.seen ++ entries_of 0 0 o) h.meant.0 ∙ append-nil a.alone.seen) in
+      let same : b.alone ≡ a.alone = owned_same a.alone b.alone d.0.desk.setting d.0.desk.voice (h.journal ∙ ap (λ o. a.alone.seen ++ entries_of 0 0 o) h.meant.0 ∙ append-nil a.alone.seen)
+      (names_same (Some a.alone.names) (Some b.alone.names) (subst (λ o. NamesBecome o (Some a.alone.names) (Some b.alone.names)) h.meant.0 d.0.names)) in
       d.1 ∙ ap (λ o. record a { alone = o }) same
 
   pub still_idle : (a b : Caller B) → IsIdle a → DeliversOne None a b → IsIdle b
@@ -395,9 +438,10 @@ module _ {B : Type 0} where
   quiet_all a b idle d = subst (λ x. MovesQuietly a x) (sym (same_none d.middle b d.none)) (quiet_some d.called a d.middle idle d.some)
 
   -- one more delivery behind others
-  pub delivers_last : (called : List CalledState) (last : CalledState) (a b c : Caller B) → DeliversSome called a b → DeliversOne (Some last) b c → DeliversSome (called ++ last ∷ []) a c
-  delivers_last [] last a b c some one = (c, subst (λ x. DeliversOne (Some last) x c) some one, refl)
-  delivers_last (d ∷ called) last a b c some one = (some.0, some.1, delivers_last called last some.0 b c some.2 one)
+  pub delivers_last : (called : List CalledState) (last : CalledState) (a b c : Caller B) (places : PlacesState B) → DeliversSome called a b → DeliversOne (Some last) b c →
+      DeliversSome (called ++ last ∷ []) a (record c { places = places })
+  delivers_last [] last a b c places some one = (c, places, subst (λ x. DeliversOne (Some last) x c) some one, refl)
+  delivers_last (d ∷ called) last a b c places some one = (some.0, some.1, some.2, delivers_last called last (record some.0 { places = some.1 }) b c places some.3 one)
 
   pub weighs_less : (called : CalledState) (a b : Caller B) → IsIdle a → DeliversOne (Some called) a b → weight (past_of b.alone.seen) < weight (past_of a.alone.seen)
-  weighs_less called a b idle d = one_weighs called a b idle d.0 d.1 d.2 d.3
+  weighs_less called a b idle d = one_weighs called a b idle d.0 d.1 d.2 d.4

@@ -22,7 +22,7 @@ use Rattle.channel_model.specs.Meanings.{Accepts, Cancels, Destroys, Meaning}
 use Rattle.channel_model.specs.Seen.{Happens, entries_of}
 use Rattle.channel_model.specs.Setting.{Setting}
 use Rattle.channel_model.specs.declared.answers.Refused.{Refused}
-use Rattle.channel_model.proofs.Theorems.{all_became_append, all_became_longer, position_after}
+use Rattle.channel_model.proofs.Theorems.{all_became_append, all_became_longer, names_stay_behind, names_stay_refl, names_stay_trans, position_after}
 use Rattle.channel_table.specs.Calling.{Owned, known_by_owner}
 use Rattle.completion_ticket.specs.States.{CallbackState, script_alone}
 use Rattle.ahost_tool.specs.Delivering.{plan_of}
@@ -89,6 +89,7 @@ performs_none channel count = record {
   handed_on = omega arith;
   lost = omega arith;
   lawful = λ was. was;
+  names = names_stay_refl (Some channel.names);
   setting = refl;
   voice = refl;
 }
@@ -112,6 +113,7 @@ module _ (meaning : Meaning) (command : Command) (old new : Owned) (call : Calls
     handed_on = size;
     lost = is;
     lawful = λ was. call.lawful;
+    names = names_stay_behind 0 old.voice call.added [] (Some old.names) (Some new.names) call.names;
     setting = call.desk.setting;
     voice = call.desk.voice;
   }
@@ -141,6 +143,7 @@ performs_more cs ds old middle new count_old count count_new one more =
       lost = more.lost ∙ capped_again count_old (count_by is_lost one.outcomes) (count_by is_lost more.outcomes) count (2 ^ 64 - 1) one.lost
           ∙ ap (λ n. min (count_old + n) (2 ^ 64 - 1)) (sym (sum_by-append (λ o. cond (is_lost o) 1 0) one.outcomes more.outcomes));
       lawful = λ was. more.lawful (one.lawful was);
+      names = names_stay_trans one.since more.since (Some old.names) (Some middle.names) (Some new.names) one.names more.names;
       setting = more.setting ∙ one.setting;
       voice = more.voice ∙ one.voice;
     }

@@ -57,20 +57,20 @@ pub record Ends (mid d : Owned) : Type 0 where
   -- it is the closing entry, or the channel was destroyed before
   pub which : ((more ≡ closing ∷ []) × (is_destroyed (past_of mid.seen) ≡ false)) ⊎ ((more ≡ []) × (is_destroyed (past_of mid.seen) ≡ true))
 
-ends_of : (mid d : Owned) → ((is_destroyed (past_of mid.seen) ≡ false) × (d.seen ≡ mid.seen ++ closing ∷ [])) ⊎ ((is_destroyed (past_of mid.seen) ≡ true) × (d ≡ mid)) → Ends mid d
+pub ends_of : (mid d : Owned) → ((is_destroyed (past_of mid.seen) ≡ false) × (d.seen ≡ mid.seen ++ closing ∷ [])) ⊎ ((is_destroyed (past_of mid.seen) ≡ true) × (d ≡ mid)) → Ends mid d
 ends_of mid d (inl first) = record { more = closing ∷ []; seen = first.1; which = inl (refl, first.0) }
 ends_of mid d (inr later) = record { more = []; seen = ap (λ o. o.seen) later.1 ∙ sym (append-nil mid.seen); which = inr (refl, later.0) }
 
 module _ (mid d : Owned) (e : Ends mid d) where
   -- such entries take and accept nothing, and are ruled; no turn makes them, and they set no servers
-  ends_are : (test : List Entry → Bool) → (b : Bool) → test (closing ∷ []) ≡ b → test [] ≡ b → test e.more ≡ b
+  pub ends_are : (test : List Entry → Bool) → (b : Bool) → test (closing ∷ []) ≡ b → test [] ≡ b → test e.more ≡ b
   ends_are test b one none = by e.which
     where
       by : ((e.more ≡ closing ∷ []) × (is_destroyed (past_of mid.seen) ≡ false)) ⊎ ((e.more ≡ []) × (is_destroyed (past_of mid.seen) ≡ true)) → test e.more ≡ b
       by (inl is) = ap test is.0 ∙ one
       by (inr is) = ap test is.0 ∙ none
 
-  ends_asked : accepted_for 0 e.more ≡ []
+  pub ends_asked : accepted_for 0 e.more ≡ []
   ends_asked = by e.which
     where
       by : ((e.more ≡ closing ∷ []) × (is_destroyed (past_of mid.seen) ≡ false)) ⊎ ((e.more ≡ []) × (is_destroyed (past_of mid.seen) ≡ true)) → accepted_for 0 e.more ≡ []

@@ -79,4 +79,4 @@ prompted_all a b d m none = by d.called d.some
         let kept : b.alone.seen ≡ a.alone.seen = ap (λ c. c.alone.seen) (same_none d.middle b d.none ∙ same) in
         let nothing : m.since ≡ [] = sym (append_cancel_left a.alone.seen [] m.since (append-nil a.alone.seen ∙ sym kept ∙ m.seen)) in
         subst (IsPrompted a.alone.setting (past_of a.alone.seen)) (sym nothing) (prompted_none a.alone.setting (past_of a.alone.seen))
-    by (called ∷ more) some = inr (some_ready a some.0 called some.1, none_left)
+    by (called ∷ more) some = inr (some_ready a some.0 called some.2, none_left)

@@ -29,6 +29,7 @@ use Rattle.event_runner.specs.UnderWay.{IsSoFar, RanSince, RunsSince, rested}
 use Rattle.net_world.specs.Logs.{LogGets}
 use Rattle.ahost_tool.specs.Delivering.{IsIdle}
 use Rattle.ahost_tool.specs.Kinds.{has_servers, is_cancel, is_of_session, is_ruled, is_servers}
+use Rattle.ahost_tool.specs.Places.{PlacesState}
 use Rattle.ahost_tool.specs.Session.{AcceptsAll, AsksFirst, FallsIntoTurns, HasAccepted, HasObeyed, IsKept, IsNew, IsSession, MakesTurns, is_asking}
 use Rattle.owner_laws.specs.Sessions.{longest_slice}
 use Rattle.ahost_tool.specs.declared.caller.Caller.{Caller}
@@ -151,10 +152,10 @@ module _ {B : Type 0} (askings : List Asking) (later : Option (List ServerAddr))
       session_cut result a err refl refl (new.idle, kept_new a new l m) (ap (list_all is_of_session) new.empty) (askings, ap (λ j. accepted_for 0 j ++ askings) new.empty)
       (record { asking = []; behind = []; parts = new.empty; asks_only = refl; none_behind = refl }) (ap has_servers new.empty) ran
 
-module _ {B : Type 0} (askings : List Asking) (later : Option (List ServerAddr)) (turns : ℕ) (a : Caller B) (new : IsNew a) (l m : Option (List WorldCall)) (c : Owned) (accepting : Result (Unit {0}) NoMemory)
+module _ {B : Type 0} (askings : List Asking) (later : Option (List ServerAddr)) (turns : ℕ) (a : Caller B) (new : IsNew a) (l m : Option (List WorldCall)) (c : Owned) (places : PlacesState B) (accepting : Result (Unit {0}) NoMemory)
     (x : AcceptsAll askings accepting a.alone c) (running : Running) (since : RunsSince longest_slice 0 0 rested (known_by_owner a.alone) running l m) where
   abbrev b : Caller B
-  b = record a { alone = c }
+  b = record a { alone = c; places = places }
 
   plain : list_all is_plain x.since ≡ true
   plain = all_pass is_asking is_plain asking_plain x.since x.accepts_only
@@ -176,6 +177,10 @@ module _ {B : Type 0} (askings : List Asking) (later : Option (List ServerAddr))
   idle_b : IsIdle b
   idle_b = record { no_command = new.idle.no_command; own_voice = x.voice ∙ new.idle.own_voice }
 
+  -- what was kept is so yet
+  pub asked_kept : IsKept b
+  asked_kept = (idle_b, kept_b)
+
   c_seen : c.seen ≡ x.since
   c_seen = x.seen ∙ ap (λ j. j ++ x.since) new.empty
 
@@ -192,6 +197,7 @@ module _ {B : Type 0} (askings : List Asking) (later : Option (List ServerAddr))
     seen = x.seen;
     lawful = x.lawful;
     own = x.seen ∙ ap (λ es. a.alone.seen ++ es) (sym (own_all x.since seats));
+    names = x.names;
   }
 
   behind_b : RunsSince longest_slice 0 0 rested (known_by_owner c) running l m

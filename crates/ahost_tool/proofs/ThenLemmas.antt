@@ -1,4 +1,5 @@
 -- The servers that are set behind the first turn: what the journal has of them, and where they stand among the network's calls.
+use Rattle.std.specs.FinMap as finite
 use Rattle.std.proofs.Common.{◌≡◌, ◌≢◌, ◌∙◌, ℕ, ◌+◌, ◌≤◌, ◌==◌, ◌||◌, Bool, true, false, not, List, [], ◌∷◌, ◌++◌, Option, Some, None, Result, Ok, Err, inl, inr, refl, sym, ap, subst, arith, eq-eqb, eqb-true}
 use Rattle.std.specs.Prelude.{⊤}
 use Rattle.std.proofs.lemmas.Bool.{and_parts}
@@ -267,7 +268,8 @@ moves_set (Some addresses) (Err e) a d same = subst (λ o. MovesBetween a (recor
 moves_set (Some addresses) (Ok done) a d (inr closed) = subst (λ o. MovesBetween a (record a { alone = o })) (sym closed.1) (moves_none a, refl, prompted_none a.alone.setting (past_of a.alone.seen))
 moves_set (Some addresses) (Ok done) a d (inl set) =
     let seen : d.seen ≡ a.alone.seen ++ servers_entry a.alone.setting addresses (past_of a.alone.seen) ∷ [] = ap (λ o. o.seen) set.1 in (
-      moves_plain a d (servers_entry a.alone.setting addresses (past_of a.alone.seen) ∷ []) seen (ap (λ o. o.setting) set.1) (ap (λ o. o.voice) set.1) (λ was. set.2) refl refl refl,
+      moves_plain a d (servers_entry a.alone.setting addresses (past_of a.alone.seen) ∷ []) seen (ap (λ o. o.setting) set.1) (ap (λ o. o.voice) set.1) (λ was. set.2)
+          (d.names, refl, λ number none. ap (λ o. finite.get o.names number) set.1) refl refl refl,
       refl,
       inl (refl, servers-ready a.alone.setting (past_of a.alone.seen) (keys_for a.alone.setting addresses (past_of a.alone.seen))),
     )

@@ -1,4 +1,5 @@
 -- How what is ready is delivered: it is taken, its callback is called, and what the callback commands is performed.
+use Rattle.std.specs.FinMap as finite
 use Rattle.std.specs.Prelude.{List, None, Option, Some, [], ◌++◌, ◌∷◌, ◌≡◌}
 use Rattle.chan_types.specs.Gives.{gives}
 use Rattle.chan_types.specs.Plans.{Plan}
@@ -6,11 +7,13 @@ use Rattle.chan_types.specs.declared.orders.Orders.{Orders}
 use Rattle.chan_types.specs.declared.ticket.Ticket.{Ticket}
 use Rattle.channel_model.specs.Known.{Calls}
 use Rattle.channel_model.specs.Meanings.{Takes}
+use Rattle.channel_model.specs.Names.{GivesName}
 use Rattle.channel_table.specs.Calling.{Owned, known_by_owner}
-use Rattle.completion_ticket.specs.States.{CallbackState, CalledState, called_with}
+use Rattle.completion_ticket.specs.States.{CallbackState, CalledState, called_with, token_name}
 use Rattle.hosts_file.specs.declared.hosts.Hosts.{Hosts}
 use Rattle.resolv_options.specs.declared.options.Options.{Options}
 use Rattle.ahost_tool.specs.Performing.{Performs}
+use Rattle.ahost_tool.specs.Places.{PlacesState}
 use Rattle.ahost_tool.specs.declared.caller.Caller.{Caller}
 
 -- the script of a callback
@@ -19,12 +22,18 @@ plan_of callback = callback.plan
 
 -- a channel with these options and hosts before its first entry
 abbrev pub fresh : Options → Hosts → Owned
-fresh options hosts = record { setting = record { options = options; hosts = hosts }; voice = 0; seen = [] }
+fresh options hosts = record { setting = record { options = options; hosts = hosts }; voice = 0; seen = []; names = finite.empty }
 
--- its owner, whose callbacks go by these orders, before anything was called or lost
+-- its owner, whose callbacks go by these orders, before anything was called or lost, and without bodies
 abbrev pub fresh_caller : {B : Type 0} → Options → Hosts → Orders → Caller B
 fresh_caller options hosts orders =
-    record { alone = fresh options hosts; hand = record { orders = orders; commands = [] }; calls = []; lost = 0 }
+    record {
+      alone = fresh options hosts;
+      hand = record { orders = orders; commands = [] };
+      calls = [];
+      lost = 0;
+      places = record { back = []; rest = [] };
+    }
 
 -- no command is on the way, and the owner speaks for himself
 pub record IsIdle {B : Type 0} (caller : Caller B) : Type 0 where
@@ -39,6 +48,7 @@ pub record Tells {B : Type 0} (ticket : Ticket CallbackState) (called : CalledSt
   pub gives_them : new.hand ≡ record old.hand { commands = gives ticket.token.plan ticket.call old.hand.orders }
   pub channel : new.alone ≡ old.alone
   pub lost : new.lost ≡ old.lost
+  pub places : new.places ≡ old.places
 
 -- and then the commands that its script gives were performed, on that request's command
 pub record Spends {B : Type 0} (ticket : Ticket CallbackState) (called : CalledState) (old new : Caller B) : Type 0 where
@@ -48,19 +58,21 @@ pub record Spends {B : Type 0} (ticket : Ticket CallbackState) (called : CalledS
   pub performed : Performs (gives ticket.token.plan ticket.call old.hand.orders) (record old.alone { voice = ticket.call.number }) behind old.lost new.lost
   pub channel : new.alone ≡ record behind { voice = 0 }
   pub hand : new.hand ≡ old.hand
+  pub places : new.places ≡ old.places
 
--- the first ready request was taken, and its ticket spent; or none was ready, and all is as it was
+-- the first ready request was taken, with the token with which it was accepted, by its name, and its ticket was spent: so the callback that was accepted is called; or none was ready, and all is as it was
 abbrev pub DeliversOne : {B : Type 0} → Option CalledState → Caller B → Caller B → Type 0
 DeliversOne (Some called) old new =
     (ticket : Ticket CallbackState) × (taken : Owned) × Calls (Takes plan_of (Some ticket)) 0 (known_by_owner old.alone) (known_by_owner taken)
-    × Spends ticket called (record old { alone = taken }) new
+    × GivesName token_name (Some ticket) (known_by_owner old.alone).names × Spends ticket called (record old { alone = taken }) new
 DeliversOne None old new =
     Calls (Takes plan_of None) 0 (known_by_owner old.alone) (known_by_owner new.alone) × (new ≡ record old { alone = new.alone })
 
--- ready requests were delivered one after the other, and this is left of their callbacks
+-- ready requests were delivered one after the other, this is left of their callbacks, and behind each delivery places may have changed
 abbrev pub DeliversSome : {B : Type 0} → List CalledState → Caller B → Caller B → Type 0
 DeliversSome [] old new = new ≡ old
-DeliversSome {B} (called ∷ more) old new = (middle : Caller B) × DeliversOne (Some called) old middle × DeliversSome more middle new
+DeliversSome {B} (called ∷ more) old new =
+    (middle : Caller B) × (places : PlacesState B) × DeliversOne (Some called) old middle × DeliversSome more (record middle { places = places }) new
 
 -- and then none was ready
 pub record DeliversAll {B : Type 0} (old new : Caller B) : Type 0 where

@@ -2,9 +2,11 @@ pub mod Kinds
 pub mod Weight
 pub mod Asked
 pub mod Performing
+pub mod Places
 pub mod Delivering
 pub mod Closing
 pub mod Session
+pub mod Returning
 pub mod Summary
 pub mod Page
 pub mod Told

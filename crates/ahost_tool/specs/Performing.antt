@@ -1,10 +1,11 @@
 -- How the commands of a callback are performed by a channel's one owner.
 use Rattle.std.specs.List.{AllByRecursion}
-use Rattle.std.specs.Prelude.{List, count_by, length, min, true, ℕ, ◌++◌, ◌+◌, ◌-◌, ◌^◌, ◌≡◌, ◌≤◌}
+use Rattle.std.specs.Prelude.{List, Some, count_by, length, min, true, ℕ, ◌++◌, ◌+◌, ◌-◌, ◌^◌, ◌≡◌, ◌≤◌}
 use Rattle.chan_types.specs.declared.command.Command.{Command}
 use Rattle.chan_types.specs.declared.journal.Entry.{Entry}
 use Rattle.channel_model.specs.Commands.{AllBecame, Outcome, is_lost, positions_from, positions_left}
 use Rattle.channel_model.specs.Lawful.{IsLawful}
+use Rattle.channel_model.specs.Names.{NamesStay}
 use Rattle.channel_table.specs.Calling.{Owned}
 use Rattle.channel_table.specs.Commanded.{IsOfCommand}
 use Rattle.ahost_tool.specs.Weight.{commands_size, scripts_size}
@@ -28,5 +29,7 @@ pub record Performs (commands : List Command) (old new : Owned) (lost_old lost_n
   -- each request that left none where the channel wasn't destroyed was counted, as far as a count goes
   pub lost : min lost_new (2 ^ 64 - 1) ≡ min (lost_old + count_by is_lost outcomes) (2 ^ 64 - 1)
   pub lawful : IsLawful old.setting old.seen → IsLawful new.setting new.seen
+  -- the tokens of requests that weren't accepted by that have the names that they had
+  pub names : NamesStay since (Some old.names) (Some new.names)
   pub setting : new.setting ≡ old.setting
   pub voice : new.voice ≡ old.voice

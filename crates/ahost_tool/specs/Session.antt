@@ -15,6 +15,7 @@ use Rattle.channel_model.specs.Course.{IsCourse, IsCourseSoFar}
 use Rattle.channel_model.specs.Endings.{IsStalledBehind}
 use Rattle.channel_model.specs.Journal.{Past, accepted_by, is_destroyed, past_of}
 use Rattle.channel_model.specs.Lawful.{IsLawful}
+use Rattle.channel_model.specs.Names.{NamesStay}
 use Rattle.channel_model.specs.Servers.{keys_for}
 use Rattle.channel_model.specs.Setting.{Setting}
 use Rattle.channel_progress.specs.Prompted.{unprompted_in}
@@ -57,6 +58,7 @@ pub record AcceptsAll (askings : List Asking) (result : Result (Unit {0}) NoMemo
   pub setting : new.setting ≡ old.setting
   pub voice : new.voice ≡ old.voice
   pub lawful : IsLawful old.setting old.seen → IsLawful new.setting new.seen
+  pub names : NamesStay since (Some old.names) (Some new.names)
   pub accepts_only : IsTrue (list_all is_asking since)
   pub accepts_are : HasAccepted askings result (accepted_for 0 since)
 

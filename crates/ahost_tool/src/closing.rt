@@ -2,6 +2,7 @@
 
 ghost use Rattle.ahost_tool.specs.Delivering.{IsIdle};
 ghost use Rattle.ahost_tool.specs.Closing.{Closes};
+ghost use Rattle.ahost_tool.specs.Returning.{KeepsPlaces};
 
 use crate::caller::Caller;
 use crate::delivering::deliver_all;
@@ -11,7 +12,8 @@ use completion_ticket::Done;
 /// Destroys the channel, unless a callback has, and delivers what is then ready: nothing is left.
 pub(crate) fn close<B: Done + Drop>(caller: &mut Caller<B>)
     requires idle { IsIdle caller.old }
-    ensures { Closes caller.old caller.new }
+    ensures closes { Closes caller.old caller.new }
+    ensures places { KeepsPlaces B.name B.told caller.old caller.new }
 {
     caller.alone.destroy();
     deliver_all(caller);

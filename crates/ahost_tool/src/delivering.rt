@@ -4,6 +4,7 @@ ghost use Rattle.std.specs.Prelude.{◌≡◌, []};
 ghost use Rattle.channel_model.specs.Completion.{ready};
 ghost use Rattle.channel_model.specs.Journal.{past_of};
 ghost use Rattle.ahost_tool.specs.Delivering.{DeliversAll, DeliversOne, IsIdle, Spends, Tells};
+ghost use Rattle.ahost_tool.specs.Returning.{KeepsPlaces};
 
 use crate::caller::Caller;
 use crate::performing::perform_all;
@@ -11,14 +12,17 @@ use chan_types::Ticket;
 use channel_model::Desk;
 use completion_ticket::{Callback, Called, Done};
 
-/// Delivers until nothing is ready: commands of callbacks may make further requests ready.
+/// Delivers until nothing is ready: commands of callbacks may make further requests ready. Bodies that were told come back.
 pub(crate) fn deliver_all<B: Done + Drop>(caller: &mut Caller<B>)
     requires idle { IsIdle caller.old }
     ensures delivers { DeliversAll caller.old caller.new }
     ensures none_ready { ready caller.new.alone.setting (past_of caller.new.alone.seen) ≡ [] }
     ensures idle { IsIdle caller.new }
+    ensures places { KeepsPlaces B.name B.told caller.old caller.new }
 {
-    while let Some(_called) = deliver_one(caller) {}
+    while let Some(called) = deliver_one(caller) {
+        caller.places.put(called);
+    }
 }
 
 /// Takes the first ready request, and spends its ticket.

@@ -10,6 +10,7 @@ mod loading;
 mod outcome;
 mod page;
 mod performing;
+mod places;
 mod putting;
 mod reporting;
 mod resolving;
@@ -20,4 +21,4 @@ mod summary;
 mod task;
 
 pub use run_end::Ended;
-pub use running::{run, run_boxed};
+pub use running::{run, run_boxed, run_returning_bodies};

@@ -5,6 +5,7 @@ ghost use Rattle.resolv_options.specs.Defaults.{plain_values};
 ghost use Rattle.test_nameserver.specs.Load.{load_zone};
 ghost use Rattle.test_nameserver.specs.Peer.{at_start};
 ghost use Rattle.ahost_tool.specs.Loading.{IsLoadRun, IsWithinLimits, host_specs, host_text};
+ghost use Rattle.ahost_tool.specs.Returning.{AreBack, numbers_asked};
 
 use crate::reporting::Report;
 use crate::resolving::resolve;
@@ -20,22 +21,24 @@ use std::alloc::Global;
 use test_nameserver::{PeerWorld, Zone};
 use tool_line::{Exit, Load, SpecList};
 
-/// Asks for the names of a load, and puts its summary: at most `turns` turns over a network that is made for it.
+/// Asks for the names of a load, and puts its summary: at most `turns` turns over a network that is made for it. The bodies
+/// come back.
 pub(crate) fn load<B: Done + Drop, K: Sink>(
     alloc: Global,
     load: Load,
     bodies: Vec<B>,
     sink: &mut K,
     turns: u64,
-) -> Ended
+) -> (Ended, Vec<B>)
     requires fresh { All (λ body. B.told body ≡ None) bodies.items }
     requires limits { IsWithinLimits load }
-    ensures { IsLoadRun load (map B.plan bodies.items) turns result
+    ensures load { IsLoadRun load (map B.plan bodies.items) turns result.0
         (record { bytes = K.bytes sink.old; faults = K.faults sink.old; puts = K.puts sink.old })
         (record { bytes = K.bytes sink.new; faults = K.faults sink.new; puts = K.puts sink.new }) }
+    ensures bodies { AreBack B.name B.told B.refusal (numbers_asked result.0.journal) bodies.items result.1.items }
 {
     let Ok((options, specs, mut world)) = prepare(alloc, load) else {
-        return Ended::early(alloc, Exit::OutOfMemory.number());
+        return (Ended::early(alloc, Exit::OutOfMemory.number()), bodies);
     };
     let task = Task {
         specs,
@@ -48,7 +51,7 @@ pub(crate) fn load<B: Done + Drop, K: Sink>(
         later: None,
         report: Report::Summary(load),
     };
-    let ended = resolve(
+    let run = resolve(
         alloc,
         task,
         options,
@@ -59,7 +62,7 @@ pub(crate) fn load<B: Done + Drop, K: Sink>(
     );
     // What the network has told is a log of its zone and its seed: this is said by `log`.
     let _ = world.log();
-    ended
+    run
 }
 
 /// The options of a load's channel, its requests, and its network.

@@ -6,10 +6,12 @@ ghost use Rattle.ahost_tool.specs.Delivering.{fresh_caller};
 ghost use Rattle.ahost_tool.specs.Ends.{IsEndOf};
 ghost use Rattle.ahost_tool.specs.Promise.{Promise};
 ghost use Rattle.ahost_tool.specs.Asked.{asked_of};
+ghost use Rattle.ahost_tool.specs.Returning.{AreBack, numbers_asked};
 
 use crate::caller::Caller;
 use crate::closing::close;
 use crate::outcome::Outcome;
+use crate::places::Places;
 use crate::putting::tell;
 use crate::session::session;
 use crate::task::{Requests, Task};
@@ -24,7 +26,7 @@ use std::alloc::Global;
 use tool_line::Exit;
 
 /// Asks a channel with these options and hosts, and puts its report. A channel that was made is destroyed in every case, so
-/// that each callback is called.
+/// that each callback is called. The bodies come back.
 pub(crate) fn resolve<B: Done + Drop, W: World, K: Sink>(
     alloc: Global,
     task: Task<B>,
@@ -33,13 +35,14 @@ pub(crate) fn resolve<B: Done + Drop, W: World, K: Sink>(
     world: &mut W,
     sink: &mut K,
     turns: u64,
-) -> Ended
+) -> (Ended, Vec<B>)
     requires fresh { All (λ body. B.told body ≡ None) task.bodies.items }
     requires servers { IfSome task.later (λ later. (1 ≤ length later) × (length later ≤ 8)) }
     ensures promise { Promise (asked_of task.report task.specs (map B.plan task.bodies.items) task.orders task.later)
-        (record { options = options; hosts = hosts }) turns result
+        (record { options = options; hosts = hosts }) turns result.0
         (outside (W.log world.old) (W.wait_faults world.old) (K.bytes sink.old) (K.faults sink.old) (K.puts sink.old))
         (outside (W.log world.new) (W.wait_faults world.new) (K.bytes sink.new) (K.faults sink.new) (K.puts sink.new)) }
+    ensures bodies { AreBack B.name B.told B.refusal (numbers_asked result.0.journal) task.bodies.items result.1.items }
     ensures origin { W.origin world.new ≡ W.origin world.old }
 {
     let Task {
@@ -50,13 +53,10 @@ pub(crate) fn resolve<B: Done + Drop, W: World, K: Sink>(
         report,
     } = task;
     let Ok((known, mut caller)) = caller_with(alloc, options, hosts, orders) else {
-        return Ended::early(alloc, Exit::OutOfMemory.number());
+        return (Ended::early(alloc, Exit::OutOfMemory.number()), bodies);
     };
-    let requests = Requests {
-        specs,
-        bodies,
-        later,
-    };
+    caller.places = Places::of(alloc, bodies);
+    let requests = Requests { specs, later };
     let loop_end = session(alloc, &known, requests, &mut caller, world, turns);
     close(&mut caller);
     let Caller {
@@ -64,6 +64,7 @@ pub(crate) fn resolve<B: Done + Drop, W: World, K: Sink>(
         hand: _,
         calls,
         lost,
+        places,
     } = caller;
     let journal = alone.close().into_journal();
     let end = ending_of(loop_end, lost, &calls);
@@ -72,7 +73,10 @@ pub(crate) fn resolve<B: Done + Drop, W: World, K: Sink>(
         journal,
         calls,
     };
-    tell(alloc, report, outcome, end, sink)
+    (
+        tell(alloc, report, outcome, end, sink),
+        places.into_bodies(),
+    )
 }
 
 /// The owner of a channel with these options and hosts, and the options once more. They name a server and a try.

@@ -1,13 +1,15 @@
 //! The part of a run that brings its requests to their end: turns, and between them what completes is delivered.
 
-ghost use Rattle.std.specs.Prelude.{◌≡◌, ◌≤◌, ◌∷◌, All, IfSome, None, Ok, [], length, map};
+ghost use Rattle.std.specs.Prelude.{◌≡◌, ◌≢◌, ◌≤◌, ◌∷◌, All, IfSome, None, Ok, [], length, map};
 ghost use Rattle.net_world.specs.Cause.{Rose};
 ghost use Rattle.ahost_tool.specs.Delivering.{IsIdle};
 ghost use Rattle.ahost_tool.specs.Session.{AcceptsAll, CountsPending, IsSession, MakesTurns, SetsLater, IsNew};
 ghost use Rattle.ahost_tool.specs.Asked.{askings};
+ghost use Rattle.ahost_tool.specs.Returning.{AsksWith, HaveAsked, KeepsPlaces};
 
 use crate::caller::Caller;
 use crate::delivering::deliver_all;
+use crate::places::Places;
 use crate::task::Requests;
 use chan_types::Spec;
 use channel_model::{Desk, Refused, SetFault};
@@ -22,73 +24,81 @@ use run_end::LoopEnd;
 use std::alloc::Global;
 use std::collections::VecDeque;
 
-/// Makes a runner, accepts the requests, and makes turns with pauses between them until nothing is pending: at most so
-/// many. What has completed is delivered before the first turn and behind each; the later servers are set right behind
-/// the first.
+/// Makes a runner, accepts the requests, each with the next body, and makes turns with pauses between them until nothing is
+/// pending: at most so many. What has completed is delivered before the first turn and behind each; the later servers are
+/// set right behind the first.
 pub(crate) fn session<B: Done + Drop, W: World>(
     alloc: Global,
     options: &Options,
-    requests: Requests<B>,
+    requests: Requests,
     caller: &mut Caller<B>,
     world: &mut W,
     turns: u64,
 ) -> Result<LoopEnd, NoMemory>
     requires new { IsNew caller.old }
     requires options { options.now ≡ caller.old.alone.setting.options }
-    requires fresh { All (λ body. B.told body ≡ None) requests.bodies.items }
+    requires fresh { All (λ body. B.told body ≡ None) caller.old.places.rest }
+    requires unasked { caller.old.places.back ≡ [] }
     requires servers { IfSome requests.later (λ later. (1 ≤ length later) × (length later ≤ 8)) }
-    ensures session { IsSession (askings requests.specs (map B.plan requests.bodies.items)) requests.later turns result
+    ensures session { IsSession (askings requests.specs (map B.plan caller.old.places.rest)) requests.later turns result
         caller.old caller.new (W.log world.old) (W.log world.new) }
+    ensures places { HaveAsked B.name B.told B.refusal caller.old.places.rest
+        caller.new.alone caller.new.places }
     ensures waits { W.wait_faults world.old ≤ W.wait_faults world.new }
     ensures origin { W.origin world.new ≡ W.origin world.old }
     ensures wait_fault { result ≡ Ok LoopEnd.WaitFault
         → Rose (W.wait_faults world.old) (W.wait_faults world.new) }
 {
-    let Requests {
-        specs,
-        bodies,
-        later,
-    } = requests;
+    let Requests { specs, later } = requests;
     let mut runner = Runner::make(alloc, world, options)?;
-    accept_all(&mut caller.alone, specs.into_vec(), bodies)?;
+    accept_all(&mut caller.alone, &mut caller.places, specs.into_vec())?;
     make_turns(caller, later, &mut runner, world, turns)
 }
 
-/// Accepts a request for each spec that has a body, in order, each with the callback of its body.
+/// Accepts a request for each spec that has a body, in order, each with the callback of the next body.
 fn accept_all<B: Done + Drop>(
     alone: &mut Alone<Callback<B>>,
+    places: &mut Places<B>,
     specs: Vec<Spec>,
-    bodies: Vec<B>,
 ) -> Result<(), NoMemory>
     requires voice { alone.old.voice ≡ 0 }
-    requires fresh { All (λ body. B.told body ≡ None) bodies.items }
-    ensures { AcceptsAll (askings specs.items (map B.plan bodies.items)) result alone.old alone.new }
+    requires empty { alone.old.seen ≡ [] }
+    requires fresh { All (λ body. B.told body ≡ None) places.old.rest }
+    requires unasked { places.old.back ≡ [] }
+    ensures accepts { AcceptsAll (askings specs.items (map B.plan places.old.rest)) result alone.old alone.new }
+    ensures places { HaveAsked B.name B.told B.refusal places.old.rest alone.new places.new }
 {
     let mut specs = VecDeque::from(specs);
-    let mut bodies = VecDeque::from(bodies);
     while let Some(spec) = specs.pop_front() {
-        let Some(body) = bodies.pop_front() else {
+        let Some(body) = places.next()? else {
             return Ok(());
         };
-        accept(alone, spec, body)?;
+        accept(alone, places, spec, body)?;
     }
     Ok(())
 }
 
-/// Accepts a request with the callback of this body, which is told where the request is refused.
+/// Accepts a request with the callback of this body, which was taken out last. Where the request is refused the body is told
+/// so, and given back.
 fn accept<B: Done + Drop>(
     alone: &mut Alone<Callback<B>>,
+    places: &mut Places<B>,
     spec: Spec,
     body: B,
 ) -> Result<(), NoMemory>
     requires voice { alone.old.voice ≡ 0 }
     requires fresh { B.told body ≡ None }
-    ensures { AcceptsAll (askings (spec ∷ []) (B.plan body ∷ [])) result alone.old alone.new }
+    requires place { places.old.back ≢ [] }
+    ensures accepts { AcceptsAll (askings (spec ∷ []) (B.plan body ∷ [])) result alone.old alone.new }
+    ensures places { AsksWith B.name B.told B.refusal spec (B.plan body) body result
+        alone.old alone.new places.old places.new }
 {
     let Err(Refused { why, token, .. }) = alone.accept(spec, Callback::of(body)) else {
         return Ok(());
     };
-    token.refuse(why);
+    if let Some(body) = token.refuse(why) {
+        places.give_back(body);
+    }
     Err(NoMemory)
 }
 
@@ -104,6 +114,7 @@ fn make_turns<B: Done + Drop, W: World>(
     requires servers { IfSome later (λ later. (1 ≤ length later) × (length later ≤ 8)) }
     ensures turns { MakesTurns later turns result caller.old caller.new runner.old
         (W.log world.old) (W.log world.new) }
+    ensures places { KeepsPlaces B.name B.told caller.old caller.new }
     ensures waits { W.wait_faults world.old ≤ W.wait_faults world.new }
     ensures origin { W.origin world.new ≡ W.origin world.old }
     ensures wait_fault { result ≡ Ok LoopEnd.WaitFault

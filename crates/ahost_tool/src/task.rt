@@ -17,10 +17,9 @@ pub(crate) struct Task<B: Done + Drop> {
     pub report: Report,
 }
 
-/// The part of it that the turns of a run need: the requests with their bodies, and the later servers.
+/// The part of it that the turns of a run need: the requests, and the later servers.
 #[derive(Drop)]
-pub(crate) struct Requests<B: Done + Drop> {
+pub(crate) struct Requests {
     pub specs: SpecList,
-    pub bodies: Vec<B>,
     pub later: Option<ServerList>,
 }

@@ -1,3 +1,5 @@
+use Rattle.std.proofs.Common.{None, ap}
+use Rattle.ahost_tool.proofs.PlaceLemmas.{none_back}
 use Rattle.ahost_tool.proofs.RunningLemmas.{failed_apart, fault_run, good_run, large_apart, wanting_run}
 use Rattle.ahost_tool.proofs.asking.ask.Goals as goal
 
@@ -22,5 +24,16 @@ returns-in-Err-TooLarge-clause-promise g c =
 -- want of memory
 pub returns-clause-promise : goal.returns-clause-promise
 returns-clause-promise g c =
-    rw (c.early.ensures, c.number.ensures)
+    rw (c.early-ended.ensures, c.number.ensures)
     (wanting_run c.args.asked _ c.args.turns _ _ _ _ c.as_str.ensures.value c.as_str-2.ensures.value _ c.in-Err-NoMemory.field-0 c.in-Err-NoMemory.field-0-is c.in-Err-NoMemory.ensures.reads)
+
+-- ---- the bodies
+
+pub returns-in-Err-Failed-clause-bodies : goal.returns-in-Err-Failed-clause-bodies
+returns-in-Err-Failed-clause-bodies g c = none_back g.B.Done.name g.B.Done.told g.B.Done.refusal _ _ (c.leave.ensures None 0).no_journal
+
+pub returns-in-Err-TooLarge-clause-bodies : goal.returns-in-Err-TooLarge-clause-bodies
+returns-in-Err-TooLarge-clause-bodies g c = none_back g.B.Done.name g.B.Done.told g.B.Done.refusal _ _ (c.leave-in-Err-TooLarge.ensures None 0).no_journal
+
+pub returns-clause-bodies : goal.returns-clause-bodies
+returns-clause-bodies g c = none_back g.B.Done.name g.B.Done.told g.B.Done.refusal _ _ (ap (λ ended. ended.journal) c.early-ended.ensures)

@@ -1,8 +1,9 @@
 use Rattle.std.proofs.Common.{ap, arith, inl, refl, ◌∙◌}
 use Rattle.std.specs.Prelude.{is_err}
+use Rattle.ahost_tool.proofs.KeepLemmas.{keeps_round, keeps_same, keeps_then, keeps_turned}
 use Rattle.ahost_tool.proofs.LoopLemmas.{asked_here, ends_completed, ends_cut, ends_failed, ends_stalled, ends_unpaused, ends_unset, made_none, made_paused, made_then, then_cut, then_paused, then_whole}
 use Rattle.ahost_tool.proofs.MoveLemmas.{quiet_all}
-use Rattle.owner_laws.proofs.Owner.{paused_ready}
+use Rattle.owner_laws.proofs.Owner.{looked_same, paused_ready, paused_same}
 use Rattle.ahost_tool.proofs.PromptLemmas.{prompted_all}
 use Rattle.ahost_tool.proofs.RoundLemmas.{counted_made, counted_sets, round, turned_made}
 use Rattle.ahost_tool.proofs.ThenLemmas.{then_begun}
@@ -16,6 +17,7 @@ loop-init g c =
       sets = then_begun _ _ _ _ _ all.0 all.2;
       delivered = c.deliver_all.ensures.none_ready;
       servers = c.requires.servers;
+      places = c.deliver_all.ensures.places;
       waits = omega arith;
       origin = refl;
     }
@@ -56,6 +58,9 @@ loop-preserved g c =
       sets = rw c.set_later.ensures.left (then_paused _ _ _ _ _ _ _ _ _ c.in_ok-pause.field-0 _ _ c.in_ok-pause.ensures.pauses one.sets);
       delivered = paused_ready _ c.in_ok-pause.field-0 _ _ _ _ c.in_ok-pause.ensures.pauses c.deliver_all-in-loop.ensures.none_ready;
       servers = rw c.set_later.ensures.left tt;
+      places = keeps_same g.B.Done.name g.B.Done.told _ _ _ (paused_same _ c.in_ok-pause.field-0 _ _ _ _ c.in_ok-pause.ensures.pauses)
+          (keeps_round g.B.Done.name g.B.Done.told _ _ c.loop.invariant.made.moves c.loop.invariant.places _ _ c.count_pending.ensures _ c.in_ok-turn.ensures.goes.goes_on c.in_ok-turn.ensures.goes.made _ _ _
+          c.in_ok-set_later.ensures.sets _ c.deliver_all-in-loop.ensures.places);
       waits = omega (arith, c.loop.invariant.waits, c.turn.ensures.waits, c.pause.ensures.waits);
       origin = c.pause.ensures.origin ∙ c.turn.ensures.origin ∙ c.loop.invariant.origin;
     }
@@ -83,3 +88,35 @@ returns-then-count_pending-eq0-2-clause-turns g c =
 pub returns-clause-turns : goal.returns-clause-turns
 returns-clause-turns g c =
     ends_stalled _ c.loop.later _ _ _ _ _ _ _ _ _ _ (omega (arith, c.loop-test.false, c.loop.auto.counter-end)) c.loop.invariant.delivered c.count_pending-2.ensures c.if-count_pending-eq0-2.false c.loop.invariant.made c.loop.invariant.sets
+
+-- ---- the bodies
+
+pub returns-then-count_pending-eq0-clause-places : goal.returns-then-count_pending-eq0-clause-places
+returns-then-count_pending-eq0-clause-places g c = keeps_same g.B.Done.name g.B.Done.told _ _ _ c.count_pending.ensures.same c.loop.invariant.places
+
+pub returns-in_err-turn-clause-places : goal.returns-in_err-turn-clause-places
+returns-in_err-turn-clause-places g c =
+    keeps_turned g.B.Done.name g.B.Done.told _ _ c.loop.invariant.made.moves c.loop.invariant.places _ _ c.count_pending.ensures _ c.in_err-turn.ensures.goes.goes_on c.in_err-turn.ensures.goes.made
+
+pub returns-in_err-set_later-clause-places : goal.returns-in_err-set_later-clause-places
+returns-in_err-set_later-clause-places g c =
+    keeps_then g.B.Done.name g.B.Done.told _ _ c.loop.invariant.made.moves c.loop.invariant.places _ _ c.count_pending.ensures _ c.in_ok-turn.ensures.goes.goes_on c.in_ok-turn.ensures.goes.made _ _ _
+    c.set_later.ensures.sets
+
+pub returns-in_err-pause-clause-places : goal.returns-in_err-pause-clause-places
+returns-in_err-pause-clause-places g c =
+    keeps_same g.B.Done.name g.B.Done.told _ _ _ (looked_same _ _ c.in_err-pause.ensures.pauses.0)
+    (keeps_round g.B.Done.name g.B.Done.told _ _ c.loop.invariant.made.moves c.loop.invariant.places _ _ c.count_pending.ensures _ c.in_ok-turn.ensures.goes.goes_on c.in_ok-turn.ensures.goes.made _ _ _
+    c.in_ok-set_later.ensures.sets _ c.deliver_all-in-loop.ensures.places)
+
+pub returns-in-WaitFault-clause-places : goal.returns-in-WaitFault-clause-places
+returns-in-WaitFault-clause-places g c =
+    keeps_same g.B.Done.name g.B.Done.told _ _ _ (paused_same _ c.in_ok-pause.field-0 _ _ _ _ c.in_ok-pause.ensures.pauses)
+    (keeps_round g.B.Done.name g.B.Done.told _ _ c.loop.invariant.made.moves c.loop.invariant.places _ _ c.count_pending.ensures _ c.in_ok-turn.ensures.goes.goes_on c.in_ok-turn.ensures.goes.made _ _ _
+    c.in_ok-set_later.ensures.sets _ c.deliver_all-in-loop.ensures.places)
+
+pub returns-then-count_pending-eq0-2-clause-places : goal.returns-then-count_pending-eq0-2-clause-places
+returns-then-count_pending-eq0-2-clause-places g c = keeps_same g.B.Done.name g.B.Done.told _ _ _ c.count_pending-2.ensures.same c.loop.invariant.places
+
+pub returns-clause-places : goal.returns-clause-places
+returns-clause-places g c = keeps_same g.B.Done.name g.B.Done.told _ _ _ c.count_pending-2.ensures.same c.loop.invariant.places

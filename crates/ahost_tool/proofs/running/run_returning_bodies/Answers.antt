@@ -1,8 +1,9 @@
-use Rattle.std.proofs.Common.{Err, ◌∙◌, ap, refl}
+use Rattle.std.proofs.Common.{Err, None, ◌∙◌, ap, refl}
 use Rattle.ahost_tool.proofs.LaterLemmas.{asked_few}
 use Rattle.ahost_tool.proofs.LoadingLemmas.{asked_within, early_load, of_each}
+use Rattle.ahost_tool.proofs.PlaceLemmas.{none_back}
 use Rattle.ahost_tool.proofs.RunningLemmas.{early_run, same_load, same_none, same_run, served_so, unserved}
-use Rattle.ahost_tool.proofs.running.run.Goals as goal
+use Rattle.ahost_tool.proofs.running.run_returning_bodies.Goals as goal
 
 -- servers that the words set later are 1 to 8, and a load is small
 pub serve-requires-clause-servers : goal.serve-requires-clause-servers
@@ -50,8 +51,19 @@ returns-in-Err-Refused-clause-load g c = λ ask asks served. absurd (c.ahost_ask
 
 -- ---- want of memory
 
-pub returns-clause-promise : goal.returns-clause-promise
-returns-clause-promise g c = λ ask asks served none. rw (c.early.ensures, c.number.ensures) (early_run ask _ _ _ _)
+pub returns-in-Err-NoMemory-clause-promise : goal.returns-in-Err-NoMemory-clause-promise
+returns-in-Err-NoMemory-clause-promise g c = λ ask asks served none. rw (c.early-ended.ensures, c.number.ensures) (early_run ask _ _ _ _)
 
-pub returns-clause-load : goal.returns-clause-load
-returns-clause-load g c = λ ask asks served. of_each _ (λ load. (refl, refl, rw (c.early.ensures, c.number.ensures) (early_load load _ _ _))) ask.load
+pub returns-in-Err-NoMemory-clause-load : goal.returns-in-Err-NoMemory-clause-load
+returns-in-Err-NoMemory-clause-load g c = λ ask asks served. of_each _ (λ load. (refl, refl, rw (c.early-ended.ensures, c.number.ensures) (early_load load _ _ _))) ask.load
+
+-- ---- the bodies
+
+pub returns-in-Ok-2-clause-bodies : goal.returns-in-Ok-2-clause-bodies
+returns-in-Ok-2-clause-bodies g c = none_back g.B.Done.name g.B.Done.told g.B.Done.refusal _ _ (c.leave.ensures None 0).no_journal
+
+pub returns-in-Err-Refused-clause-bodies : goal.returns-in-Err-Refused-clause-bodies
+returns-in-Err-Refused-clause-bodies g c = none_back g.B.Done.name g.B.Done.told g.B.Done.refusal _ _ (c.leave-in-Err-Refused.ensures None 0).no_journal
+
+pub returns-in-Err-NoMemory-clause-bodies : goal.returns-in-Err-NoMemory-clause-bodies
+returns-in-Err-NoMemory-clause-bodies g c = none_back g.B.Done.name g.B.Done.told g.B.Done.refusal _ _ (ap (λ ended. ended.journal) c.early-ended.ensures)
