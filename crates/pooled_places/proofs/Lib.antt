@@ -1,4 +1,3 @@
 mod SendLemmas
-mod ClosureLemmas
 mod DeliveryLemmas
 pub mod Theorems

@@ -11,10 +11,9 @@ use denote.Ref.{ShrRef}
 use denote.Struct.Declared.{shape}
 use denote.Struct.Field.{rows}
 use denote.Struct.Tuple.{TupleAt, field_at, parts, type_at}
-use Rattle.completion_ticket.specs.contracts.scripted.Scripted as Scripted
-use Rattle.completion_ticket.specs.contracts.scripted.ScriptedDone.TheImpl as Impl
+use Rattle.channel_journal.specs.declared.journal.ChannelJournal.{Ghosts as JournalGhosts}
+use Rattle.completion_ticket.specs.declared.done.Done as done
 use Rattle.shared_channel.specs.contracts.channel.Channel as Channel
-use Rattle.shared_channel.specs.contracts.pass.Pass as Pass
 use Rattle.shared_channel.proofs.SendLemmas.{channel_sync}
 
 all_parts : (Ts : List RattleType) → AllSend Ts → AllSend (rows (parts Ts))
@@ -29,14 +28,11 @@ tuple_send name Ts all = recorded_send (field_at name Ts).row _ _ (type_at name 
 closure_send : (Ts : List RattleType) → AllSend Ts → IsSend (param 1 (arg ty_unit no (TupleAt [] Ts)))
 closure_send Ts all = param_send 1 _ (arg_send ty_unit no _ (tuple_send [] Ts all))
 
--- what is lent to each thread: its handle, and the channel
-abbrev pub lent : Lft → Lft → RattleType → List RattleType → List RattleType
-lent handle channel R rest = ShrRef (named 0) handle R ∷ ShrRef (named 0) channel (Channel.the_row Scripted.the_row Impl.ghosts) ∷ rest
+module _ (B J : RattleType) (g : done.Ghosts B.Denot) (k : JournalGhosts J.Denot) where
+  -- what is lent to each thread: its handle, and the channel
+  abbrev pub lent : Lft → Lft → RattleType → List RattleType → List RattleType
+  lent handle channel R rest = ShrRef (named 0) handle R ∷ ShrRef (named 0) channel (Channel.the_row B J g k) ∷ rest
 
--- a pass
-abbrev pub Own : RattleType
-Own = Pass.the_row Scripted.the_row Impl.ghosts
-
--- a thread's closure may go where what is its own may
-pub lent_send : (handle channel : Lft) (R : RattleType) (rest : List RattleType) → IsSync R → AllSend rest → IsSend (param 1 (arg ty_unit no (TupleAt [] (lent handle channel R rest))))
-lent_send handle channel R rest shared all = closure_send (lent handle channel R rest) (shr_send _ _ R shared, (shr_send _ _ (Channel.the_row Scripted.the_row Impl.ghosts) channel_sync, all))
+  -- a thread's closure may go where what is its own may
+  pub lent_send : IsSend B → IsSend J → (handle channel : Lft) (R : RattleType) (rest : List RattleType) → IsSync R → AllSend rest → IsSend (param 1 (arg ty_unit no (TupleAt [] (lent handle channel R rest))))
+  lent_send b j handle channel R rest shared all = closure_send (lent handle channel R rest) (shr_send _ _ R shared, (shr_send _ _ (Channel.the_row B J g k) (channel_sync B g b J k j), all))

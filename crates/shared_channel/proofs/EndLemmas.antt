@@ -214,40 +214,23 @@ module _ (orders : Orders) (lock : TableId) (passes : List PassView) (all last :
       answered : (count : ℕ) → count ≡ length (accepted (past_of log)) → AnswersAll all.setting log count last.calls
       answered = answers_all all.setting log last.calls nothing.lawful nothing.none_pending nothing.none_ready told_is told_fates
 
-      pub finishes : (finished : Finished) → finished.journal ≡ log → finished.accepted ≡ length (accepted (past_of log)) → finished.calls ≡ last.calls → finished.lost ≡ last.lost → Finishes orders passes finished
-      finishes finished journal accepts told lost_is =
+      pub finishes : {J : Type 0} (told : J → List Entry) (finished : Finished J) → told finished.journal ≡ log → finished.accepted ≡ length (accepted (past_of log)) → finished.calls ≡ last.calls → finished.lost ≡ last.lost → Finishes told orders passes finished
+      finishes told finished journal accepts calls_are lost_is =
           record {
             all = all;
             joined = joined;
             last = last;
             emptied = emptied;
             seen = journal ∙ log_is;
-            calls = told;
+            calls = calls_are;
             lost = lost_is;
             journal = subst (IsJournalOfAll passes all) (sym journal) journal_of_all;
             nothing = subst (LeavesNothing all.setting) (sym journal) nothing;
-            told = subst (TellsBehind passes emptied.delivered.called) (sym told) (tells_behind orders all last emptied passes joined.calls);
+            tells = subst (TellsBehind passes emptied.delivered.called) (sym calls_are) (tells_behind orders all last emptied passes joined.calls);
             accepted_are = accepts ∙ ap (λ l. length (accepted (past_of l))) (sym journal);
-            answers = subst (λ l. AnswersAll all.setting l finished.accepted finished.calls) (sym journal) (subst (AnswersAll all.setting log finished.accepted) (sym told) (answered finished.accepted accepts));
+            answers = subst (λ l. AnswersAll all.setting l finished.accepted finished.calls) (sym journal) (subst (AnswersAll all.setting log finished.accepted) (sym calls_are) (answered finished.accepted accepts));
           }
 
 -- the passes of a channel are alone at its lock
 pub all_alone : (lock : TableId) (passes : List PassView) → AreAllPasses lock passes → AllByRecursion (IsAlone lock) passes
 all_alone lock passes are = each_of (IsOneOf lock are.setting (length passes)) (IsAlone lock) passes (λ p one. (one.lock_is, one.alone)) are.each
-
--- how many requests the first entries accept, and one more
-pub accepted_more : (entries : List Entry) (k : ℕ) (entry : Entry) → k < length entries → entry ≡ slice_index_or entries k entry → accepted (past_of (take (k + 1) entries)) ≡ accepted (past_of (take k entries)) ++ option_to_list (accepted_by entry.what)
-accepted_more entries k entry lt is =
-    let next : k + 1 ≡ suc k = omega arith in
-    ap (λ (n : ℕ). accepted (past_of (take n entries))) next ∙ ap (λ (es : List Entry). accepted (past_of es)) (take_more entries k entry lt is) ∙ ap accepted (past_of-push (take k entries) entry)
-  where
-    take_more : (es : List Entry) (j : ℕ) (e : Entry) → j < length es → e ≡ slice_index_or es j e → take (suc j) es ≡ take j es ++ e ∷ []
-    take_more [] j e lt is = absurd (omega (arith, lt))
-    take_more (x ∷ xs) zero e lt is = ap (λ y. y ∷ []) (sym is)
-    take_more (x ∷ xs) (suc j) e lt is = ap (λ l. x ∷ l) (take_more xs j e (omega (arith, lt)) is)
-
-pub count_more : (entries : List Entry) (k : ℕ) (entry : Entry) (amount : ℕ) → k < length entries → entry ≡ slice_index_or entries k entry → amount ≡ length (option_to_list (accepted_by entry.what))
-    → length (accepted (past_of (take (k + 1) entries))) ≡ length (accepted (past_of (take k entries))) + amount
-count_more entries k entry amount lt is one =
-    ap length (accepted_more entries k entry lt is) ∙ length-append (accepted (past_of (take k entries))) (option_to_list (accepted_by entry.what))
-    ∙ ap (λ (n : ℕ). length (accepted (past_of (take k entries))) + n) (sym one)

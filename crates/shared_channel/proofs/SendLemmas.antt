@@ -1,6 +1,8 @@
--- A pass may go to another thread, and a channel may be lent to several.
+-- Passes, places and tickets may go to another thread, and a channel may be lent to several, where callbacks' bodies and the journal may go to another thread.
 use denote.RattleType.{RattleType}
-use denote.Param.Send.{IsSend, IsSync, sendable}
+use denote.Param.Send.{AllSend, IsSend, IsSync, recorded_send, sendable, struct_send, view_send}
+use denote.Ref.{NamedLft}
+use denote.Struct.Declared.{shape}
 use Rattle.std.proofs.Crossing.{crosses}
 use Rattle.std.proofs.alloc.Global.TheSendSync as global
 use Rattle.std.proofs.collections.LinkedList.TheSendSync as linked
@@ -46,15 +48,17 @@ use Rattle.seat_lock.proofs.seat.Seat.TheSendSync as seat
 use Rattle.chan_types.proofs.script.Script.TheLaws.TheKnot as script
 use Rattle.chan_types.proofs.runs.Runs.TheLaws.TheKnot as runs
 use Rattle.chan_types.specs.contracts.calls.Calls as Calls
-use Rattle.chan_types.specs.declared.token.Token.{Ghosts}
-use Rattle.channel_journal.specs.contracts.kept.KeptJournal as KeptJournal
-use Rattle.channel_journal.specs.declared.journal.ChannelJournal.{Ghosts as JournalGhosts}
+use Rattle.chan_types.specs.declared.token.Token as token
+use Rattle.completion_ticket.specs.declared.done.Done as done
+use Rattle.completion_ticket.specs.contracts.body.Body as Body
+use Rattle.completion_ticket.specs.contracts.scripted.Scripted as Scripted
 use Rattle.completion_ticket.specs.contracts.hand.Hand as Hand
 use Rattle.completion_ticket.specs.contracts.callback.Callback as Callback
-use Rattle.completion_ticket.specs.contracts.scripted.Scripted as Scripted
-use Rattle.completion_ticket.specs.contracts.scripted.ScriptedDone.TheImpl as Impl
+use Rattle.channel_journal.specs.contracts.kept.KeptJournal as KeptJournal
+use Rattle.channel_journal.specs.declared.journal.ChannelJournal.{Ghosts as JournalGhosts}
 use Rattle.channel_table.specs.contracts.held.Held as Held
 use Rattle.channel_table.specs.contracts.table.Table as Table
+use Rattle.channel_table.specs.contracts.table.Table.TheInside as table_inside
 use Rattle.channel_table.specs.contracts.table.rows.Rows as Rows
 use Rattle.shared_channel.specs.contracts.channel.Channel as Channel
 use Rattle.std.specs.contracts.collections.VecDeque as VecDeque
@@ -62,6 +66,8 @@ use Rattle.std.specs.contracts.alloc.Global as Global
 use Rattle.std.specs.contracts.impls.GlobalAllocator.TheImpl as OfGlobal
 use Rattle.std.below.std_heap.proofs.GlobalAllocator.TheSendSync as allocator
 use Rattle.shared_channel.specs.contracts.pass.Pass as Pass
+use Rattle.shared_channel.specs.contracts.place.Place as Place
+use Rattle.shared_channel.specs.contracts.place.Place.TheInside as inside
 use Rattle.shared_channel.specs.contracts.account.Account as Account
 use Rattle.shared_channel.specs.contracts.state.SharedTable as SharedTable
 
@@ -90,50 +96,78 @@ calls_send = search (linked.the_send, answer_send, owners, crosses, runs.crosses
 pub hand_send : IsSend Hand.the_row
 hand_send = search (crosses, script.crosses, sendable) depth 60 fits 20000
 
-pub callback_send : IsSend (Callback.the_row Scripted.the_row Impl.ghosts)
-callback_send = search (refusal.the_send, owners, crosses, script.crosses, sendable) depth 60 fits 20000
+-- a journal that is kept may go to another thread
+pub kept_send : IsSend KeptJournal.the_row
+kept_send = search (entry_send, owners, crosses, script.crosses, sendable) depth 60 fits 20000
 
--- a callback that is a script
-abbrev pub Told : RattleType
-Told = Callback.the_row Scripted.the_row Impl.ghosts
+-- a body that performs its script may go to another thread
+pub scripted_send : IsSend Scripted.the_row
+scripted_send = search (refusal.the_send, owners, crosses, script.crosses, sendable) depth 60 fits 20000
 
--- the journal of a shared channel
-abbrev pub Journal : RattleType
-Journal = KeptJournal.the_row
+module _ (B : RattleType) (g : done.Ghosts B.Denot) (b : IsSend B) where
+  -- what stands in a callback may go to another thread, whoever gave it
+  body_field_send : IsSend (Body.the_field B).row
+  body_field_send = search (b, scripted_send, crosses, sendable) depth 60 fits 20000
 
-pub journal_send : IsSend Journal
-journal_send = search (entry_send, owners, crosses, script.crosses, sendable) depth 60 fits 20000
+  body_send : IsSend (Body.the_row B)
+  body_send = recorded_send (Body.the_field B).row _ _ (Body.the_type B).to_one body_field_send
 
--- and so may what a table keeps of its requests, and the table
-pub ticket_send : IsSend (Ticket.the_row Told)
-ticket_send = search (callback_send, call_send, plain, owners, crosses, script.crosses, sendable) depth 60 fits 20000
+  -- and so may a callback
+  pub callback_send : IsSend (Callback.the_row B g)
+  callback_send = record { owned = λ x vs d. search (body_send.owned, sendable); leaving = λ k x w. search sendable }
 
-pub row_send : IsSend (Row.the_row Told)
-row_send = search (callback_send, call_send, side_send, plain, owners, crosses, script.crosses, sendable) depth 60 fits 20000
+  -- a callback with such a body
+  abbrev pub Told : RattleType
+  Told = Callback.the_row B g
 
-pub held_send : (g : Ghosts Told.Denot) → IsSend (Held.the_row Told g)
-held_send g = search (row_send, owners, crosses, sendable) depth 60 fits 20000
+  -- and so may what a table keeps of its requests, and the table
+  pub ticket_field_send : IsSend (Ticket.the_field Told).row
+  ticket_field_send = struct_send (shape (Ticket.the_type Told)) (search (callback_send, call_send, plain, owners, crosses, script.crosses, sendable) depth 60 fits 20000)
 
--- a request on the heap, the list of them, and the rows with their indexes
-pub list_send : (g : Ghosts Told.Denot) → IsSend (VecDeque.the_row (Held.the_row Told g) Global.the_row OfGlobal.ghosts)
-list_send g = deque.the_send _ _ _ (held_send g) global.the_send allocator.the_frees
+  pub ticket_send : IsSend (Ticket.the_row Told)
+  ticket_send = recorded_send (Ticket.the_field Told).row _ _ (Ticket.the_type Told).to_one ticket_field_send
 
-pub rows_send : (g : Ghosts Told.Denot) → IsSend (Rows.the_row Told g)
-rows_send g = search (list_send, waiting.the_send, flown.the_field_send, owners, crosses, script.crosses, sendable) depth 60 fits 20000
+  pub row_send : IsSend (Row.the_row Told)
+  row_send =
+      let sent = λ (all : AllSend (shape (Row.the_type Told)).fields). recorded_send (Row.the_field Told).row _ _ (Row.the_type Told).to_one (struct_send (shape (Row.the_type Told)) all) in
+      sent (search sendable, (search (plain, owners, crosses, script.crosses, sendable) depth 60 fits 20000, (search sendable, (search (plain, owners, crosses, script.crosses, sendable) depth 60 fits 20000, (search (side_send, plain, owners, crosses, script.crosses, sendable) depth 60 fits 20000, (search (callback_send, sendable) depth 60 fits 20000, (search (call_send, sendable) depth 60 fits 20000, tt)))))))
 
-pub table_send : (g : Ghosts Told.Denot) (k : JournalGhosts Journal.Denot) → IsSend (Table.the_row Told Journal g k)
-table_send g k = search (rows_send, ticket_send, journal_send, plain, owners, crosses, script.crosses, sendable) depth 60 fits 20000
+  pub held_send : (t : token.Ghosts Told.Denot) → IsSend (Held.the_row Told t)
+  held_send t = search (row_send, owners, crosses, sendable) depth 60 fits 20000
 
-pub state_send : IsSend (SharedTable.the_row Scripted.the_row Impl.ghosts)
-state_send = search (table_send, crosses, sendable) depth 60 fits 20000
+  -- a request on the heap, the list of them, and the rows with their indexes
+  pub list_send : (t : token.Ghosts Told.Denot) → IsSend (VecDeque.the_row (Held.the_row Told t) Global.the_row OfGlobal.ghosts)
+  list_send t = deque.the_send _ _ _ (held_send t) global.the_send allocator.the_frees
 
--- what a thread has at a channel may go to another thread
-pub account_send : IsSend (Account.the_row Scripted.the_row Impl.ghosts)
-account_send = search (state_send, calls_send, seat.the_send, crosses, script.crosses, sendable) depth 60 fits 20000
+  pub rows_send : (t : token.Ghosts Told.Denot) → IsSend (Rows.the_row Told t)
+  rows_send t = search (list_send, waiting.the_send, flown.the_field_send, owners, crosses, script.crosses, sendable) depth 60 fits 20000
 
-pub pass_send : IsSend (Pass.the_row Scripted.the_row Impl.ghosts)
-pass_send = search (account_send, hand_send, crosses, sendable) depth 60 fits 20000
+  module _ (J : RattleType) (k : JournalGhosts J.Denot) (j : IsSend J) where
+    table_inside_send : (t : token.Ghosts Told.Denot) → IsSend (table_inside.the_row Told J t k)
+    table_inside_send t =
+        recorded_send (table_inside.the_field Told J t k).row _ _ (table_inside.the_type Told J t k).to_one (struct_send (shape (table_inside.the_type Told J t k)) (search (rows_send, plain, owners, crosses, script.crosses, sendable) depth 60 fits 20000, (search (rows_send, plain, owners, crosses, script.crosses, sendable) depth 60 fits 20000, (search (rows_send, plain, owners, crosses, script.crosses, sendable) depth 60 fits 20000, (search (rows_send, plain, owners, crosses, script.crosses, sendable) depth 60 fits 20000, (deque.the_send _ _ _ ticket_send global.the_send allocator.the_frees, (j, (search (plain, owners, crosses, sendable) depth 60 fits 20000, (search (plain, owners, crosses, sendable) depth 60 fits 20000, (search sendable, (search sendable, (search sendable, (search sendable, (search sendable, tt))))))))))))))
 
--- and several threads may be lent a channel
-pub channel_sync : IsSync (Channel.the_row Scripted.the_row Impl.ghosts)
-channel_sync = search (state_send, lock.the_sync, crosses, sendable) depth 60 fits 20000
+    pub table_send : (t : token.Ghosts Told.Denot) → IsSend (Table.the_row Told J t k)
+    table_send t = view_send (table_inside.the_row Told J t k) _ _ _ _ (table_inside_send t)
+
+    pub state_send : IsSend (SharedTable.the_row B J g k)
+    state_send = search (table_send, crosses, sendable) depth 60 fits 20000
+
+    -- what a thread has at a channel may go to another thread
+    pub account_send : IsSend (Account.the_row B J g k)
+    account_send = search (state_send, calls_send, seat.the_send, crosses, script.crosses, sendable) depth 60 fits 20000
+
+    pub pass_send : IsSend (Pass.the_row B J g k)
+    pass_send = search (account_send, hand_send, crosses, sendable) depth 60 fits 20000
+
+    -- and several threads may be lent a channel
+    pub channel_sync : IsSync (Channel.the_row B J g k)
+    channel_sync = search (state_send, lock.the_sync, crosses, sendable) depth 60 fits 20000
+
+    -- a place is a pass at a channel, and its thread's handle
+    module _ (κ : NamedLft) (R : RattleType) (handle : IsSync R) where
+      inside_send : IsSend (inside.the_row κ B R J g k)
+      inside_send = recorded_send (inside.the_field κ B R J g k).row _ _ (inside.the_type κ B R J g k).to_one (struct_send (shape (inside.the_type κ B R J g k)) (search (handle, sendable) depth 20 fits 20000, (search (state_send, lock.the_sync, crosses, sendable) depth 60 fits 20000, (search (account_send, sendable) depth 20 fits 20000, (search (hand_send, sendable) depth 20 fits 20000, tt)))))
+
+      pub place_send : IsSend (Place.the_row κ B R J g k)
+      place_send = view_send (inside.the_row κ B R J g k) _ _ _ _ inside_send

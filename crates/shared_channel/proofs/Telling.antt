@@ -89,6 +89,7 @@ module _ {R : Type 0} (means : R → Meaning) (by : ℕ) (old new : PassView) (r
         stands = turn.stands;
         seen = meant.journal;
         own = turn.own ∙ ap (λ m. old.own ++ m) made;
+        names = refl;
         lawful = subst (λ s. IsLawful s new.seen) (sym (setting ∙ turn.is_set)) meant.lawful;
       }
 

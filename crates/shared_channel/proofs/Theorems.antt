@@ -10,8 +10,8 @@ pub use Rattle.shared_channel.proofs.PerformLemmas.{performs_more, performs_none
 pub use Rattle.shared_channel.proofs.CallLemmas.{stays_busy, stays_counts, stays_due, stays_expire, stays_fault, stays_servers}
 -- Passes that were taken from the row of a new channel's passes, and came back to it.
 pub use Rattle.shared_channel.proofs.BackLemmas.{may_finish, one_back}
--- A pass may go to another thread, a channel may be lent to several, and a closure may go where what it holds may.
-pub use Rattle.shared_channel.proofs.SendLemmas.{callback_send, channel_sync, pass_send}
-pub use Rattle.shared_channel.proofs.ClosureLemmas.{Own, lent, lent_send, tuple_send}
+-- A pass may go to another thread, a channel may be lent to several, and a closure may go where what it holds may: for callbacks that are scripts and a journal that is kept. `SendLemmas` and `ClosureLemmas` say it for any body and any journal that may go there.
+pub use Rattle.shared_channel.proofs.ScriptLemmas.{Own, callback_send, channel_sync, lent, lent_send, pass_send}
+pub use Rattle.shared_channel.proofs.ClosureLemmas.{tuple_send}
 -- Of all answers in the end, those with a request's number are one, its fate.
 pub use Rattle.shared_channel.proofs.AnswerLemmas.{answer_of}

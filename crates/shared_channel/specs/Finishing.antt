@@ -142,23 +142,23 @@ pub record AnswersAll (setting : Setting) (journal : List Entry) (count : ℕ) (
   -- each is the fate of the request with its number
   pub fates : AllByRecursion (λ answer. fate setting answer.number (past_of journal) ≡ Some answer) answers
 
--- what is left of a channel with these passes
-pub record Finishes (orders : Orders) (passes : List PassView) (finished : Finished) : Type 0 where
+-- what is left of a channel with these passes, whose journal was told this
+pub record Finishes {J : Type 0} (told : J → List Entry) (orders : Orders) (passes : List PassView) (finished : Finished J) : Type 0 where
   -- the passes are joined, and through the pass of all the channel is emptied
   pub all : PassView
   pub joined : IsJoined passes all
   pub last : PassView
   pub emptied : EmptiesChannel orders all last
   -- the journal, the answers and the count of lost requests are those that this pass has in the end
-  pub seen : finished.journal ≡ last.seen
+  pub seen : told finished.journal ≡ last.seen
   pub calls : finished.calls ≡ last.calls
   pub lost : finished.lost ≡ last.lost
   -- the journal goes on behind what each pass had seen, and has entries of these passes alone
-  pub journal : IsJournalOfAll passes all finished.journal
+  pub journal : IsJournalOfAll passes all (told finished.journal)
   -- it is lawful, and nothing is left in the channel
-  pub nothing : LeavesNothing all.setting finished.journal
+  pub nothing : LeavesNothing all.setting (told finished.journal)
   -- the answers go on behind those that were told through the passes
-  pub told : TellsBehind passes emptied.delivered.called finished.calls
+  pub tells : TellsBehind passes emptied.delivered.called finished.calls
   -- as many requests were accepted, and each has exactly one answer, its fate
-  pub accepted_are : finished.accepted ≡ length (accepted (past_of finished.journal))
-  pub answers : AnswersAll all.setting finished.journal finished.accepted finished.calls
+  pub accepted_are : finished.accepted ≡ length (accepted (past_of (told finished.journal)))
+  pub answers : AnswersAll all.setting (told finished.journal) finished.accepted finished.calls

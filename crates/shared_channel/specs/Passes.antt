@@ -45,7 +45,7 @@ belongings_code = Prim.hlevel (codes, moves_code)
 
 -- a pass as a desk, which speaks on nobody's command. Behind a call that knows desks alone, its home tells that the pass has all that it had
 abbrev pub desk_of : PassView → Known
-desk_of pass = record { setting = pass.setting; home = belongings_code.code (belongings_of pass); seat = pass.number; voice = 0; own = pass.own; seen = pass.seen }
+desk_of pass = record { setting = pass.setting; home = belongings_code.code (belongings_of pass); seat = pass.number; voice = 0; own = pass.own; seen = pass.seen; names = None }
 
 -- nothing where a test passes
 abbrev pub Never : Bool → Type 0

@@ -5,6 +5,7 @@ ghost use Rattle.channel_model.specs.Journal.{own_entries};
 
 use crate::state::{ChannelLock, SharedTable};
 use chan_types::Calls;
+use channel_journal::ChannelJournal;
 use completion_ticket::Done;
 use seat_lock::{Hold, Seat};
 use std::marker::Model;
@@ -13,15 +14,15 @@ use std::sync::Wait;
 /// A seat of the channel's lock, the answers that callbacks were told through it, and how many of the requests that they
 /// asked were lost.
 #[derive(Drop)]
-pub(crate) struct Account<B: Done + Drop> {
-    pub seat: Seat<SharedTable<B>>,
+pub(crate) struct Account<B: Done + Drop, J: ChannelJournal> {
+    pub seat: Seat<SharedTable<B, J>>,
     pub calls: Calls,
     pub lost: u64,
     ghost is_set: { IsSome seat.setting },
     ghost aware: { seat.own ≡ own_entries seat.number seat.seen },
 }
 
-impl<B: Done + Drop> Model for Account<B> {
+impl<B: Done + Drop, J: ChannelJournal> Model for Account<B, J> {
     ghost use Rattle.std.specs.Coded.{codes};
     ghost use Rattle.chan_types.specs.PlanCode.{moves_code};
     ghost use Rattle.shared_channel.specs.Passes.{PassView, pass_of};
@@ -33,9 +34,13 @@ impl<B: Done + Drop> Model for Account<B> {
     ghost view = { λ account. pass_of account.seat account.is_set account.calls account.lost };
 }
 
-impl<B: Done + Drop> Account<B> {
+impl<B: Done + Drop, J: ChannelJournal> Account<B, J> {
     /// The same, once its seat holds the lock.
-    pub fn hold<'c, R: Wait>(self, rt: &'c R, lock: &'c ChannelLock<B>) -> HeldAccount<'c, B, R>
+    pub fn hold<'c, R: Wait>(
+        self,
+        rt: &'c R,
+        lock: &'c ChannelLock<B, J>,
+    ) -> HeldAccount<'c, B, R, J>
         requires { self.lock ≡ lock.now }
         ensures { result ≡ self }
     {
@@ -50,15 +55,15 @@ impl<B: Done + Drop> Account<B> {
 
 /// The same with its seat in a hold of the lock.
 #[derive(Drop)]
-pub(crate) struct HeldAccount<'c, B: Done + Drop, R: Wait> {
-    pub hold: Hold<'c, SharedTable<B>, R>,
+pub(crate) struct HeldAccount<'c, B: Done + Drop, R: Wait, J: ChannelJournal> {
+    pub hold: Hold<'c, SharedTable<B, J>, R>,
     pub calls: Calls,
     pub lost: u64,
     ghost is_set: { IsSome hold.setting },
     ghost aware: { hold.own ≡ own_entries hold.number hold.seen },
 }
 
-impl<'c, B: Done + Drop, R: Wait> Model for HeldAccount<'c, B, R> {
+impl<'c, B: Done + Drop, R: Wait, J: ChannelJournal> Model for HeldAccount<'c, B, R, J> {
     ghost use Rattle.std.specs.Coded.{codes};
     ghost use Rattle.chan_types.specs.PlanCode.{moves_code};
     ghost use Rattle.shared_channel.specs.Passes.{PassView, pass_of};
@@ -70,9 +75,9 @@ impl<'c, B: Done + Drop, R: Wait> Model for HeldAccount<'c, B, R> {
     ghost view = { λ account. pass_of account.hold account.is_set account.calls account.lost };
 }
 
-impl<'c, B: Done + Drop, R: Wait> HeldAccount<'c, B, R> {
+impl<'c, B: Done + Drop, R: Wait, J: ChannelJournal> HeldAccount<'c, B, R, J> {
     /// Lets the lock go, and gives the account back.
-    pub fn release(self) -> Account<B>
+    pub fn release(self) -> Account<B, J>
         ensures { result ≡ self.entry }
     {
         let HeldAccount { hold, calls, lost } = self;

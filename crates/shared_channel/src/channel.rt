@@ -8,6 +8,7 @@ use crate::pass::Pass;
 use crate::place::Place;
 use crate::state::{ChannelLock, SharedTable};
 use chan_types::{Calls, NoMemory};
+use channel_journal::{ChannelJournal, KeptJournal};
 use channel_table::Table;
 use completion_ticket::{Done, Hand};
 use hosts_file::Hosts;
@@ -19,11 +20,11 @@ use std::sync::Wait;
 
 /// A channel that threads share, each by a pass of its own. It can't be dropped: `finish` alone consumes it. Contracts see
 /// which channel it is.
-pub struct Channel<B: Done + Drop> {
-    pub(crate) lock: ChannelLock<B>,
+pub struct Channel<B: Done + Drop, J: ChannelJournal = KeptJournal> {
+    pub(crate) lock: ChannelLock<B, J>,
 }
 
-impl<B: Done + Drop> Model for Channel<B> {
+impl<B: Done + Drop, J: ChannelJournal> Model for Channel<B, J> {
     ghost use Rattle.atomic_table.specs.Seated.{TableId, table_id_coded};
 
     ghost Value = { TableId };
@@ -33,14 +34,14 @@ impl<B: Done + Drop> Model for Channel<B> {
     ghost view = { λ channel. channel.lock };
 }
 
-impl<B: Done + Drop> Channel<B> {
+impl<B: Done + Drop, J: ChannelJournal> Channel<B, J> {
     /// A channel without a request, and its passes, of which there are 1 to 64, numbered from 0.
     pub fn make(
         alloc: Global,
         options: Options,
         hosts: Hosts,
         seats: u64,
-    ) -> Result<(Channel<B>, Vec<Pass<B>>), NoMemory>
+    ) -> Result<(Channel<B, J>, Vec<Pass<B, J>>), NoMemory>
         requires { (0 < seats) × (seats ≤ 64) }
         ensures { IfOk result
             (λ made. IsNewChannel made.0 (record { options = options; hosts = hosts }) seats made.1.items) }
@@ -54,7 +55,7 @@ impl<B: Done + Drop> Channel<B> {
     }
 
     /// A pass at this channel, which is its channel.
-    pub fn place<'c, R: Wait>(&'c self, rt: &'c R, pass: Pass<B>) -> Place<'c, B, R>
+    pub fn place<'c, R: Wait>(&'c self, rt: &'c R, pass: Pass<B, J>) -> Place<'c, B, R, J>
         requires { pass.lock ≡ self.now }
         ensures { result ≡ pass }
     {
@@ -63,10 +64,10 @@ impl<B: Done + Drop> Channel<B> {
 }
 
 /// A pass for each seat.
-fn passes_of<B: Done + Drop>(
+fn passes_of<B: Done + Drop, J: ChannelJournal>(
     alloc: Global,
-    seats: Vec<Seat<SharedTable<B>>>,
-) -> Result<Vec<Pass<B>>, NoMemory>
+    seats: Vec<Seat<SharedTable<B, J>>>,
+) -> Result<Vec<Pass<B, J>>, NoMemory>
     ensures { IfOk result (λ passes. ArePassesOf seats.items passes.items) }
 {
     let mut passes = Vec::new(alloc);
@@ -77,7 +78,10 @@ fn passes_of<B: Done + Drop>(
 }
 
 /// A pass with this seat, through which nothing was told or lost.
-fn pass_of<B: Done + Drop>(alloc: Global, seat: Seat<SharedTable<B>>) -> Result<Pass<B>, NoMemory>
+fn pass_of<B: Done + Drop, J: ChannelJournal>(
+    alloc: Global,
+    seat: Seat<SharedTable<B, J>>,
+) -> Result<Pass<B, J>, NoMemory>
     ensures { IfOk result (IsPassOf seat) }
 {
     let hand = Hand::make(alloc)?;

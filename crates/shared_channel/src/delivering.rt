@@ -9,6 +9,7 @@ use crate::place::Place;
 use crate::spending::spend;
 use crate::state::ChannelLock;
 use chan_types::{NoMemory, Orders, Ticket};
+use channel_journal::ChannelJournal;
 use completion_ticket::{Callback, Called, Done};
 use std::alloc::Global;
 use std::sync::Wait;
@@ -16,9 +17,9 @@ use std::sync::Wait;
 /// Takes ready requests, up to so many, with one wait for the lock, and then spends their tickets, one after the other, with
 /// no lock held. Answers what is left of their callbacks, which is fewer where no more were ready. For want of memory
 /// nothing is taken.
-pub fn deliver_some<B: Done + Drop, R: Wait>(
+pub fn deliver_some<B: Done + Drop, R: Wait, J: ChannelJournal>(
     alloc: Global,
-    place: &mut Place<'_, B, R>,
+    place: &mut Place<'_, B, R, J>,
     orders: Orders,
     most: u64,
 ) -> Result<Vec<Called<B>>, NoMemory>
@@ -35,8 +36,8 @@ pub fn deliver_some<B: Done + Drop, R: Wait>(
 }
 
 /// Takes ready requests, up to so many, with one wait for the lock.
-fn take_some<B: Done + Drop, R: Wait>(
-    place: &mut Place<'_, B, R>,
+fn take_some<B: Done + Drop, R: Wait, J: ChannelJournal>(
+    place: &mut Place<'_, B, R, J>,
     most: u64,
     tickets: &mut Vec<Ticket<Callback<B>>>,
 )
@@ -50,10 +51,10 @@ fn take_some<B: Done + Drop, R: Wait>(
 }
 
 /// Takes ready requests through this account.
-fn take_through<B: Done + Drop, R: Wait>(
+fn take_through<B: Done + Drop, R: Wait, J: ChannelJournal>(
     rt: &R,
-    lock: &ChannelLock<B>,
-    account: &mut Account<B>,
+    lock: &ChannelLock<B, J>,
+    account: &mut Account<B, J>,
     most: u64,
     tickets: &mut Vec<Ticket<Callback<B>>>,
 )
@@ -68,8 +69,8 @@ fn take_through<B: Done + Drop, R: Wait>(
 }
 
 /// Spends these tickets, one after the other.
-fn spend_each<B: Done + Drop, R: Wait>(
-    place: &mut Place<'_, B, R>,
+fn spend_each<B: Done + Drop, R: Wait, J: ChannelJournal>(
+    place: &mut Place<'_, B, R, J>,
     tickets: Vec<Ticket<Callback<B>>>,
     orders: Orders,
     called: &mut Vec<Called<B>>,

@@ -1,8 +1,7 @@
 //! The end of a shared channel.
 
 ghost use Rattle.std.specs.List.{AllByRecursion};
-ghost use Rattle.std.specs.Prelude.{◌≡◌, ◌<◌, ◌^◌, ◌≤◌, length, option_to_list};
-ghost use Rattle.channel_model.specs.Journal.{accepted, accepted_by, past_of};
+ghost use Rattle.std.specs.Prelude.{◌≡◌, ◌<◌, ◌^◌, length};
 ghost use Rattle.shared_channel.specs.Finishing.{AreAllPasses, DeliversAll, Finishes, HasSeenOwn};
 ghost use Rattle.shared_channel.specs.Finishing.{IsAlone, IsJoined, JoinsPass};
 ghost use Rattle.shared_channel.specs.Settling.{AreSettled};
@@ -13,7 +12,8 @@ use crate::pass::Pass;
 use crate::place::Place;
 use crate::spending::deliver_one;
 use crate::state::{ChannelLock, SharedTable};
-use chan_types::{Calls, Entry, Journal, Orders, What};
+use chan_types::{Calls, Orders};
+use channel_journal::{ChannelJournal, KeptJournal};
 use channel_model::Desk;
 use completion_ticket::Done;
 use std::sync::Wait;
@@ -21,24 +21,24 @@ use std::sync::Wait;
 /// What is left of a channel: how many requests it accepted, its journal, the answers that were told, and how many
 /// requests that callbacks asked were lost.
 #[derive(Drop)]
-pub struct Finished {
+pub struct Finished<J: ChannelJournal = KeptJournal> {
     pub accepted: u64,
-    pub journal: Journal,
+    pub journal: J,
     pub calls: Calls,
     pub lost: u64,
 }
 
 /// Ends a channel: joins all passes into the first, destroys the channel, delivers all that is ready through that pass,
 /// and takes the channel apart. It takes no memory, but for the requests that callbacks ask.
-pub fn finish<B: Done + Drop, R: Wait>(
+pub fn finish<B: Done + Drop, R: Wait, J: ChannelJournal>(
     rt: &R,
-    channel: Channel<B>,
-    passes: Vec<Pass<B>>,
+    channel: Channel<B, J>,
+    passes: Vec<Pass<B, J>>,
     orders: Orders,
-) -> Finished
+) -> Finished<J>
     requires all { AreAllPasses channel passes.items }
     requires settled { AreSettled passes.items }
-    ensures { Finishes orders passes.items result }
+    ensures { Finishes J.told orders passes.items result }
 {
     let Channel { lock } = channel;
     let all = join_all(&lock, passes);
@@ -48,18 +48,21 @@ pub fn finish<B: Done + Drop, R: Wait>(
     let Pass { account, .. } = place.leave();
     let Account { seat, calls, lost } = account;
     let SharedTable { table } = lock.close(seat);
-    let journal = Box::into_inner(table).close().into_journal();
-    let accepted = accepted_count(journal.entries());
+    let table = Box::into_inner(table);
+    let accepted = table.accepted();
     Finished {
         accepted,
-        journal,
+        journal: table.close(),
         calls,
         lost,
     }
 }
 
 /// Joins all passes into the first.
-fn join_all<B: Done + Drop>(lock: &ChannelLock<B>, mut passes: Vec<Pass<B>>) -> Pass<B>
+fn join_all<B: Done + Drop, J: ChannelJournal>(
+    lock: &ChannelLock<B, J>,
+    mut passes: Vec<Pass<B, J>>,
+) -> Pass<B, J>
     requires some { 0 < length passes.items }
     requires lock { AllByRecursion (IsAlone lock.now) passes.items }
     ensures lock { result.lock ≡ lock.now }
@@ -74,7 +77,7 @@ fn join_all<B: Done + Drop>(lock: &ChannelLock<B>, mut passes: Vec<Pass<B>>) -> 
 }
 
 /// Looks at a pass, so that what its type keeps is known: it has seen all that it made, and its count fits 64 bits.
-fn look_at<B: Done + Drop>(pass: &Pass<B>)
+fn look_at<B: Done + Drop, J: ChannelJournal>(pass: &Pass<B, J>)
     ensures own { HasSeenOwn pass.now }
     ensures few { pass.now.lost < 2 ^ 64 }
 {
@@ -83,7 +86,11 @@ fn look_at<B: Done + Drop>(pass: &Pass<B>)
 }
 
 /// Joins the right pass into the left one.
-fn join<B: Done + Drop>(lock: &ChannelLock<B>, left: Pass<B>, right: Pass<B>) -> Pass<B>
+fn join<B: Done + Drop, J: ChannelJournal>(
+    lock: &ChannelLock<B, J>,
+    left: Pass<B, J>,
+    right: Pass<B, J>,
+) -> Pass<B, J>
     requires left { left.lock ≡ lock.now }
     requires right { right.lock ≡ lock.now }
     ensures joins { JoinsPass left right result }
@@ -96,11 +103,11 @@ fn join<B: Done + Drop>(lock: &ChannelLock<B>, left: Pass<B>, right: Pass<B>) ->
 }
 
 /// Joins the right account into the left one.
-fn join_accounts<B: Done + Drop>(
-    lock: &ChannelLock<B>,
-    left: Account<B>,
-    right: Account<B>,
-) -> Account<B>
+fn join_accounts<B: Done + Drop, J: ChannelJournal>(
+    lock: &ChannelLock<B, J>,
+    left: Account<B, J>,
+    right: Account<B, J>,
+) -> Account<B, J>
     requires left { left.lock ≡ lock.now }
     requires right { right.lock ≡ lock.now }
     ensures joins { JoinsPass left right result }
@@ -123,7 +130,11 @@ fn join_accounts<B: Done + Drop>(
 }
 
 /// Delivers until nothing is ready.
-fn deliver_all<B: Done + Drop, R: Wait>(rt: &R, place: &mut Place<'_, B, R>, orders: Orders)
+fn deliver_all<B: Done + Drop, R: Wait, J: ChannelJournal>(
+    rt: &R,
+    place: &mut Place<'_, B, R, J>,
+    orders: Orders,
+)
     ensures { DeliversAll orders place.old place.new }
 {
     for _ in rt.forever() {
@@ -132,28 +143,4 @@ fn deliver_all<B: Done + Drop, R: Wait>(rt: &R, place: &mut Place<'_, B, R>, ord
         };
     }
     unreachable!()
-}
-
-/// How many requests these entries accept.
-fn accepted_count(entries: &[Entry]) -> u64
-    ensures { result ≡ length (accepted (past_of entries.now)) }
-{
-    let mut count: u64 = 0;
-    for entry in entries {
-        count += accepts(&entry.what);
-    }
-    count
-}
-
-/// How many requests an entry accepts: one, or none.
-fn accepts(what: &What) -> u64
-    ensures count { result ≡ length (option_to_list (accepted_by what.now)) }
-    ensures few { result ≤ 1 }
-{
-    match what {
-        What::Accept { .. } => 1,
-        What::Cancel | What::Destroy | What::Take { .. } => 0,
-        What::Start { .. } | What::Arrive { .. } => 0,
-        What::Expire { .. } | What::Fault { .. } | What::Servers { .. } => 0,
-    }
 }

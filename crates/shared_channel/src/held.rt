@@ -10,6 +10,7 @@ use crate::running::{ArriveOp, ExpireOp, FaultOp, SetServersOp, StartOp};
 use crate::state::ChannelLock;
 use crate::turns::turn_held;
 use chan_types::{NoMemory, Spec, Ticket};
+use channel_journal::{ChannelJournal, KeptJournal};
 use channel_model::{Begun, Counts, Desk, Landed, Lapse, Refused, SetFault};
 use completion_ticket::{Callback, Done, Hand};
 use net_addr::ServerAddr;
@@ -23,16 +24,16 @@ use std::sync::Wait;
 /// who has only borrowed a place can't hold the lock. The thread that has it must not use another place of the same channel,
 /// which would wait for itself.
 #[derive(Drop)]
-pub struct HeldPlace<'c, B: Done + Drop, R: Wait> {
+pub struct HeldPlace<'c, B: Done + Drop, R: Wait, J: ChannelJournal = KeptJournal> {
     rt: &'c R,
-    lock: &'c ChannelLock<B>,
-    account: HeldAccount<'c, B, R>,
+    lock: &'c ChannelLock<B, J>,
+    account: HeldAccount<'c, B, R, J>,
     hand: Hand,
     ghost here: { account.lock ≡ lock.now },
     ghost empty: { length hand.commands ≡ 0 },
 }
 
-impl<'c, B: Done + Drop, R: Wait> Model for HeldPlace<'c, B, R> {
+impl<'c, B: Done + Drop, R: Wait, J: ChannelJournal> Model for HeldPlace<'c, B, R, J> {
     ghost use Rattle.std.specs.Coded.{codes};
     ghost use Rattle.chan_types.specs.PlanCode.{moves_code};
     ghost use Rattle.shared_channel.specs.Passes.{PassView};
@@ -44,9 +45,9 @@ impl<'c, B: Done + Drop, R: Wait> Model for HeldPlace<'c, B, R> {
     ghost view = { λ held. held.account };
 }
 
-impl<'c, B: Done + Drop, R: Wait> HeldPlace<'c, B, R> {
+impl<'c, B: Done + Drop, R: Wait, J: ChannelJournal> HeldPlace<'c, B, R, J> {
     /// The place, which waits for the lock and holds it.
-    pub(crate) fn of(place: Place<'c, B, R>) -> HeldPlace<'c, B, R>
+    pub(crate) fn of(place: Place<'c, B, R, J>) -> HeldPlace<'c, B, R, J>
         ensures { result ≡ place.entry }
     {
         let Place {
@@ -64,7 +65,7 @@ impl<'c, B: Done + Drop, R: Wait> HeldPlace<'c, B, R> {
     }
 
     /// Lets the lock go, and gives the place back.
-    pub fn release(self) -> Place<'c, B, R>
+    pub fn release(self) -> Place<'c, B, R, J>
         ensures { result ≡ self.entry }
     {
         let HeldPlace {
@@ -82,7 +83,7 @@ impl<'c, B: Done + Drop, R: Wait> HeldPlace<'c, B, R> {
     }
 }
 
-impl<'c, B: Done + Drop, R: Wait> Desk for HeldPlace<'c, B, R> {
+impl<'c, B: Done + Drop, R: Wait, J: ChannelJournal> Desk for HeldPlace<'c, B, R, J> {
     ghost use Rattle.shared_channel.specs.Passes.{desk_of};
 
     type Token = Callback<B>;

@@ -1,6 +1,7 @@
 //! The operations under the lock that look, and leave no entry.
 
 use crate::state::SharedTable;
+use channel_journal::ChannelJournal;
 use channel_model::Counts;
 use completion_ticket::Done;
 use seat_lock::Op;
@@ -9,7 +10,7 @@ use seat_lock::Op;
 #[derive(Drop)]
 pub(crate) struct NextDueOp;
 
-impl<B: Done + Drop> Op<SharedTable<B>> for NextDueOp {
+impl<B: Done + Drop, J: ChannelJournal> Op<SharedTable<B, J>> for NextDueOp {
     ghost use Rattle.channel_model.specs.Meanings.{TellsDue};
     ghost use Rattle.shared_channel.specs.Under.{Does};
 
@@ -18,7 +19,7 @@ impl<B: Done + Drop> Op<SharedTable<B>> for NextDueOp {
     ghost means = { λ op setting before seat reply after. Does (TellsDue reply) 0 setting before seat after };
 
     #[tactic(auto, using(crate::proofs::Adding::does_adds, crate::proofs::Adding::due_looks))]
-    fn run(self, state: &mut SharedTable<B>, _seat: u64) -> Option<u64> {
+    fn run(self, state: &mut SharedTable<B, J>, _seat: u64) -> Option<u64> {
         state.table.next_due()
     }
 }
@@ -27,7 +28,7 @@ impl<B: Done + Drop> Op<SharedTable<B>> for NextDueOp {
 #[derive(Drop)]
 pub(crate) struct CountsOp;
 
-impl<B: Done + Drop> Op<SharedTable<B>> for CountsOp {
+impl<B: Done + Drop, J: ChannelJournal> Op<SharedTable<B, J>> for CountsOp {
     ghost use Rattle.channel_model.specs.Meanings.{TellsCounts};
     ghost use Rattle.shared_channel.specs.Under.{Does};
 
@@ -37,7 +38,7 @@ impl<B: Done + Drop> Op<SharedTable<B>> for CountsOp {
         (TellsCounts reply) 0 setting before seat after };
 
     #[tactic(auto, using(crate::proofs::Adding::does_adds, crate::proofs::Adding::counts_look))]
-    fn run(self, state: &mut SharedTable<B>, _seat: u64) -> Counts {
+    fn run(self, state: &mut SharedTable<B, J>, _seat: u64) -> Counts {
         state.table.counts()
     }
 }
@@ -49,7 +50,7 @@ pub(crate) struct LinkBusyOp {
     pub link: u64,
 }
 
-impl<B: Done + Drop> Op<SharedTable<B>> for LinkBusyOp {
+impl<B: Done + Drop, J: ChannelJournal> Op<SharedTable<B, J>> for LinkBusyOp {
     ghost use Rattle.channel_model.specs.Meanings.{TellsBusy};
     ghost use Rattle.shared_channel.specs.Under.{Does};
 
@@ -59,7 +60,7 @@ impl<B: Done + Drop> Op<SharedTable<B>> for LinkBusyOp {
         (TellsBusy op.server op.link reply) 0 setting before seat after };
 
     #[tactic(auto, using(crate::proofs::Adding::does_adds, crate::proofs::Adding::busy_looks))]
-    fn run(self, state: &mut SharedTable<B>, _seat: u64) -> bool {
+    fn run(self, state: &mut SharedTable<B, J>, _seat: u64) -> bool {
         state.table.link_busy(self.server, self.link)
     }
 }

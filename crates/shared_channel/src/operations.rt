@@ -2,6 +2,7 @@
 
 use crate::state::SharedTable;
 use chan_types::{Spec, Ticket};
+use channel_journal::ChannelJournal;
 use channel_model::Refused;
 use completion_ticket::{Callback, Done};
 use seat_lock::Op;
@@ -14,7 +15,7 @@ pub(crate) struct AcceptOp<B: Done + Drop> {
     pub token: Callback<B>,
 }
 
-impl<B: Done + Drop> Op<SharedTable<B>> for AcceptOp<B> {
+impl<B: Done + Drop, J: ChannelJournal> Op<SharedTable<B, J>> for AcceptOp<B> {
     ghost use Rattle.channel_model.specs.Meanings.{Accepts};
     ghost use Rattle.shared_channel.specs.Under.{Does, plan_of};
 
@@ -23,7 +24,7 @@ impl<B: Done + Drop> Op<SharedTable<B>> for AcceptOp<B> {
     ghost means = { λ op setting before seat reply after. Does
         (Accepts plan_of op.spec op.token reply) op.by setting before seat after };
 
-    fn run(self, state: &mut SharedTable<B>, seat: u64) -> Result<u64, Refused<Callback<B>>> {
+    fn run(self, state: &mut SharedTable<B, J>, seat: u64) -> Result<u64, Refused<Callback<B>>> {
         let AcceptOp { by, spec, token } = self;
         state.table.accept(seat, by, spec, token)
     }
@@ -35,7 +36,7 @@ pub(crate) struct CancelOp {
     pub by: u64,
 }
 
-impl<B: Done + Drop> Op<SharedTable<B>> for CancelOp {
+impl<B: Done + Drop, J: ChannelJournal> Op<SharedTable<B, J>> for CancelOp {
     ghost use Rattle.channel_model.specs.Meanings.{Cancels};
     ghost use Rattle.shared_channel.specs.Under.{Does};
 
@@ -44,7 +45,7 @@ impl<B: Done + Drop> Op<SharedTable<B>> for CancelOp {
     ghost means = { λ op setting before seat reply after. Does
         (Cancels reply) op.by setting before seat after };
 
-    fn run(self, state: &mut SharedTable<B>, seat: u64) -> u64 {
+    fn run(self, state: &mut SharedTable<B, J>, seat: u64) -> u64 {
         state.table.cancel(seat, self.by)
     }
 }
@@ -55,7 +56,7 @@ pub(crate) struct DestroyOp {
     pub by: u64,
 }
 
-impl<B: Done + Drop> Op<SharedTable<B>> for DestroyOp {
+impl<B: Done + Drop, J: ChannelJournal> Op<SharedTable<B, J>> for DestroyOp {
     ghost use Rattle.channel_model.specs.Meanings.{Destroys};
     ghost use Rattle.shared_channel.specs.Under.{Does};
 
@@ -64,7 +65,7 @@ impl<B: Done + Drop> Op<SharedTable<B>> for DestroyOp {
     ghost means = { λ op setting before seat reply after. Does
         (Destroys reply) op.by setting before seat after };
 
-    fn run(self, state: &mut SharedTable<B>, seat: u64) -> bool {
+    fn run(self, state: &mut SharedTable<B, J>, seat: u64) -> bool {
         state.table.destroy(seat, self.by)
     }
 }
@@ -73,7 +74,7 @@ impl<B: Done + Drop> Op<SharedTable<B>> for DestroyOp {
 #[derive(Clone, Copy)]
 pub(crate) struct TakeOp;
 
-impl<B: Done + Drop> Op<SharedTable<B>> for TakeOp {
+impl<B: Done + Drop, J: ChannelJournal> Op<SharedTable<B, J>> for TakeOp {
     ghost use Rattle.channel_model.specs.Meanings.{Takes};
     ghost use Rattle.shared_channel.specs.Under.{Does, plan_of};
 
@@ -82,7 +83,7 @@ impl<B: Done + Drop> Op<SharedTable<B>> for TakeOp {
     ghost means = { λ op setting before seat reply after. Does
         (Takes plan_of reply) 0 setting before seat after };
 
-    fn run(self, state: &mut SharedTable<B>, seat: u64) -> Option<Ticket<Callback<B>>> {
+    fn run(self, state: &mut SharedTable<B, J>, seat: u64) -> Option<Ticket<Callback<B>>> {
         state.table.take(seat)
     }
 }

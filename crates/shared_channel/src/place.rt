@@ -11,6 +11,7 @@ use crate::running::{ArriveOp, ExpireOp, FaultOp, SetServersOp, StartOp};
 use crate::state::ChannelLock;
 use crate::turns::turn;
 use chan_types::{NoMemory, Spec, Ticket};
+use channel_journal::{ChannelJournal, KeptJournal};
 use channel_model::{Begun, Counts, Desk, Landed, Lapse, Refused, SetFault};
 use completion_ticket::{Callback, Done, Hand};
 use net_addr::ServerAddr;
@@ -19,16 +20,16 @@ use std::sync::Wait;
 
 /// A pass at its channel: a desk. Contracts see the pass.
 #[derive(Drop)]
-pub struct Place<'c, B: Done + Drop, R: Wait> {
+pub struct Place<'c, B: Done + Drop, R: Wait, J: ChannelJournal = KeptJournal> {
     pub(crate) rt: &'c R,
-    pub(crate) lock: &'c ChannelLock<B>,
-    pub(crate) account: Account<B>,
+    pub(crate) lock: &'c ChannelLock<B, J>,
+    pub(crate) account: Account<B, J>,
     pub(crate) hand: Hand,
     ghost here: { account.lock ≡ lock.now },
     ghost empty: { length hand.commands ≡ 0 },
 }
 
-impl<'c, B: Done + Drop, R: Wait> Model for Place<'c, B, R> {
+impl<'c, B: Done + Drop, R: Wait, J: ChannelJournal> Model for Place<'c, B, R, J> {
     ghost use Rattle.std.specs.Coded.{codes};
     ghost use Rattle.chan_types.specs.PlanCode.{moves_code};
     ghost use Rattle.shared_channel.specs.Passes.{PassView};
@@ -40,9 +41,9 @@ impl<'c, B: Done + Drop, R: Wait> Model for Place<'c, B, R> {
     ghost view = { λ place. place.account };
 }
 
-impl<'c, B: Done + Drop, R: Wait> Place<'c, B, R> {
+impl<'c, B: Done + Drop, R: Wait, J: ChannelJournal> Place<'c, B, R, J> {
     /// The pass at the channel of this lock.
-    pub(crate) fn at(rt: &'c R, lock: &'c ChannelLock<B>, pass: Pass<B>) -> Place<'c, B, R>
+    pub(crate) fn at(rt: &'c R, lock: &'c ChannelLock<B, J>, pass: Pass<B, J>) -> Place<'c, B, R, J>
         requires { pass.lock ≡ lock.now }
         ensures { result ≡ pass }
     {
@@ -72,14 +73,14 @@ impl<'c, B: Done + Drop, R: Wait> Place<'c, B, R> {
     }
 
     /// Waits until no other thread holds the channel's lock, and holds it: calls in a row are then cheaper.
-    pub fn hold(self) -> HeldPlace<'c, B, R>
+    pub fn hold(self) -> HeldPlace<'c, B, R, J>
         ensures { result ≡ self.entry }
     {
         HeldPlace::of(self)
     }
 
     /// The pass again.
-    pub fn leave(self) -> Pass<B>
+    pub fn leave(self) -> Pass<B, J>
         ensures { result ≡ self.entry }
     {
         let Place { account, hand, .. } = self;
@@ -87,7 +88,7 @@ impl<'c, B: Done + Drop, R: Wait> Place<'c, B, R> {
     }
 }
 
-impl<'c, B: Done + Drop, R: Wait> Desk for Place<'c, B, R> {
+impl<'c, B: Done + Drop, R: Wait, J: ChannelJournal> Desk for Place<'c, B, R, J> {
     ghost use Rattle.shared_channel.specs.Passes.{desk_of};
 
     type Token = Callback<B>;

@@ -7,12 +7,14 @@ ghost use Rattle.shared_channel.specs.Staying.{AreAt};
 use crate::channel::Channel;
 use crate::pass::Pass;
 use chan_types::NoMemory;
+use channel_journal::ChannelJournal;
 use completion_ticket::Done;
 use hosts_file::Hosts;
 use resolv_options::Options;
 use std::alloc::Global;
 
-/// A channel with the default options and without hosts, and its passes, of which there are 1 to 64, numbered from 0.
+/// A channel with the default options and without hosts, which keeps its journal, and its passes, of which there are 1 to 64,
+/// numbered from 0.
 #[tactic(auto, using(crate::proofs::StayLemmas::all_at))]
 pub fn plain_channel<B: Done + Drop>(
     alloc: Global,
@@ -29,7 +31,10 @@ pub fn plain_channel<B: Done + Drop>(
 }
 
 /// Takes the last of a channel's passes out of their row, to which it may come back.
-pub fn last_pass<B: Done + Drop>(channel: &Channel<B>, passes: &mut Vec<Pass<B>>) -> Pass<B>
+pub fn last_pass<B: Done + Drop, J: ChannelJournal>(
+    channel: &Channel<B, J>,
+    passes: &mut Vec<Pass<B, J>>,
+) -> Pass<B, J>
     requires some { 0 < vec_len passes.old }
     requires at { AreAt channel.now passes.old.items }
     ensures pass { result.lock ≡ channel.now }

@@ -4,6 +4,7 @@ ghost use Rattle.std.specs.Prelude.{length, ◌≤◌};
 
 use crate::state::SharedTable;
 use chan_types::NoMemory;
+use channel_journal::ChannelJournal;
 use channel_model::{Begun, Landed, Lapse, SetFault};
 use completion_ticket::Done;
 use net_addr::ServerAddr;
@@ -17,7 +18,7 @@ pub(crate) struct StartOp {
     pub at: u64,
 }
 
-impl<B: Done + Drop> Op<SharedTable<B>> for StartOp {
+impl<B: Done + Drop, J: ChannelJournal> Op<SharedTable<B, J>> for StartOp {
     ghost use Rattle.channel_model.specs.Meanings.{Starts};
     ghost use Rattle.shared_channel.specs.Under.{Does};
 
@@ -26,7 +27,7 @@ impl<B: Done + Drop> Op<SharedTable<B>> for StartOp {
     ghost means = { λ op setting before seat reply after. Does
         (Starts op.word op.mix op.at reply) 0 setting before seat after };
 
-    fn run(self, state: &mut SharedTable<B>, seat: u64) -> Result<Begun, NoMemory> {
+    fn run(self, state: &mut SharedTable<B, J>, seat: u64) -> Result<Begun, NoMemory> {
         state.table.start(seat, self.word, self.mix, self.at)
     }
 }
@@ -39,7 +40,7 @@ pub(crate) struct ArriveOp<'a> {
     pub bytes: &'a [u8],
 }
 
-impl<'a, B: Done + Drop> Op<SharedTable<B>> for ArriveOp<'a> {
+impl<'a, B: Done + Drop, J: ChannelJournal> Op<SharedTable<B, J>> for ArriveOp<'a> {
     ghost use Rattle.channel_model.specs.Meanings.{Arrives};
     ghost use Rattle.shared_channel.specs.Under.{Does};
 
@@ -48,7 +49,7 @@ impl<'a, B: Done + Drop> Op<SharedTable<B>> for ArriveOp<'a> {
     ghost means = { λ op setting before seat reply after. Does
         (Arrives op.server op.link op.bytes.now reply) 0 setting before seat after };
 
-    fn run(self, state: &mut SharedTable<B>, seat: u64) -> Result<Landed, NoMemory> {
+    fn run(self, state: &mut SharedTable<B, J>, seat: u64) -> Result<Landed, NoMemory> {
         state.table.arrive(seat, self.server, self.link, self.bytes)
     }
 }
@@ -59,7 +60,7 @@ pub(crate) struct ExpireOp {
     pub at: u64,
 }
 
-impl<B: Done + Drop> Op<SharedTable<B>> for ExpireOp {
+impl<B: Done + Drop, J: ChannelJournal> Op<SharedTable<B, J>> for ExpireOp {
     ghost use Rattle.channel_model.specs.Meanings.{Expires};
     ghost use Rattle.shared_channel.specs.Under.{Does};
 
@@ -68,7 +69,7 @@ impl<B: Done + Drop> Op<SharedTable<B>> for ExpireOp {
     ghost means = { λ op setting before seat reply after. Does
         (Expires op.at reply) 0 setting before seat after };
 
-    fn run(self, state: &mut SharedTable<B>, seat: u64) -> Result<Lapse, NoMemory> {
+    fn run(self, state: &mut SharedTable<B, J>, seat: u64) -> Result<Lapse, NoMemory> {
         state.table.expire(seat, self.at)
     }
 }
@@ -81,7 +82,7 @@ pub(crate) struct FaultOp {
     pub at: u64,
 }
 
-impl<B: Done + Drop> Op<SharedTable<B>> for FaultOp {
+impl<B: Done + Drop, J: ChannelJournal> Op<SharedTable<B, J>> for FaultOp {
     ghost use Rattle.channel_model.specs.Meanings.{Fails};
     ghost use Rattle.shared_channel.specs.Under.{Does};
 
@@ -90,7 +91,7 @@ impl<B: Done + Drop> Op<SharedTable<B>> for FaultOp {
     ghost means = { λ op setting before seat reply after. Does
         (Fails op.server op.link op.at reply) 0 setting before seat after };
 
-    fn run(self, state: &mut SharedTable<B>, seat: u64) -> Result<u64, NoMemory> {
+    fn run(self, state: &mut SharedTable<B, J>, seat: u64) -> Result<u64, NoMemory> {
         state.table.fault(seat, self.server, self.link, self.at)
     }
 }
@@ -103,7 +104,7 @@ pub(crate) struct SetServersOp<'a> {
     ghost few: { length servers.now ≤ 8 },
 }
 
-impl<'a, B: Done + Drop> Op<SharedTable<B>> for SetServersOp<'a> {
+impl<'a, B: Done + Drop, J: ChannelJournal> Op<SharedTable<B, J>> for SetServersOp<'a> {
     ghost use Rattle.channel_model.specs.Meanings.{SetsServers};
     ghost use Rattle.shared_channel.specs.Under.{Does};
 
@@ -112,7 +113,7 @@ impl<'a, B: Done + Drop> Op<SharedTable<B>> for SetServersOp<'a> {
     ghost means = { λ op setting before seat reply after. Does
         (SetsServers op.servers.now reply) 0 setting before seat after };
 
-    fn run(self, state: &mut SharedTable<B>, seat: u64) -> Result<u64, SetFault> {
+    fn run(self, state: &mut SharedTable<B, J>, seat: u64) -> Result<u64, SetFault> {
         state.table.set_servers(seat, self.servers)
     }
 }

@@ -13,14 +13,15 @@ use crate::place::Place;
 use crate::state::ChannelLock;
 use crate::turns::turn;
 use chan_types::{Command, Orders, Refusal, Script, Spec, Ticket};
+use channel_journal::ChannelJournal;
 use channel_model::{Desk, Refused};
 use completion_ticket::{Callback, Called, Done, Hand};
 use std::sync::Wait;
 
 /// Tells the ticket's callback its answer, with no lock held, and then performs what it commands: each command in a turn
 /// of its own, on this request's command. A request that is lost for want of memory is counted.
-pub fn spend<B: Done + Drop, R: Wait>(
-    place: &mut Place<'_, B, R>,
+pub fn spend<B: Done + Drop, R: Wait, J: ChannelJournal>(
+    place: &mut Place<'_, B, R, J>,
     ticket: Ticket<Callback<B>>,
     orders: Orders,
 ) -> Called<B>
@@ -35,8 +36,8 @@ pub fn spend<B: Done + Drop, R: Wait>(
 }
 
 /// Takes the first ready request, and spends its ticket.
-pub fn deliver_one<B: Done + Drop, R: Wait>(
-    place: &mut Place<'_, B, R>,
+pub fn deliver_one<B: Done + Drop, R: Wait, J: ChannelJournal>(
+    place: &mut Place<'_, B, R, J>,
     orders: Orders,
 ) -> Option<Called<B>>
     ensures { DeliversOne orders place.old result place.new }
@@ -48,8 +49,8 @@ pub fn deliver_one<B: Done + Drop, R: Wait>(
 }
 
 /// Tells the ticket's callback its answer, and notes that. Its commands are then in the hand.
-fn tell<B: Done + Drop>(
-    account: &mut Account<B>,
+fn tell<B: Done + Drop, J: ChannelJournal>(
+    account: &mut Account<B, J>,
     hand: &mut Hand,
     ticket: Ticket<Callback<B>>,
     orders: Orders,
@@ -67,10 +68,10 @@ fn tell<B: Done + Drop>(
 }
 
 /// Performs the commands of the hand, in order, on this request's command.
-fn perform_all<B: Done + Drop, R: Wait>(
+fn perform_all<B: Done + Drop, R: Wait, J: ChannelJournal>(
     rt: &R,
-    lock: &ChannelLock<B>,
-    account: &mut Account<B>,
+    lock: &ChannelLock<B, J>,
+    account: &mut Account<B, J>,
     hand: &mut Hand,
     by: u64,
 )
@@ -86,10 +87,10 @@ fn perform_all<B: Done + Drop, R: Wait>(
 }
 
 /// Performs a command, on this request's command.
-fn perform<B: Done + Drop, R: Wait>(
+fn perform<B: Done + Drop, R: Wait, J: ChannelJournal>(
     rt: &R,
-    lock: &ChannelLock<B>,
-    account: &mut Account<B>,
+    lock: &ChannelLock<B, J>,
+    account: &mut Account<B, J>,
     by: u64,
     command: Command,
 )
@@ -106,10 +107,10 @@ fn perform<B: Done + Drop, R: Wait>(
 }
 
 /// Asks a request whose callback has this script. One that is refused leaves nothing; for want of memory it is lost.
-fn ask<B: Done + Drop, R: Wait>(
+fn ask<B: Done + Drop, R: Wait, J: ChannelJournal>(
     rt: &R,
-    lock: &ChannelLock<B>,
-    account: &mut Account<B>,
+    lock: &ChannelLock<B, J>,
+    account: &mut Account<B, J>,
     by: u64,
     spec: Spec,
     script: Script,
@@ -139,7 +140,12 @@ fn settle<B: Done + Drop>(reply: Result<u64, Refused<Callback<B>>>) -> u64
 }
 
 /// Cancels every pending request, on this request's command.
-fn cancel<B: Done + Drop, R: Wait>(rt: &R, lock: &ChannelLock<B>, account: &mut Account<B>, by: u64)
+fn cancel<B: Done + Drop, R: Wait, J: ChannelJournal>(
+    rt: &R,
+    lock: &ChannelLock<B, J>,
+    account: &mut Account<B, J>,
+    by: u64,
+)
     requires lock { account.old.lock ≡ lock.now }
     requires few { account.old.lost < 2 ^ 64 }
     ensures lock { account.new.lock ≡ account.old.lock }
@@ -149,10 +155,10 @@ fn cancel<B: Done + Drop, R: Wait>(rt: &R, lock: &ChannelLock<B>, account: &mut 
 }
 
 /// Destroys the channel, on this request's command.
-fn destroy<B: Done + Drop, R: Wait>(
+fn destroy<B: Done + Drop, R: Wait, J: ChannelJournal>(
     rt: &R,
-    lock: &ChannelLock<B>,
-    account: &mut Account<B>,
+    lock: &ChannelLock<B, J>,
+    account: &mut Account<B, J>,
     by: u64,
 )
     requires lock { account.old.lock ≡ lock.now }

@@ -1,6 +1,7 @@
 //! What the lock keeps: the channel's table.
 
 use chan_types::Entry;
+use channel_journal::ChannelJournal;
 use channel_table::Table;
 use completion_ticket::{Callback, Done};
 use hosts_file::Hosts;
@@ -8,15 +9,15 @@ use resolv_options::Options;
 use seat_lock::{Kept, SeatLock};
 
 /// The lock of a channel.
-pub(crate) type ChannelLock<B> = SeatLock<SharedTable<B>>;
+pub(crate) type ChannelLock<B, J> = SeatLock<SharedTable<B, J>>;
 
 /// A channel's table in a box, since a state moves out of the lock and back at each turn.
 #[derive(Drop)]
-pub(crate) struct SharedTable<B: Done + Drop> {
-    pub table: Box<Table<Callback<B>>>,
+pub(crate) struct SharedTable<B: Done + Drop, J: ChannelJournal> {
+    pub table: Box<Table<Callback<B>, J>>,
 }
 
-impl<B: Done + Drop> Kept for SharedTable<B> {
+impl<B: Done + Drop, J: ChannelJournal> Kept for SharedTable<B, J> {
     type Entry = Entry;
 
     type Setting = (Options, Hosts);

@@ -5,16 +5,17 @@ ghost use Rattle.shared_channel.specs.Turns.{IsPassTurn};
 
 use crate::account::{Account, HeldAccount};
 use crate::state::{ChannelLock, SharedTable};
+use channel_journal::ChannelJournal;
 use completion_ticket::Done;
 use seat_lock::Op;
 use std::sync::Wait;
 
 /// Waits for the turn of the seat, and runs the operation once, alone.
 #[tactic(auto, using(crate::proofs::Telling::still_set))]
-pub(crate) fn turn<B: Done + Drop, R: Wait, O: Op<SharedTable<B>>>(
+pub(crate) fn turn<B: Done + Drop, R: Wait, J: ChannelJournal, O: Op<SharedTable<B, J>>>(
     rt: &R,
-    lock: &ChannelLock<B>,
-    account: &mut Account<B>,
+    lock: &ChannelLock<B, J>,
+    account: &mut Account<B, J>,
     op: O,
 ) -> O::Reply
     requires { account.old.lock ≡ lock.now }
@@ -26,8 +27,8 @@ pub(crate) fn turn<B: Done + Drop, R: Wait, O: Op<SharedTable<B>>>(
 
 /// Runs the operation once, alone, as a turn of the seat that holds the lock.
 #[tactic(auto, using(crate::proofs::Telling::still_set))]
-pub(crate) fn turn_held<B: Done + Drop, R: Wait, O: Op<SharedTable<B>>>(
-    account: &mut HeldAccount<'_, B, R>,
+pub(crate) fn turn_held<B: Done + Drop, R: Wait, J: ChannelJournal, O: Op<SharedTable<B, J>>>(
+    account: &mut HeldAccount<'_, B, R, J>,
     op: O,
 ) -> O::Reply
     ensures lock { account.new.lock ≡ account.old.lock }

@@ -15,6 +15,7 @@ mod rows;
 mod running;
 mod telling;
 mod two_threads;
+mod untold;
 
 use chan_types::Orders;
 

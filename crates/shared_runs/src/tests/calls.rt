@@ -6,6 +6,7 @@ ghost use Rattle.shared_channel.specs.Staying.{StaysSettled};
 
 use super::FOLLOW;
 use chan_types::{Bytes, NoMemory, Script, Spec};
+use channel_journal::ChannelJournal;
 use channel_model::{Desk, Refused, SetFault};
 use completion_ticket::{Callback, Called, Scripted};
 use net_addr::ServerAddr;
@@ -64,7 +65,7 @@ pub fn destroyed<R: Wait>(place: &mut Place<'_, Scripted, R>) -> bool
 
 /// Delivers the first ready request.
 #[tactic(auto, using(shared_channel::proofs::Theorems::stays_delivery))]
-pub fn delivered<R: Wait>(place: &mut Place<'_, Scripted, R>) -> u64
+pub fn delivered<R: Wait, J: ChannelJournal>(place: &mut Place<'_, Scripted, R, J>) -> u64
     ensures { StaysSettled place.old place.new }
 {
     number_called(deliver_one(place, FOLLOW))

@@ -5,6 +5,7 @@ ghost use Rattle.shared_channel.specs.Staying.{StaysSettled};
 
 use super::telling::has_calls;
 use chan_types::{Bytes, Family, NoMemory, Orders, Script, Spec};
+use channel_journal::ChannelJournal;
 use channel_model::Desk;
 use completion_ticket::{Callback, Scripted};
 use shared_channel::{
@@ -23,7 +24,11 @@ const ORDERS: Orders = Orders {
 };
 
 /// Asks a request with this callback.
-fn ask_at<R: Wait>(place: &mut Place<'_, Scripted, R>, spec: Spec, callback: Callback<Scripted>)
+pub fn ask_at<R: Wait, J: ChannelJournal>(
+    place: &mut Place<'_, Scripted, R, J>,
+    spec: Spec,
+    callback: Callback<Scripted>,
+)
     ensures { StaysSettled place.old place.new }
 {
     let _accepted = place.accept(spec, callback).is_ok();

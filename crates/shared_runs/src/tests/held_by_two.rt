@@ -113,6 +113,6 @@ fn stand_in_tens(entries: &[Entry]) -> bool {
 fn two_threads_hold_the_lock(rt: HostRuntime) -> Result<(), Fail> {
     let finished = shared_by_two(&rt, rt.alloc())?;
     assert!(rt; has_called_each(rt.alloc(), &finished, 2000)?);
-    assert!(rt; stand_in_tens(finished.journal.entries()));
+    assert!(rt; stand_in_tens(finished.journal.entries.as_slice()));
     Ok(())
 }

@@ -32,7 +32,7 @@ fn line_of(alloc: Global, entry: &Entry) -> Result<String, Fail> {
 /// The lines of the journal.
 fn journal_told(alloc: Global, finished: &Finished) -> Result<String, Fail> {
     let mut text = String::new(alloc);
-    for entry in finished.journal.entries() {
+    for entry in finished.journal.entries.as_slice() {
         text.push_str(line_of(alloc, entry)?.as_str())?;
     }
     Ok(text)

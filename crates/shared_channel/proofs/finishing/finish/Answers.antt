@@ -41,7 +41,7 @@ returns g c =
     let emptied : EmptiesChannel c.args.orders all last = record { is_first = c.destroy.result; destroyed = c.destroy.new.self; destroys = c.destroy.ensures.done; delivered = c.deliver_all.ensures } in
     let is : last ≡ pass_of here.seat here.is_set here.calls here.lost = sym (c.account-2.view_is ∙ c.account.view_is ∙ c.leave.ensures) in
     let log = c.close-table.result.table.value.journal in
-    let journal : c.into_journal-journal.result ≡ log = c.into_journal-journal.ensures ∙ c.close.ensures ∙ ap (λ (s : Shown CallbackState). s.journal) c.into_inner.ensures in
-    finishes c.args.orders c.args.channel passes all last c.requires.all joined emptied here.seat here.is_set here.calls here.lost is c.requires.settled log c.close-table.ensures.history _ journal
-    (c.accepted_count-accepted.ensures ∙ ap (λ (l : List Entry). length (accepted (past_of l))) (c.entries.ensures ∙ journal))
+    let inner : c.into_inner-table.result.journal ≡ log = ap (λ (s : Shown CallbackState). s.journal) c.into_inner-table.ensures in
+    finishes c.args.orders c.args.channel passes all last c.requires.all joined emptied here.seat here.is_set here.calls here.lost is c.requires.settled log c.close-table.ensures.history _ _ (c.close.ensures ∙ inner)
+    (c.accepted-accepted.ensures ∙ ap (λ (l : List Entry). length (accepted (past_of l))) inner)
     (sym (ap (λ (p : PassView). p.calls) is)) (sym (ap (λ (p : PassView). p.lost) is))
