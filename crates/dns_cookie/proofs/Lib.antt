@@ -1,1 +1,5 @@
 pub mod JudgingLemmas
+mod OptionsLemmas
+mod PlacesLemmas
+mod PlainLemmas
+mod ReplyLemmas

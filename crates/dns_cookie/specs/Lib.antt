@@ -1,3 +1,5 @@
 pub mod Cookie
 pub mod Judging
+pub mod Places
+pub mod Plain
 pub mod Reply

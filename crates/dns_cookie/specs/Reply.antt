@@ -24,6 +24,15 @@ first_cookie items = option_map (λ item. item.content) (find is_cookie items)
 abbrev pub cookie_of : Option Opt → Option (List ℕ)
 cookie_of opt = option_and_then (λ found. first_cookie found.options) opt
 
+-- the cookie of what reading the OPT record gave
+abbrev pub cookie_by : Result (Option Opt) EdnsFault → Option (List ℕ)
+cookie_by (Ok opt) = cookie_of opt
+cookie_by (Err fault) = None
+
+-- the cookie of a message, where it has one OPT record with one
+abbrev pub cookie_in : Message → Option (List ℕ)
+cookie_in message = cookie_by (opt_of message)
+
 -- what a message with this OPT record says of cookies
 abbrev pub reply_with : Message → Option Opt → CookieReply
 reply_with message opt = record { id = message.id; rcode = rcode_of message opt; cookie = cookie_of opt }

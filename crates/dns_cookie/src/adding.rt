@@ -6,6 +6,7 @@ ghost use Rattle.edns_opt.specs.Reading.{opt_of};
 ghost use Rattle.dns_cookie.specs.Cookie as meaning;
 ghost use Rattle.dns_cookie.specs.Cookie.{cookie_option};
 
+use crate::plain::{extended, is_plain, push_option};
 use dns_message::numbers::KIND_OPT;
 use dns_message::{EncodeFault, Message, MessageFault, Record, RecordList, decode, encode};
 use edns_opt::{EdnsFault, find};
@@ -21,6 +22,9 @@ pub(crate) const COOKIE_MOST: usize = 40;
 /// The most bytes of a message (RFC 1035, section 4.2.2).
 const MESSAGE_MOST: usize = 65_535;
 
+/// The most bytes of a query that has room for an option with the longest cookie: 4 of its code and length, and 40.
+const PLAIN_MOST: usize = 65_491;
+
 /// The query with this cookie, in an option behind the other options of its OPT record (RFC 7873, section 5.1). There is
 /// none where the query goes as it is: it is no message, it has no OPT record that can be read, or it would have more
 /// than 65,535 bytes with the longest cookie, so that its room doesn't hang on which cookie is known; or the cookie is longer
@@ -34,11 +38,15 @@ pub fn cookied(alloc: Global, query: &[u8], cookie: &[u8]) -> Result<Option<Byte
     cookied_query(alloc, query, cookie)
 }
 
-/// The same with a cookie of 40 bytes at most.
+/// The same with a cookie of 40 bytes at most. A query in the form in which most are written isn't read as a message.
+#[tactic(auto, using(crate::proofs::PlainLemmas::plain_cookied))]
 fn cookied_query(alloc: Global, query: &[u8], cookie: &[u8]) -> Result<Option<Bytes>, NoMemory>
     requires { length cookie.now ≤ 40 }
     ensures { IfOk result (λ sent. sent ≡ meaning.cookied_query cookie.now query.now) }
 {
+    if query.len() <= PLAIN_MOST && is_plain(query) {
+        return Ok(Some(extended(alloc, query, cookie)?));
+    }
     match decode(alloc, query) {
         Ok(message) => cookied_message(alloc, message, cookie),
         Err(MessageFault::NoMemory) => Err(NoMemory),
@@ -91,9 +99,7 @@ fn option_bytes(alloc: Global, cookie: &[u8]) -> Result<Bytes, NoMemory>
     ensures { IfOk result (λ bytes. bytes ≡ option_spelling (cookie_option cookie.now)) }
 {
     let mut out = Vec::new(alloc);
-    out.extend_from_slice(&COOKIE_CODE.to_be_bytes())?;
-    out.extend_from_slice(&(cookie.len() as u16).to_be_bytes())?;
-    out.extend_from_slice(cookie)?;
+    push_option(&mut out, cookie)?;
     Ok(Bytes::from_vec(out))
 }
 

@@ -4,6 +4,9 @@
 mod adding;
 mod judging;
 mod laws;
+mod options;
+mod places;
+mod plain;
 mod reply;
 
 pub use adding::cookied;

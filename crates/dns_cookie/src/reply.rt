@@ -1,14 +1,20 @@
 //! What a reply says of cookies.
 
-ghost use Rattle.std.specs.Prelude.{◌≡◌, find, IfOk};
+ghost use Rattle.std.specs.Prelude.{◌≡◌, ◌≤◌, ℕ, length, IfOk};
 ghost use Rattle.std.specs.Option.{option_copied};
+ghost use Rattle.dns_message.specs.declared.message.Message.{Message};
+ghost use Rattle.message_walk.specs.declared.sections.OptSeen.TheVariants.{Extends};
+ghost use Rattle.dns_cookie.specs.Places.{IsPlacedIn};
 ghost use Rattle.dns_cookie.specs.Reply as meaning;
 
-use crate::adding::COOKIE_CODE;
-use dns_message::{Message, MessageFault, decode};
-use edns_opt::{EdnsFault, EdnsItem, Opt, find, full_rcode};
+use crate::options::cookie_in;
+use crate::places::{additionals_of, opt_rdata, u16_at};
 use item_list::{Bytes, NoMemory};
+use message_walk::OptSeen;
 use std::alloc::Global;
+
+/// The numbers of the response code's four bits in the flags (RFC 1035, section 4.1.1).
+const RCODES: u16 = 16;
 
 /// What a reply says of cookies (RFC 7873, sections 4 and 5.3).
 #[derive(Debug, Drop)]
@@ -20,70 +26,62 @@ pub struct CookieReply {
     pub cookie: Option<Bytes>,
 }
 
-/// What a datagram says of cookies. There is none where it is no message, or has OPT records that can't be read.
+/// What a datagram says of cookies. There is none where it is no message, or has OPT records that can't be read. The datagram
+/// is read where it stands: memory is taken for the cookie alone.
 pub fn read_reply(alloc: Global, bytes: &[u8]) -> Result<Option<CookieReply>, NoMemory>
     ensures { IfOk result (λ reply. reply ≡ meaning.reply_in bytes.now) }
 {
-    match decode(alloc, bytes) {
-        Ok(message) => reply_of(alloc, &message),
-        Err(MessageFault::NoMemory) => Err(NoMemory),
-        Err(
-            MessageFault::ShortHeader
-            | MessageFault::ShortPart(_)
-            | MessageFault::BadLabel(_)
-            | MessageFault::BadPointer(_)
-            | MessageFault::LongName(_)
-            | MessageFault::BadRdata(_)
-            | MessageFault::TrailingBytes(_),
-        ) => Ok(None),
-    }
+    let Ok((at, opt)) = additionals_of(bytes) else {
+        return Ok(None);
+    };
+    reply_of(alloc, bytes, at, opt)
 }
 
-/// What a message says of cookies.
-fn reply_of(alloc: Global, message: &Message) -> Result<Option<CookieReply>, NoMemory>
-    ensures { IfOk result (λ reply. reply ≡ meaning.reply_of message.now) }
+/// What the bytes of a message say of cookies, whose additional records stand at an offset, and whose OPT records say this.
+#[tactic(auto, using(crate::proofs::ReplyLemmas::reply_plain, crate::proofs::ReplyLemmas::reply_unread, crate::proofs::ReplyLemmas::reply_extends))]
+fn reply_of(
+    alloc: Global,
+    bytes: &[u8],
+    at: usize,
+    opt: OptSeen,
+) -> Result<Option<CookieReply>, NoMemory>
+    requires { 12 ≤ length bytes.now }
+    ensures { (m : Message) → IsPlacedIn bytes.now at opt m → IfOk result (λ reply. reply ≡ meaning.reply_of m) }
 {
-    match find(alloc, message) {
-        Ok(opt) => Ok(Some(reply_with(alloc, message, opt.as_ref())?)),
-        Err(EdnsFault::NoMemory) => Err(NoMemory),
-        Err(EdnsFault::DoubleOpt | EdnsFault::BadOptions(_)) => Ok(None),
-    }
+    let code = match opt {
+        OptSeen::Absent => {
+            return Ok(Some(CookieReply {
+                id: u16_at(bytes, 0),
+                rcode: u16_at(bytes, 2) % RCODES,
+                cookie: None,
+            }));
+        }
+        OptSeen::Unread => return Ok(None),
+        OptSeen::Extends(code) => code,
+    };
+    Ok(Some(CookieReply {
+        id: u16_at(bytes, 0),
+        rcode: code as u16 * RCODES + u16_at(bytes, 2) % RCODES,
+        cookie: copied(alloc, cookie_at(bytes, at))?,
+    }))
 }
 
-/// What a message with this OPT record says of cookies.
-fn reply_with(alloc: Global, message: &Message, opt: Option<&Opt>) -> Result<CookieReply, NoMemory>
-    ensures { IfOk result (λ reply. reply ≡ meaning.reply_with message.now (option_copied opt.entry)) }
+/// The cookie of the OPT record among a message's additional records, which stand at an offset.
+fn cookie_at(bytes: &[u8], at: usize) -> Option<&[u8]>
+    requires { 12 ≤ length bytes.now }
+    ensures { (m : Message) (code : ℕ) → IsPlacedIn bytes.now at (Extends code) m
+        → option_copied result ≡ meaning.cookie_in m }
 {
-    Ok(CookieReply {
-        id: message.id,
-        rcode: full_rcode(message, opt),
-        cookie: cookie_of(alloc, opt)?,
-    })
+    let rdata = opt_rdata(bytes, at, u16_at(bytes, 10))?;
+    cookie_in(rdata)
 }
 
-/// The cookie of an OPT record.
-fn cookie_of(alloc: Global, opt: Option<&Opt>) -> Result<Option<Bytes>, NoMemory>
-    ensures { IfOk result (λ cookie. cookie ≡ meaning.cookie_of (option_copied opt.entry)) }
+/// The bytes, if there are any, in memory of their own.
+fn copied(alloc: Global, bytes: Option<&[u8]>) -> Result<Option<Bytes>, NoMemory>
+    ensures { IfOk result (λ copy. copy ≡ option_copied bytes.entry) }
 {
-    match opt {
-        Some(opt) => first_cookie(alloc, opt.options.as_slice()),
+    match bytes {
+        Some(bytes) => Ok(Some(Bytes::of(alloc, bytes)?)),
         None => Ok(None),
     }
-}
-
-/// The content of the first cookie option of these.
-fn first_cookie(alloc: Global, options: &[EdnsItem]) -> Result<Option<Bytes>, NoMemory>
-    ensures { IfOk result (λ cookie. cookie ≡ meaning.first_cookie options.now) }
-{
-    match find_cookie(options) {
-        Some(item) => Ok(Some(Bytes::of(alloc, item.content.as_slice())?)),
-        None => Ok(None),
-    }
-}
-
-/// The first cookie option of these.
-fn find_cookie(options: &[EdnsItem]) -> Option<&EdnsItem>
-    ensures { option_copied result ≡ find meaning.is_cookie options.now }
-{
-    options.iter().find(|item| item.code == COOKIE_CODE)
 }
