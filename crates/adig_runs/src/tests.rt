@@ -4,6 +4,7 @@ mod books;
 mod cookies;
 mod ending;
 mod links;
+mod outcome;
 mod outgoing;
 mod outside;
 mod pages;
@@ -14,11 +15,8 @@ mod servers;
 mod setting;
 mod statuses;
 
-use adig_tool::{Ended, run};
-use chan_types::Calls;
-use net_world::{MemFiles, MemSink, ScriptWorld};
-use outside::{Outside, outside_of};
-use scenario::{Coming, Shown, calls_told, journal_told, sent_in, words_of};
+use outcome::{is_left, outcome_of};
+use scenario::Coming;
 use std::alloc::Global;
 use std::test::Fail;
 
@@ -67,6 +65,17 @@ enum Sent<'a> {
     Last(usize, &'a [u8]),
 }
 
+impl Sent<'_> {
+    /// Whether these bytes are as they have to be.
+    fn is_met(self, sent: &[u8]) -> bool {
+        match self {
+            Sent::Any => true,
+            Sent::All(bytes) => sent == bytes,
+            Sent::Last(count, bytes) => sent.len() == count && sent.ends_with(bytes),
+        }
+    }
+}
+
 /// What a run has to leave: its exit status and what it put; the lines of its journal and of its network's calls; how many
 /// callbacks were called; and what it sent.
 #[derive(Clone, Copy)]
@@ -89,19 +98,7 @@ struct Case {
 
 /// Whether a run leaves this.
 fn leaves(alloc: Global, scenario: &Scenario<'_>, wanted: &Wanted<'_>) -> Result<bool, Fail> {
-    leaves_in(alloc, scenario, &mut outside_of(alloc, scenario)?, wanted)
-}
-
-/// The same where it is lent this.
-fn leaves_in(
-    alloc: Global,
-    scenario: &Scenario<'_>,
-    outside: &mut Outside,
-    wanted: &Wanted<'_>,
-) -> Result<bool, Fail> {
-    let ended = played(alloc, scenario, outside)?;
-    let is_so = is_ended(&ended, wanted.status, wanted.called) && is_put(outside, wanted.put);
-    Ok(is_so && is_told(alloc, &ended, outside, wanted)?)
+    Ok(is_left(&outcome_of(alloc, scenario)?, wanted))
 }
 
 /// What the first of these runs shows that doesn't leave what it has to; nothing where each does.
@@ -112,83 +109,6 @@ fn first_wrong<'a>(alloc: Global, cases: &'a [Case]) -> Result<&'a str, Fail> {
         }
     }
     Ok("")
-}
-
-/// Plays a run.
-fn played(alloc: Global, scenario: &Scenario<'_>, outside: &mut Outside) -> Result<Ended, Fail> {
-    let words = words_of(alloc, scenario.line)?;
-    let Outside { files, world, sink } = outside;
-    let turns = scenario.turns;
-    Ok(ended(alloc, words.as_slice(), files, world, sink, turns))
-}
-
-/// How a run ends.
-fn ended(
-    alloc: Global,
-    words: &[&str],
-    files: &mut MemFiles,
-    world: &mut ScriptWorld,
-    sink: &mut MemSink,
-    turns: u64,
-) -> Ended {
-    run(alloc, words, files, world, sink, turns)
-}
-
-/// Whether a run ended with this status, and so many callbacks were called.
-fn is_ended(ended: &Ended, status: u8, called: u64) -> bool {
-    ended.status == status && counted(&ended.calls) == called
-}
-
-/// How many answers these are.
-fn counted(calls: &Calls) -> u64 {
-    let mut count = 0u64;
-    for _ in calls.iter() {
-        count = count.saturating_add(1);
-    }
-    count
-}
-
-/// Whether this was put.
-fn is_put(outside: &Outside, text: &str) -> bool {
-    outside.sink.bytes() == text.as_bytes()
-}
-
-/// Whether the journal, the network's calls and the bytes that were sent are as they have to be.
-fn is_told(
-    alloc: Global,
-    ended: &Ended,
-    outside: &Outside,
-    wanted: &Wanted<'_>,
-) -> Result<bool, Fail> {
-    Ok(
-        has_journal(alloc, ended, wanted.journal)?
-            && has_called(alloc, outside, wanted.calls)?
-            && has_sent(alloc, outside, wanted.sent)?,
-    )
-}
-
-fn has_journal(alloc: Global, ended: &Ended, lines: &str) -> Result<bool, Fail> {
-    let told = journal_told(alloc, ended.journal.entries())?;
-    Ok(told.as_str() == lines)
-}
-
-fn has_called(alloc: Global, outside: &Outside, lines: &str) -> Result<bool, Fail> {
-    let told = calls_told(alloc, outside.world.log().calls(), Shown::Servers)?;
-    Ok(told.as_str() == lines)
-}
-
-fn has_sent(alloc: Global, outside: &Outside, wanted: Sent<'_>) -> Result<bool, Fail> {
-    let sent = sent_in(alloc, outside.world.log().calls())?;
-    Ok(is_sent(sent.as_slice(), wanted))
-}
-
-/// Whether these bytes are as they have to be.
-fn is_sent(sent: &[u8], wanted: Sent<'_>) -> bool {
-    match wanted {
-        Sent::Any => true,
-        Sent::All(bytes) => sent == bytes,
-        Sent::Last(count, bytes) => sent.len() == count && sent.ends_with(bytes),
-    }
 }
 
 /// A datagram of the first server.

@@ -6,8 +6,10 @@ mod books;
 mod boxes;
 mod ending;
 mod families;
+mod fates;
 mod loads;
 mod names;
+mod outcome;
 mod outside;
 mod reading;
 mod reentry;
@@ -15,13 +17,10 @@ mod servers;
 mod statuses;
 mod telling;
 
-use ahost_tool::{Ended, run};
-use bodies::{Bodies, bodies_for};
-use outside::{Outside, outside_of};
-use scenario::{Shown, calls_told, journal_told, words_of};
+use bodies::Bodies;
+use outcome::{is_left, outcome_of};
 use std::alloc::Global;
 use std::test::Fail;
-use telling::answers_told;
 
 /// A run: its words, parted by blanks; its files, where they are; the datagrams that come of its first server at moment 1,
 /// one after the other; which calls of the network fail, which reads and which puts, by their numbers from 0; how many turns
@@ -74,70 +73,15 @@ struct Case {
 
 /// Whether a run leaves this.
 fn leaves(alloc: Global, scenario: &Scenario<'_>, wanted: &Wanted<'_>) -> Result<bool, Fail> {
-    leaves_in(alloc, scenario, &mut outside_of(alloc, scenario)?, wanted)
+    Ok(is_left(&outcome_of(alloc, scenario)?, wanted))
 }
 
-/// The same where it is lent this. A check is long where what a run is lent may be dropped behind a `?`.
-fn leaves_in(
-    alloc: Global,
-    scenario: &Scenario<'_>,
-    outside: &mut Outside,
-    wanted: &Wanted<'_>,
-) -> Result<bool, Fail> {
-    let ended = played(alloc, scenario, outside)?;
-    is_left(alloc, &ended, outside, wanted)
-}
-
-/// Whether a run that ended so has left this.
-fn is_left(
-    alloc: Global,
-    ended: &Ended,
-    outside: &Outside,
-    wanted: &Wanted<'_>,
-) -> Result<bool, Fail> {
-    let is_so = ended.status == wanted.status && is_put(outside, wanted.put);
-    Ok(is_so && is_told(alloc, ended, outside, wanted)?)
-}
-
-/// Plays a run.
-fn played(alloc: Global, scenario: &Scenario<'_>, outside: &mut Outside) -> Result<Ended, Fail> {
-    let words = words_of(alloc, scenario.line)?;
-    let bodies = bodies_for(alloc, scenario.bodies)?;
-    let Outside { files, world, sink } = outside;
-    let turns = scenario.turns;
-    Ok(run(alloc, words.as_slice(), bodies, files, world, sink, turns))
-}
-
-/// Whether this was put.
-fn is_put(outside: &Outside, text: &str) -> bool {
-    outside.sink.bytes() == text.as_bytes()
-}
-
-/// Whether its journal, its network's calls and those of its callbacks are told by the wanted lines.
-fn is_told(
-    alloc: Global,
-    ended: &Ended,
-    outside: &Outside,
-    wanted: &Wanted<'_>,
-) -> Result<bool, Fail> {
-    Ok(
-        has_journal(alloc, ended, wanted.journal)?
-            && has_called(alloc, outside, wanted.network)?
-            && has_answered(alloc, ended, wanted.answers)?,
-    )
-}
-
-fn has_journal(alloc: Global, ended: &Ended, lines: &str) -> Result<bool, Fail> {
-    let told = journal_told(alloc, ended.journal.entries())?;
-    Ok(told.as_str() == lines)
-}
-
-fn has_called(alloc: Global, outside: &Outside, lines: &str) -> Result<bool, Fail> {
-    let told = calls_told(alloc, outside.world.log().calls(), Shown::Traffic)?;
-    Ok(told.as_str() == lines)
-}
-
-fn has_answered(alloc: Global, ended: &Ended, lines: &str) -> Result<bool, Fail> {
-    let told = answers_told(alloc, &ended.calls)?;
-    Ok(told.as_str() == lines)
+/// What the first of these runs shows that doesn't leave what it has to; nothing where each does.
+fn first_wrong<'a>(alloc: Global, cases: &'a [Case]) -> Result<&'a str, Fail> {
+    for case in cases {
+        if !leaves(alloc, &case.run, &case.wanted)? {
+            return Ok(case.shows);
+        }
+    }
+    Ok("")
 }

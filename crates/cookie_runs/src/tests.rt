@@ -3,8 +3,10 @@
 mod badcookies;
 mod bytes;
 mod links;
+mod messages;
 mod playing;
 mod queries;
 mod replies;
+mod rows;
 mod rules;
 mod servers;

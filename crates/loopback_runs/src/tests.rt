@@ -1,7 +1,6 @@
-//! The real outside over loopback; and `adig` asks the nameserver of `tns`, each over its real network.
+//! `adig` asks the nameserver of `tns`, each over its real network.
 
 mod bound;
-mod engine;
 
 use adig_tool::run as ask;
 use bound::Bound;
@@ -14,7 +13,8 @@ use std::collections::BTreeMap;
 use std::net::{Ipv4Addr, Net, SocketAddr, UdpSocket};
 use std::test::Fail;
 use std::thread;
-use std::thread::Threads;
+use std::thread::{JoinHandle, Threads};
+use stored_run::{page_status, replayed};
 use test_nameserver::{Listener, run as serve};
 
 /// The zone: an address, and an alias of it.
@@ -42,37 +42,106 @@ fn served<L: Listener>(alloc: Global, port: &str, files: &mut MemFiles, listener
     serve(alloc, words.as_slice(), files, &mut sink, listener)
 }
 
-/// The words that ask the nameserver at the port, and those of a line.
-fn words_for<'a>(alloc: Global, port: &'a str, line: &'a str) -> Result<Vec<&'a str>, Fail> {
+/// A listener on a port that was free just now, and the port.
+fn listening(rt: HostRuntime) -> Result<(Bound<RealListener<HostRuntime>>, u16), Fail> {
+    let port = free_port(&rt)?;
+    let mut inner = RealListener::make(rt);
+    match Listener::listen(&mut inner, port)? {
+        Sent::Sent => Ok((Bound { inner }, port)),
+        Sent::Failed => Err("the port is taken")?,
+    }
+}
+
+/// The digits of a port.
+fn digits_of(alloc: Global, port: u16) -> Result<String, Fail> {
+    Ok(format!(in alloc; "{port}")?)
+}
+
+/// A thread in which the nameserver serves until one message has come, and its port.
+fn serving<R: Threads>(threads: &R, rt: HostRuntime) -> Result<(JoinHandle<u8>, u16), Fail> {
+    let alloc = rt.alloc();
+    let (mut listener, number) = listening(rt)?;
+    let mut files = zone_files(alloc)?;
+    let port = digits_of(alloc, number)?;
+    let child = thread::spawn(threads, move || {
+        served(alloc, port.as_str(), &mut files, &mut listener)
+    })?;
+    Ok((child, number))
+}
+
+/// The words that ask the nameserver of 127.0.0.1 for its page, or for the book of the run.
+const PAGE: &str = "--server 127.0.0.1 --port";
+
+const BOOK: &str = "--journal --server 127.0.0.1 --port";
+
+/// These words, the port, and those of a line.
+fn words_for<'a>(
+    alloc: Global,
+    front: &'a str,
+    port: &'a str,
+    line: &'a str,
+) -> Result<Vec<&'a str>, Fail> {
     let mut words = Vec::new(alloc);
-    for word in ["--server", "127.0.0.1", "--port", port] {
+    for word in front.split(' ') {
         words.push(word)?;
     }
+    words.push(port)?;
     for word in line.split(' ') {
         words.push(word)?;
     }
     Ok(words)
 }
 
-/// The exit status of `adig` with these words, over this network and without files.
+/// The exit status of `adig` with these words, over this network and without files. No other function calls it: its clauses
+/// are long, and who calls this doesn't have them.
 fn status_of<W: World>(alloc: Global, words: &[&str], world: &mut W, sink: &mut MemSink) -> u8 {
     let mut files = MemFiles::make(BTreeMap::new(alloc), Vec::new(alloc));
     ask(alloc, words, &mut files, world, sink, 1000).status
 }
 
-/// Whether `adig` with these words, over this network, ends and puts its page as the case has it.
-fn is_answered<W: World>(alloc: Global, words: &[&str], world: &mut W, case: &Case) -> bool {
-    let mut sink = MemSink::make(Vec::new(alloc));
-    let status = status_of(alloc, words, world, &mut sink);
-    status == case.status && is_between(sink.bytes(), case.head, case.tail)
+/// What a run comes to: its exit status, and what it put.
+#[derive(Drop)]
+struct Outcome {
+    status: u8,
+    put: Vec<u8>,
 }
 
-/// Whether `adig`, over its real network, is answered by the nameserver at the port as the case has it.
-fn asked(rt: HostRuntime, port: &str, case: &Case) -> Result<bool, Fail> {
-    let alloc = rt.alloc();
-    let words = words_for(alloc, port, case.line)?;
-    let mut world = SockWorld::make(rt)?;
-    Ok(is_answered(alloc, words.as_slice(), &mut world, case))
+/// What `adig` comes to with these words, over this network.
+fn asked<W: World>(alloc: Global, words: &[&str], world: &mut W) -> Result<Outcome, Fail> {
+    let mut sink = MemSink::make(Vec::new(alloc));
+    let status = status_of(alloc, words, world, &mut sink);
+    let put = sink.bytes().to_vec(alloc)?;
+    Ok(Outcome { status, put })
+}
+
+/// What it comes to with these words in front, the port, and those of the line.
+fn asked_at<W: World>(
+    alloc: Global,
+    front: &str,
+    port: u16,
+    line: &str,
+    world: &mut W,
+) -> Result<Outcome, Fail> {
+    let port = digits_of(alloc, port)?;
+    let words = words_for(alloc, front, port.as_str(), line)?;
+    asked(alloc, words.as_slice(), world)
+}
+
+/// What it comes to over this network, where a nameserver in a thread serves one message, and ends with exit status 0.
+fn outcome_of<R: Threads, W: World>(
+    threads: &R,
+    rt: HostRuntime,
+    front: &str,
+    line: &str,
+    world: &mut W,
+) -> Result<Outcome, Fail> {
+    let (child, port) = serving(threads, rt)?;
+    let outcome = asked_at(rt.alloc(), front, port, line, world)?;
+    if child.join(threads) == 0 {
+        Ok(outcome)
+    } else {
+        Err("the nameserver failed")?
+    }
 }
 
 /// A question, the exit status, and the page: up to the identifier, which is drawn at random, and behind it.
@@ -84,6 +153,7 @@ struct Case {
     tail: &'static str,
 }
 
+/// Over UDP and TCP: an address, an alias, and a name that isn't there.
 const CASES: &[Case] = &[
     Case {
         line: "--no-edns a.test",
@@ -112,50 +182,76 @@ const CASES: &[Case] = &[
 ];
 
 /// Whether a page is this, with the digits of one number between its head and its tail, and nothing else.
-fn is_between(page: &[u8], head: &str, tail: &str) -> bool {
-    let Some(rest) = page.strip_prefix(head.as_bytes()) else {
+fn is_between(page: &[u8], head: &[u8], tail: &[u8]) -> bool {
+    let Some(rest) = page.strip_prefix(head) else {
         return false;
     };
-    match rest.strip_suffix(tail.as_bytes()) {
-        Some(id) => !id.is_empty() && id.iter().all(|byte| byte.is_ascii_digit()),
+    match rest.strip_suffix(tail) {
+        Some(number) => !number.is_empty() && are_digits(number),
         None => false,
     }
 }
 
-/// A listener on a port that was free just now, and the port.
-fn listening(rt: HostRuntime) -> Result<(Bound<RealListener<HostRuntime>>, u16), Fail> {
-    let port = free_port(&rt)?;
-    let mut inner = RealListener::make(rt);
-    match Listener::listen(&mut inner, port)? {
-        Sent::Sent => Ok((Bound { inner }, port)),
-        Sent::Failed => Err("the port is taken")?,
+/// Whether all of these bytes are digits.
+fn are_digits(bytes: &[u8]) -> bool {
+    for byte in bytes {
+        if !byte.is_ascii_digit() {
+            return false;
+        }
     }
+    true
 }
 
-/// The digits of a port.
-fn digits_of(alloc: Global, port: u16) -> Result<String, Fail> {
-    Ok(format!(in alloc; "{port}")?)
+/// Whether the nameserver, in a thread, and `adig` end as the case has it, and the page is put.
+fn is_answered<R: Threads>(threads: &R, rt: HostRuntime, case: &Case) -> Result<bool, Fail> {
+    let outcome = outcome_of(threads, rt, PAGE, case.line, &mut SockWorld::make(rt)?)?;
+    let (head, tail) = (case.head.as_bytes(), case.tail.as_bytes());
+    Ok(outcome.status == case.status && is_between(outcome.put.as_slice(), head, tail))
 }
 
-/// Whether the nameserver, in a thread, and `adig` end as the case has it.
-fn is_served<R: Threads>(threads: &R, rt: HostRuntime, case: &Case) -> Result<bool, Fail> {
-    let alloc = rt.alloc();
-    let (mut listener, number) = listening(rt)?;
-    let mut files = zone_files(alloc)?;
-    let own = digits_of(alloc, number)?;
-    let port = digits_of(alloc, number)?;
-    let child = thread::spawn(threads, move || {
-        served(alloc, own.as_str(), &mut files, &mut listener)
-    })?;
-    let is_answered = asked(rt, port.as_str(), case)?;
-    Ok(child.join(threads) == 0 && is_answered)
+/// The line of the first case of which that isn't so; nothing where it is of each.
+fn first_unanswered<R: Threads>(threads: &R, rt: HostRuntime) -> Result<&'static str, Fail> {
+    for case in CASES {
+        if !is_answered(threads, rt, case)? {
+            return Ok(case.line);
+        }
+    }
+    Ok("")
 }
 
-/// Over UDP and TCP, while the nameserver serves in a thread: an address, an alias, and a name that isn't there.
 #[test]
 fn adig_asks_the_nameserver(rt: HostRuntime) -> Result<(), Fail> {
+    assert_eq!(rt; first_unanswered(&rt, rt)?, "");
+    Ok(())
+}
+
+/// Whether areplay finds the run of this book lawful, in which one request was accepted, with this status.
+fn is_lawful(alloc: Global, book: &[u8], status: &str) -> Result<bool, Fail> {
+    let page = replayed(alloc, book)?;
+    let tail = format!(in alloc; " entries 1 accepted\n1 {status}\n")?;
+    Ok(is_between(page.as_slice(), b"lawful ", tail.as_bytes()))
+}
+
+/// Whether they end so, and with `--journal` the book of the run is put in place of the page: it is lawful, and its request has
+/// the status of the page.
+fn is_booked<R: Threads>(threads: &R, rt: HostRuntime, case: &Case) -> Result<bool, Fail> {
+    let outcome = outcome_of(threads, rt, BOOK, case.line, &mut SockWorld::make(rt)?)?;
+    let is_so = is_lawful(rt.alloc(), outcome.put.as_slice(), page_status(case.head))?;
+    Ok(outcome.status == case.status && is_so)
+}
+
+/// The line of the first case of which that isn't so; nothing where it is of each.
+fn first_unlawful<R: Threads>(threads: &R, rt: HostRuntime) -> Result<&'static str, Fail> {
     for case in CASES {
-        assert!(rt; is_served(&rt, rt, case)?, "{}", case.line);
+        if !is_booked(threads, rt, case)? {
+            return Ok(case.line);
+        }
     }
+    Ok("")
+}
+
+#[test]
+fn books_of_real_runs_are_lawful(rt: HostRuntime) -> Result<(), Fail> {
+    assert_eq!(rt; first_unlawful(&rt, rt)?, "");
     Ok(())
 }

@@ -4,7 +4,7 @@
 use hosts_file::{Hosts, Name};
 use item_list::Bytes;
 use machine_setting::read_setting;
-use net_addr::Family;
+use net_addr::{Addr, Family, ServerAddr};
 use net_world::MemFiles;
 use resolv_options::Options;
 use std::alloc::Global;
@@ -76,46 +76,71 @@ fn files_of(alloc: Global, case: &Case) -> Result<MemFiles, Fail> {
     Ok(MemFiles::make(files, vec![in alloc; case.fails]?))
 }
 
+/// Whether this is the server of the case.
+fn is_server(alloc: Global, server: &ServerAddr, case: &Case) -> Result<bool, Fail> {
+    let address = net_addr::print(alloc, server.address)?;
+    Ok(address.as_slice() == case.server.as_bytes() && server.port == case.port)
+}
+
 /// Whether the first server and the dots are those of the case.
 fn sets_options(alloc: Global, options: &Options, case: &Case) -> Result<bool, Fail> {
-    match options.servers().as_slice().first() {
-        None => Ok(false),
-        Some(server) => Ok(
-            net_addr::print(alloc, server.address)?.as_slice() == case.server.as_bytes()
-                && server.port == case.port
-                && options.ndots() == case.ndots,
-        ),
+    match options.servers().as_slice() {
+        [server, ..] => Ok(options.ndots() == case.ndots && is_server(alloc, server, case)?),
+        [] => Ok(false),
     }
 }
 
-/// Whether the address of `box` is that of the case.
-fn sets_hosts(alloc: Global, hosts: &Hosts, case: &Case) -> Result<bool, Fail> {
-    let name = Name::from_text(alloc, b"box")?.name;
-    match hosts.addresses(alloc, &name, Family::Any)?.as_slice() {
+/// Whether these are the addresses of `box` in the case.
+fn are_of_box(alloc: Global, addresses: &[Addr], case: &Case) -> Result<bool, Fail> {
+    match addresses {
         [] => Ok(case.host == ""),
         [address] => Ok(net_addr::print(alloc, *address)?.as_slice() == case.host.as_bytes()),
         _ => Ok(false),
     }
 }
 
+/// Whether the address of `box` is that of the case.
+fn sets_hosts(alloc: Global, hosts: &Hosts, case: &Case) -> Result<bool, Fail> {
+    let name = Name::from_text(alloc, b"box")?.name;
+    let addresses = hosts.addresses(alloc, &name, Family::Any)?;
+    are_of_box(alloc, addresses.as_slice(), case)
+}
+
+/// Whether both are as the case has them.
+fn sets(alloc: Global, options: &Options, hosts: &Hosts, case: &Case) -> Result<bool, Fail> {
+    Ok(sets_options(alloc, options, case)? && sets_hosts(alloc, hosts, case)?)
+}
+
+/// Whether these files set what the case has. No other function reads a setting: the clauses of that are long.
+fn set_by(alloc: Global, files: &mut MemFiles, case: &Case) -> Result<bool, Fail> {
+    let (options, hosts) = read_setting(alloc, files)?;
+    sets(alloc, &options, &hosts, case)
+}
+
+/// Whether the files of each case set what it has.
+fn all_set(alloc: Global) -> Result<bool, Fail> {
+    for case in CASES.iter() {
+        if !set_by(alloc, &mut files_of(alloc, case)?, case)? {
+            return Ok(false);
+        }
+    }
+    Ok(true)
+}
+
 #[test]
 fn files_set_a_channel(rt: HostRuntime) -> Result<(), Fail> {
-    let alloc = rt.alloc();
-    for case in CASES.iter() {
-        let (options, hosts) = read_setting(alloc, &mut files_of(alloc, case)?)?;
-        assert!(rt; sets_options(alloc, &options, case)?);
-        assert!(rt; sets_hosts(alloc, &hosts, case)?);
-    }
+    assert!(rt; all_set(rt.alloc())?);
     Ok(())
+}
+
+/// Files of which there is none.
+fn no_files(alloc: Global) -> MemFiles {
+    MemFiles::make(BTreeMap::new(alloc), Vec::new(alloc))
 }
 
 // Without files, all is as `Options::plain` has it, and no host has an address.
 #[test]
 fn no_files_set_nothing(rt: HostRuntime) -> Result<(), Fail> {
-    let alloc = rt.alloc();
-    let mut files = MemFiles::make(BTreeMap::new(alloc), Vec::new(alloc));
-    let (options, hosts) = read_setting(alloc, &mut files)?;
-    assert!(rt; sets_options(alloc, &options, &CASES[3])?);
-    assert!(rt; sets_hosts(alloc, &hosts, &CASES[3])?);
+    assert!(rt; set_by(rt.alloc(), &mut no_files(rt.alloc()), &CASES[3])?);
     Ok(())
 }

@@ -1,38 +1,20 @@
-//! Runs with `--journal`: the book of the run stands in place of the page, and areplay reads it.
+//! Runs with `--journal` whose book is compared byte by byte, or whose page by areplay is given whole. Each other run is made
+//! with the flag too, where it is played.
 
+use super::Case;
 use super::links::{ENDED_LINK, TRUNCATION};
-use super::outside::{Outside, file_of};
+use super::outcome::{booked_outcome, is_told, puts_replayed};
 use super::replies::{ANSWERED_RUN, MIXED_RUN, PRINTED};
 use super::searching::{BACKWARDS, SEARCH};
 use super::statuses::{FAILING_WAIT, NO_TURNS, ONION};
-use super::{Case, Wanted, ended, is_ended, is_put, is_told, outside_of};
-use adig_tool::Ended;
-use net_world::MemSink;
-use scenario::words_of;
 use std::alloc::Global;
 use std::test::Fail;
-
-/// Plays a run with `--journal` before its words.
-fn booked(alloc: Global, case: &Case, outside: &mut Outside) -> Result<Ended, Fail> {
-    let mut words = Vec::new(alloc);
-    words.push("--journal")?;
-    words.extend_from_slice(words_of(alloc, case.run.line)?.as_slice())?;
-    let Outside { files, world, sink } = outside;
-    let turns = case.run.turns;
-    Ok(ended(alloc, words.as_slice(), files, world, sink, turns))
-}
-
-/// Whether a run that was played so leaves what it leaves without the flag, but for what it put.
-fn is_same(alloc: Global, ended: &Ended, outside: &Outside, case: &Case) -> Result<bool, Fail> {
-    let wanted: &Wanted<'_> = &case.wanted;
-    Ok(is_ended(ended, wanted.status, wanted.called) && is_told(alloc, ended, outside, wanted)?)
-}
+use stored_run::page_status;
 
 /// Whether a run with the flag leaves the same, and puts this.
 fn puts(alloc: Global, case: &Case, text: &str) -> Result<bool, Fail> {
-    let mut outside = outside_of(alloc, &case.run)?;
-    let ended = booked(alloc, case, &mut outside)?;
-    Ok(is_same(alloc, &ended, &outside, case)? && is_put(&outside, text))
+    let outcome = booked_outcome(alloc, &case.run)?;
+    Ok(is_told(&outcome, &case.wanted) && outcome.put.as_slice() == text.as_bytes())
 }
 
 /// The book of a name that completes at its Accept, without a turn.
@@ -73,79 +55,82 @@ const PUT: &[(Case, &str)] = &[
     (FAILING_WAIT, "adig: wait fault\n"),
 ];
 
-#[test]
-fn the_book_stands_in_place_of_the_page(rt: HostRuntime) -> Result<(), Fail> {
-    for (case, text) in PUT {
-        assert!(rt; puts(rt.alloc(), case, text)?, "{}", case.shows);
+/// What the first of these runs shows that puts something else; nothing where none does.
+fn first_other<'a>(alloc: Global, rows: &'a [(Case, &'a str)]) -> Result<&'a str, Fail> {
+    for (case, text) in rows {
+        if !puts(alloc, case, text)? {
+            return Ok(case.shows);
+        }
     }
-    Ok(())
+    Ok("")
 }
 
-/// Whether areplay takes this as the text of a lawful run, and puts this.
-fn replays(alloc: Global, book: &[u8], put: &str) -> Result<bool, Fail> {
-    let mut files = file_of(alloc, "run.txt", book)?;
-    let mut sink = MemSink::make(Vec::new(alloc));
-    let status = areplay_tool::run(alloc, &["run.txt"], &mut files, &mut sink);
-    Ok(status == 0 && sink.bytes() == put.as_bytes())
+#[test]
+fn the_book_stands_in_place_of_the_page(rt: HostRuntime) -> Result<(), Fail> {
+    assert_eq!(rt; first_other(rt.alloc(), PUT)?, "");
+    Ok(())
 }
 
 /// Whether a run with the flag leaves the same, and areplay puts this of its book.
 fn is_replayed(alloc: Global, case: &Case, put: &str) -> Result<bool, Fail> {
-    let mut outside = outside_of(alloc, &case.run)?;
-    let ended = booked(alloc, case, &mut outside)?;
-    let is_so = is_same(alloc, &ended, &outside, case)?;
-    Ok(is_so && replays(alloc, outside.sink.bytes(), put)?)
+    let outcome = booked_outcome(alloc, &case.run)?;
+    Ok(is_told(&outcome, &case.wanted) && puts_replayed(alloc, outcome.put.as_slice(), put)?)
 }
 
-/// Whether the page of a run has this line.
-fn has_line(case: &Case, line: &str) -> bool {
-    case.wanted.put.split('\n').any(|other| other == line)
-}
-
-/// Runs, the line of their page that has their status, and what areplay puts of their book: the same status.
+/// Runs, the status that their page has, and what areplay puts of their book: the same status.
 const REPLAYED: &[(Case, &str, &str)] = &[
     (
         ONION,
-        ";; status 4 ENOTFOUND",
+        "4 ENOTFOUND",
         "lawful 3 entries 1 accepted\n1 4 ENOTFOUND\n",
     ),
     (
         ANSWERED,
-        ";; status 0 SUCCESS",
+        "0 SUCCESS",
         "lawful 5 entries 1 accepted\n1 0 SUCCESS\n",
     ),
     (
         MIXED_RUN,
-        ";; status 0 SUCCESS",
+        "0 SUCCESS",
         "lawful 6 entries 1 accepted\n1 0 SUCCESS\n",
     ),
     (
         SEARCH,
-        ";; status 1 ENODATA",
+        "1 ENODATA",
         "lawful 9 entries 1 accepted\n1 1 ENODATA\n",
     ),
     (
         BACKWARDS,
-        ";; status 0 SUCCESS",
+        "0 SUCCESS",
         "lawful 5 entries 1 accepted\n1 0 SUCCESS\n",
     ),
     (
         TRUNCATION,
-        ";; status 0 SUCCESS",
+        "0 SUCCESS",
         "lawful 7 entries 1 accepted\n1 0 SUCCESS\n",
     ),
     (
         ENDED_LINK,
-        ";; status 12 ETIMEOUT",
+        "12 ETIMEOUT",
         "lawful 7 entries 1 accepted\n1 12 ETIMEOUT\n",
     ),
 ];
 
+/// What the first of these runs shows whose page has another status, or whose book is another; nothing where there is none.
+fn first_unlawful<'a>(
+    alloc: Global,
+    rows: &'a [(Case, &'a str, &'a str)],
+) -> Result<&'a str, Fail> {
+    for (case, status, put) in rows {
+        if page_status(case.wanted.put) != *status || !is_replayed(alloc, case, put)? {
+            return Ok(case.shows);
+        }
+    }
+    Ok("")
+}
+
 #[test]
 fn books_are_lawful(rt: HostRuntime) -> Result<(), Fail> {
-    for (case, line, put) in REPLAYED {
-        assert!(rt; has_line(case, line), "{}", case.shows);
-        assert!(rt; is_replayed(rt.alloc(), case, put)?, "{}", case.shows);
-    }
+    assert_eq!(rt; first_unlawful(rt.alloc(), REPLAYED)?, "");
     Ok(())
 }

@@ -1,9 +1,9 @@
 //! Runs with `--cookie`: queries with a DNS cookie (RFC 7873), and replies that teach one, ask for one, or lack it.
 
-use super::outside::outside_of;
+use super::outcome::{is_left, outcome_of};
 use super::replies::ANSWERED_RUN;
-use super::{REPLY, RUN, Scenario, Sent, Wanted, is_ended, is_put, is_told, played};
-use scenario::{Coming, sent_in};
+use super::{REPLY, RUN, Scenario, Sent, Wanted};
+use scenario::Coming;
 use std::alloc::Global;
 use std::test::Fail;
 
@@ -183,11 +183,8 @@ fn leaves_with_cookies(
     run: &Scenario<'_>,
     wanted: &Wanted<'_>,
 ) -> Result<bool, Fail> {
-    let mut outside = outside_of(alloc, run)?;
-    let ended = played(alloc, run, &mut outside)?;
-    let sent = sent_in(alloc, ended.outer.as_slice())?;
-    let is_so = is_ended(&ended, wanted.status, wanted.called) && is_put(&outside, wanted.put);
-    Ok(is_so && sent.as_slice() == QUERY && is_told(alloc, &ended, &outside, wanted)?)
+    let outcome = outcome_of(alloc, run)?;
+    Ok(outcome.outer_sent.as_slice() == QUERY && is_left(&outcome, wanted))
 }
 
 #[test]
@@ -217,8 +214,6 @@ fn a_forged_reply_is_dropped(rt: HostRuntime) -> Result<(), Fail> {
 /// Without the flag there is no network with cookies, and so none of its calls.
 #[test]
 fn without_the_flag_there_is_no_cookie(rt: HostRuntime) -> Result<(), Fail> {
-    let mut outside = outside_of(rt.alloc(), &ANSWERED_RUN)?;
-    let ended = played(rt.alloc(), &ANSWERED_RUN, &mut outside)?;
-    assert!(rt; ended.outer.as_slice().is_empty());
+    assert_eq!(rt; outcome_of(rt.alloc(), &ANSWERED_RUN)?.outer_count, 0);
     Ok(())
 }

@@ -1,21 +1,16 @@
 //! Where a run is over its network isn't called any more: its calls are counted, those that no line tells among them.
 
-use super::outside::Outside;
+use super::outcome::{is_left, outcome_of};
 use super::replies::PRINTED;
 use super::statuses::NOT_FOUND;
-use super::{Case, RUN, Scenario, Sent, Wanted, leaves_in, outside_of};
+use super::{Case, RUN, Scenario, Sent, Wanted};
 use std::alloc::Global;
 use std::test::Fail;
 
 /// Whether a run leaves this, and its network was called so often.
 fn calls_so_often(alloc: Global, case: &Case, count: usize) -> Result<bool, Fail> {
-    calls_in(alloc, case, &mut outside_of(alloc, &case.run)?, count)
-}
-
-/// The same of a run that is lent this.
-fn calls_in(alloc: Global, case: &Case, outside: &mut Outside, count: usize) -> Result<bool, Fail> {
-    let is_so = leaves_in(alloc, &case.run, outside, &case.wanted)?;
-    Ok(is_so && outside.world.log().calls().len() == count)
+    let outcome = outcome_of(alloc, &case.run)?;
+    Ok(outcome.count == count && is_left(&outcome, &case.wanted))
 }
 
 /// The second wait fails. It is call 12, from 0: before it stand a serve, and two times the clock, a receive, a word, a send

@@ -1,38 +1,58 @@
 //! What a run reads and puts: the resolv.conf of the words once, whole, and its text once; nothing else.
 
+use super::outcome::outcome_in;
 use super::outside::{Outside, outside_of};
-use super::replies::{ANSWERED_RUN, PRINTED};
-use super::{RUN, Scenario, played};
-use item_list::Bytes;
+use super::replies::{ANSWERED_RUN, PAGE};
+use super::{RUN, Scenario};
 use net_world::{FileRead, PutEnd};
 use std::alloc::Global;
 use std::test::Fail;
 
-/// The one read of a run, of 65,536 bytes at most, and its one put.
-#[derive(Drop)]
-struct Outgoing<'a> {
-    path: &'a str,
-    read: FileRead,
-    text: &'a str,
+/// What a read gives.
+#[derive(Clone, Copy)]
+enum Given {
+    Absent,
+    Content(&'static [u8]),
+    Failed,
+}
+
+/// A run, its one read, of 65,536 bytes at most, and its one put.
+#[derive(Clone, Copy)]
+struct Row {
+    run: Scenario<'static>,
+    path: &'static str,
+    given: Given,
+    text: &'static str,
     end: PutEnd,
 }
 
 /// Whether a run makes this read and this put, and no other.
-fn makes(alloc: Global, scenario: &Scenario<'_>, wanted: &Outgoing<'_>) -> Result<bool, Fail> {
-    let mut outside = outside_of(alloc, scenario)?;
-    played(alloc, scenario, &mut outside)?;
-    Ok(
-        reads_once(&outside, wanted.path, &wanted.read)
-            && puts_once(&outside, wanted.text, wanted.end),
-    )
+fn makes(alloc: Global, row: &Row) -> Result<bool, Fail> {
+    makes_in(alloc, row, &mut outside_of(alloc, &row.run)?)
+}
+
+/// The same of a run that is lent this.
+fn makes_in(alloc: Global, row: &Row, outside: &mut Outside) -> Result<bool, Fail> {
+    outcome_in(alloc, &row.run, outside)?;
+    Ok(reads_once(outside, row.path, row.given) && puts_once(outside, row.text, row.end))
 }
 
 /// Whether this was read, and nothing else.
-fn reads_once(outside: &Outside, path: &str, read: &FileRead) -> bool {
+fn reads_once(outside: &Outside, path: &str, given: Given) -> bool {
     match outside.files.reads() {
         [call] => call.path.as_slice() == path.as_bytes()
             && call.most == 65_536
-            && call.read == *read,
+            && is_given(&call.read, given),
+        _ => false,
+    }
+}
+
+/// Whether a read gave this.
+fn is_given(read: &FileRead, given: Given) -> bool {
+    match (read, given) {
+        (FileRead::Absent, Given::Absent) => true,
+        (FileRead::Content(bytes), Given::Content(wanted)) => bytes.as_slice() == wanted,
+        (FileRead::Failed, Given::Failed) => true,
         _ => false,
     }
 }
@@ -46,78 +66,84 @@ fn puts_once(outside: &Outside, text: &str, end: PutEnd) -> bool {
 }
 
 /// There is no file, and the page is put.
+const ABSENT: Row = Row {
+    run: ANSWERED_RUN,
+    path: "/etc/resolv.conf",
+    given: Given::Absent,
+    text: PAGE,
+    end: PutEnd::Done,
+};
+
 #[test]
 fn an_absent_file_is_read_once(rt: HostRuntime) -> Result<(), Fail> {
-    let wanted = Outgoing {
-        path: "/etc/resolv.conf",
-        read: FileRead::Absent,
-        text: PRINTED.put,
-        end: PutEnd::Done,
-    };
-    assert!(rt; makes(rt.alloc(), &ANSWERED_RUN, &wanted)?);
+    assert!(rt; makes(rt.alloc(), &ABSENT)?);
     Ok(())
 }
 
 /// The file is read whole, in one read; a domain has no effect on a name without `--search`.
-#[test]
-fn a_file_is_read_whole(rt: HostRuntime) -> Result<(), Fail> {
-    let scenario = Scenario {
+const WHOLE: Row = Row {
+    run: Scenario {
         resolv: Some(b"domain lan.test\n"),
         ..ANSWERED_RUN
-    };
-    let wanted = Outgoing {
-        path: "/etc/resolv.conf",
-        read: FileRead::Content(Bytes::of(rt.alloc(), b"domain lan.test\n")?),
-        text: PRINTED.put,
-        end: PutEnd::Done,
-    };
-    assert!(rt; makes(rt.alloc(), &scenario, &wanted)?);
+    },
+    given: Given::Content(b"domain lan.test\n"),
+    ..ABSENT
+};
+
+#[test]
+fn a_file_is_read_whole(rt: HostRuntime) -> Result<(), Fail> {
+    assert!(rt; makes(rt.alloc(), &WHOLE)?);
     Ok(())
 }
 
 /// The file that the words name is read in place of `/etc/resolv.conf`.
-#[test]
-fn the_words_name_the_file(rt: HostRuntime) -> Result<(), Fail> {
-    let scenario = Scenario {
+const NAMED: Row = Row {
+    run: Scenario {
         line: "--resolv other --server 192.0.2.53 --no-edns example.com",
         resolv: Some(b"domain lan.test\n"),
         ..ANSWERED_RUN
-    };
-    let wanted = Outgoing {
-        path: "other",
-        read: FileRead::Absent,
-        text: PRINTED.put,
-        end: PutEnd::Done,
-    };
-    assert!(rt; makes(rt.alloc(), &scenario, &wanted)?);
+    },
+    path: "other",
+    ..ABSENT
+};
+
+#[test]
+fn the_words_name_the_file(rt: HostRuntime) -> Result<(), Fail> {
+    assert!(rt; makes(rt.alloc(), &NAMED)?);
     Ok(())
 }
 
 /// A read that fails isn't made again, and neither is a put: each stands there once, as failed.
-#[test]
-fn what_fails_is_not_tried_again(rt: HostRuntime) -> Result<(), Fail> {
-    let scenario = Scenario {
+const FAILED: Row = Row {
+    run: Scenario {
         read_fails: &[0],
         put_fails: &[0],
         ..RUN
-    };
-    let wanted = Outgoing {
-        path: "/etc/resolv.conf",
-        read: FileRead::Failed,
-        text: "adig: file fault\n",
-        end: PutEnd::Failed,
-    };
-    assert!(rt; makes(rt.alloc(), &scenario, &wanted)?);
+    },
+    path: "/etc/resolv.conf",
+    given: Given::Failed,
+    text: "adig: file fault\n",
+    end: PutEnd::Failed,
+};
+
+#[test]
+fn what_fails_is_not_tried_again(rt: HostRuntime) -> Result<(), Fail> {
+    assert!(rt; makes(rt.alloc(), &FAILED)?);
     Ok(())
+}
+
+/// A run without words.
+const WORDLESS: Scenario<'static> = Scenario { line: "", ..RUN };
+
+/// Whether a run without words reads nothing, and puts one line.
+fn reads_nothing(alloc: Global, outside: &mut Outside) -> Result<bool, Fail> {
+    outcome_in(alloc, &WORDLESS, outside)?;
+    Ok(outside.files.reads().is_empty() && puts_once(outside, "adig: usage\n", PutEnd::Done))
 }
 
 /// Refused words read nothing, and put one line.
 #[test]
 fn refused_words_read_nothing(rt: HostRuntime) -> Result<(), Fail> {
-    let scenario = Scenario { line: "", ..RUN };
-    let mut outside = outside_of(rt.alloc(), &scenario)?;
-    played(rt.alloc(), &scenario, &mut outside)?;
-    assert!(rt; outside.files.reads().is_empty());
-    assert!(rt; puts_once(&outside, "adig: usage\n", PutEnd::Done));
+    assert!(rt; reads_nothing(rt.alloc(), &mut outside_of(rt.alloc(), &WORDLESS)?)?);
     Ok(())
 }

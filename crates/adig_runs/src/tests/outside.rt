@@ -40,14 +40,6 @@ fn named(alloc: Global, resolv: Option<&[u8]>) -> Result<BTreeMap<String, Bytes>
     Ok(files)
 }
 
-/// Files of which there is one, of this path, with these bytes.
-pub fn file_of(alloc: Global, path: &str, bytes: &[u8]) -> Result<MemFiles, Fail> {
-    let mut files = BTreeMap::new(alloc);
-    let path = String::from_str(alloc, path)?;
-    add_file(&mut files, path, Bytes::of(alloc, bytes)?)?;
-    Ok(MemFiles::make(files, Vec::new(alloc)))
-}
-
 /// Adds a resolv.conf with these bytes.
 fn add_resolv(
     alloc: Global,

@@ -1,6 +1,7 @@
 //! Pages: every section, an OPT record, a type without a shape, and each response code.
 
-use super::{RUN, Scenario, Sent, comes, has_sent, is_put, outside_of, played};
+use super::outcome::outcome_of;
+use super::{RUN, Scenario, comes};
 use scenario::Coming;
 use std::alloc::Global;
 use std::test::Fail;
@@ -69,10 +70,12 @@ const PAGES: &[Page] = &[SECTIONS, BADVERS, NODATA, FORMERR, NOTFOUND];
 /// Whether a run with this on its network ends with the page's status, puts its text, and has sent so many bytes.
 fn is_page(alloc: Global, comings: &[Coming<'_>], page: &Page, sent: usize) -> Result<bool, Fail> {
     let scenario = Scenario { comings, ..RUN };
-    let mut outside = outside_of(alloc, &scenario)?;
-    let ended = played(alloc, &scenario, &mut outside)?;
-    let is_so = ended.status == page.status && is_put(&outside, page.text);
-    Ok(is_so && has_sent(alloc, &outside, Sent::Last(sent, b""))?)
+    let outcome = outcome_of(alloc, &scenario)?;
+    Ok(
+        outcome.status == page.status
+            && outcome.put.as_slice() == page.text.as_bytes()
+            && outcome.sent.len() == sent,
+    )
 }
 
 /// Whether a run that gets the message puts the page, and has asked once.

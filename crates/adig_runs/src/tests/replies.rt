@@ -8,7 +8,7 @@ use std::test::Fail;
 pub const QUERY: &[u8] = b"\x12\x34\x01\0\0\x01\0\0\0\0\0\0\x07example\x03com\0\0\x01\0\x01";
 
 /// Its page.
-const PAGE: &str = ";; example.com IN A
+pub const PAGE: &str = ";; example.com IN A
 ;; status 0 SUCCESS
 ;; id 4660 rcode 0 flags qr rd ra
 ;; ANSWER

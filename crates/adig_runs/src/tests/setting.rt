@@ -1,8 +1,8 @@
 //! What words and resolv.conf set: each option by what goes over the network.
 
-use super::{Outside, RUN, Scenario, Sent, has_called, has_sent, is_ended, outside_of, played};
-use adig_tool::Ended;
-use scenario::{Coming, Shown, calls_told, journal_told};
+use super::outcome::outcome_of;
+use super::{RUN, Scenario};
+use scenario::Coming;
 use std::alloc::Global;
 use std::test::Fail;
 
@@ -22,9 +22,13 @@ options ndots:99 timeout:0 attempts:77 rotate
 
 /// How many lines of the text begin so.
 fn lines_with(text: &str, front: &str) -> usize {
-    text.split('\n')
-        .filter(|line| line.starts_with(front))
-        .count()
+    let mut count = 0usize;
+    for line in text.split('\n') {
+        if line.starts_with(front) {
+            count = count.saturating_add(1);
+        }
+    }
+    count
 }
 
 /// Whether eight servers are told, each of them is asked ten times, and the first attempt waits for 2 seconds.
@@ -35,13 +39,6 @@ fn are_limited(journal: &str, calls: &str) -> bool {
         && journal.starts_with("accept 1\nstart 1 on 0 over 0 at 0\nexpire 1 at 2000\n")
 }
 
-/// Whether a run tells so.
-fn tells_limits(alloc: Global, ended: &Ended, outside: &Outside) -> Result<bool, Fail> {
-    let journal = journal_told(alloc, ended.journal.entries())?;
-    let calls = calls_told(alloc, outside.world.log().calls(), Shown::Servers)?;
-    Ok(are_limited(journal.as_str(), calls.as_str()))
-}
-
 /// Whether a run with the nine servers tells so, and is no success.
 fn is_kept_within_limits(alloc: Global) -> Result<bool, Fail> {
     let scenario = Scenario {
@@ -49,9 +46,12 @@ fn is_kept_within_limits(alloc: Global) -> Result<bool, Fail> {
         resolv: Some(NINE),
         ..RUN
     };
-    let mut outside = outside_of(alloc, &scenario)?;
-    let ended = played(alloc, &scenario, &mut outside)?;
-    Ok(is_ended(&ended, 1, 1) && tells_limits(alloc, &ended, &outside)?)
+    let outcome = outcome_of(alloc, &scenario)?;
+    Ok(
+        outcome.status == 1
+            && outcome.called == 1
+            && are_limited(outcome.journal.as_str(), outcome.calls.as_str()),
+    )
 }
 
 #[test]
@@ -71,9 +71,7 @@ fn calls_so(alloc: Global, line: &str, calls: &str) -> Result<bool, Fail> {
         turns: 1,
         ..RUN
     };
-    let mut outside = outside_of(alloc, &scenario)?;
-    played(alloc, &scenario, &mut outside)?;
-    has_called(alloc, &outside, calls)
+    Ok(outcome_of(alloc, &scenario)?.calls.as_str() == calls)
 }
 
 /// The words, and the servers, links and waits that come of them and of the file.
@@ -144,9 +142,7 @@ fn sends_so(alloc: Global, line: &str, bytes: &[u8]) -> Result<bool, Fail> {
         turns: 1,
         ..RUN
     };
-    let mut outside = outside_of(alloc, &scenario)?;
-    played(alloc, &scenario, &mut outside)?;
-    has_sent(alloc, &outside, Sent::All(bytes))
+    Ok(outcome_of(alloc, &scenario)?.sent.as_slice() == bytes)
 }
 
 /// The first of these words that send something else; nothing where none do.
@@ -209,14 +205,8 @@ const COUNTS: &[(Scenario<'static>, &str)] = &[
 
 /// Whether a run prints a page that begins so, behind one query of 19 bytes.
 fn begins_so(alloc: Global, scenario: &Scenario<'_>, front: &str) -> Result<bool, Fail> {
-    let mut outside = outside_of(alloc, scenario)?;
-    played(alloc, scenario, &mut outside)?;
-    Ok(puts_front(&outside, front) && has_sent(alloc, &outside, Sent::Last(19, b""))?)
-}
-
-/// Whether what was put begins so.
-fn puts_front(outside: &Outside, front: &str) -> bool {
-    outside.sink.bytes().starts_with(front.as_bytes())
+    let outcome = outcome_of(alloc, scenario)?;
+    Ok(outcome.put.starts_with(front.as_bytes()) && outcome.sent.len() == 19)
 }
 
 /// The words of the first of these runs whose page begins otherwise; nothing where none does.

@@ -1,14 +1,13 @@
-//! Runs that put their book in place of the page: its text, and what areplay says of it.
+//! Runs that put their book in place of the page: its text, and what areplay says of it. Each other run is made with the flag
+//! too, where it is played.
 
 use super::names::A_RESOLV_CONF_NAMES_THE_SERVER;
-use super::outside::Outside;
+use super::outcome::{booked_outcome, is_left, is_told, plain_outcome, puts_replayed};
+use super::outside::{Outside, outside_of};
 use super::reentry::{A_DESTROYED_CHANNEL_REFUSES, A_REQUEST_ASKED_DURING_A_CANCEL_STAYS};
 use super::servers::SERVERS_ARE_SET_BEHIND_THE_FIRST_TURN;
-use super::{Case, RUN, Scenario, Wanted, is_told, leaves, outside_of, played};
-use item_list::Bytes;
-use net_world::{MemFiles, MemSink};
+use super::{Case, RUN, Scenario, Wanted};
 use std::alloc::Global;
-use std::collections::BTreeMap;
 use std::test::Fail;
 
 /// A reply to `1.2.0.192.in-addr.arpa.` PTR: `host.test.`, for 60 seconds (RFC 1035, section 3.3.12).
@@ -78,23 +77,31 @@ const A_STALLED_RUN_PUTS_ITS_LINE: Case = Case {
 /// Runs whose text is known.
 const TEXTS: &[Case] = &[A_RUN_IS_PUT_AS_TEXT, A_STALLED_RUN_PUTS_ITS_LINE];
 
+/// Whether a run leaves this whose words have the flag already.
+fn leaves_once(alloc: Global, case: &Case, outside: &mut Outside) -> Result<bool, Fail> {
+    Ok(is_left(&plain_outcome(alloc, &case.run, outside)?, &case.wanted))
+}
+
+/// What the first of these runs shows that leaves something else; nothing where none does.
+fn first_other<'a>(alloc: Global, cases: &'a [Case]) -> Result<&'a str, Fail> {
+    for case in cases {
+        if !leaves_once(alloc, case, &mut outside_of(alloc, &case.run)?)? {
+            return Ok(case.shows);
+        }
+    }
+    Ok("")
+}
+
 #[test]
 fn books_are_put(rt: HostRuntime) -> Result<(), Fail> {
-    for case in TEXTS {
-        assert!(rt;
-            leaves(rt.alloc(), &case.run, &case.wanted)?,
-            "{}",
-            case.shows
-        );
-    }
+    assert_eq!(rt; first_other(rt.alloc(), TEXTS)?, "");
     Ok(())
 }
 
-/// A run that is known without its book, its words with `--journal` in front, and what areplay puts of the book.
+/// A run that is known without its book, and what areplay puts of the book.
 #[derive(Clone, Copy)]
 struct Row {
     case: Case,
-    line: &'static str,
     replayed: &'static str,
 }
 
@@ -103,12 +110,10 @@ struct Row {
 const ROWS: &[Row] = &[
     Row {
         case: A_RESOLV_CONF_NAMES_THE_SERVER,
-        line: "--journal localhost",
         replayed: "lawful 3 entries 1 accepted\n1 0 SUCCESS\n",
     },
     Row {
         case: A_REQUEST_ASKED_DURING_A_CANCEL_STAYS,
-        line: "--journal --server 192.0.2.53 --no-edns --family 4 x.test. y.test. z.test. 192.0.2.1",
         replayed: "lawful 14 entries 5 accepted
 1 24 ECANCELLED
 2 24 ECANCELLED
@@ -119,56 +124,35 @@ const ROWS: &[Row] = &[
     },
     Row {
         case: A_DESTROYED_CHANNEL_REFUSES,
-        line: "--journal --server 192.0.2.53 --no-edns --family 4 x.test. y.test. z.test.",
         replayed: "lawful 11 entries 3 accepted\n1 0 SUCCESS\n2 16 EDESTRUCTION\n3 16 EDESTRUCTION\n",
     },
     Row {
         case: SERVERS_ARE_SET_BEHIND_THE_FIRST_TURN,
-        line: "--journal --server 192.0.2.1,192.0.2.2 --tries 2 --family 4 --then 192.0.2.2,192.0.2.3 x.test.",
         replayed: "lawful 13 entries 1 accepted\n1 12 ETIMEOUT\n",
     },
 ];
 
-#[test]
-fn books_are_replayed(rt: HostRuntime) -> Result<(), Fail> {
-    for row in ROWS {
-        assert!(rt; is_replayed(rt.alloc(), row)?, "{}", row.case.shows);
-    }
-    Ok(())
-}
-
 /// Whether the run leaves with its book what it leaves without, but for its text, and areplay puts this of that.
 fn is_replayed(alloc: Global, row: &Row) -> Result<bool, Fail> {
-    let mut scenario = row.case.run;
-    scenario.line = row.line;
-    is_replayed_in(alloc, &scenario, &mut outside_of(alloc, &scenario)?, row)
+    let outcome = booked_outcome(alloc, &row.case.run)?;
+    Ok(
+        is_told(&outcome, &row.case.wanted)
+            && puts_replayed(alloc, outcome.put.as_slice(), row.replayed)?,
+    )
 }
 
-/// The same of a run that is lent this.
-fn is_replayed_in(
-    alloc: Global,
-    scenario: &Scenario<'_>,
-    outside: &mut Outside,
-    row: &Row,
-) -> Result<bool, Fail> {
-    let ended = played(alloc, scenario, outside)?;
-    let wanted = &row.case.wanted;
-    let same = ended.status == wanted.status && is_told(alloc, &ended, outside, wanted)?;
-    Ok(same && replays(alloc, outside.sink.bytes(), row.replayed)?)
+/// What the first of these runs shows of which that isn't so; nothing where it is of each.
+fn first_unlawful<'a>(alloc: Global, rows: &'a [Row]) -> Result<&'a str, Fail> {
+    for row in rows {
+        if !is_replayed(alloc, row)? {
+            return Ok(row.case.shows);
+        }
+    }
+    Ok("")
 }
 
-/// Whether areplay finds the run of this text lawful, and puts this.
-fn replays(alloc: Global, text: &[u8], page: &str) -> Result<bool, Fail> {
-    let mut files = file_of(alloc, text)?;
-    let mut sink = MemSink::make(Vec::new(alloc));
-    let status = areplay_tool::run(alloc, &["run.txt"], &mut files, &mut sink);
-    Ok(status == 0 && sink.bytes() == page.as_bytes())
-}
-
-/// Files of which `run.txt` has this text.
-fn file_of(alloc: Global, text: &[u8]) -> Result<MemFiles, Fail> {
-    let mut files = BTreeMap::new(alloc);
-    let path = String::from_str(alloc, "run.txt")?;
-    files.insert(path, Bytes::of(alloc, text)?)?;
-    Ok(MemFiles::make(files, Vec::new(alloc)))
+#[test]
+fn books_are_replayed(rt: HostRuntime) -> Result<(), Fail> {
+    assert_eq!(rt; first_unlawful(rt.alloc(), ROWS)?, "");
+    Ok(())
 }

@@ -5,7 +5,7 @@ ghost use Rattle.std.specs.Prelude.{◌≡◌, IfOk, None};
 use super::bodies::report_script;
 use super::outside::outside_of;
 use super::{RUN, Scenario};
-use ahost_tool::run_boxed;
+use ahost_tool::{run_boxed, run_returning_bodies};
 use chan_types::{Addr, Answer, Refusal, Script};
 use completion_ticket::{Done, Hand, Scripted};
 use item_list::NoMemory;
@@ -98,27 +98,30 @@ fn noted(record: &Record) -> [u64; 5] {
     ]
 }
 
-/// A body that writes into the record.
-fn recording_body(alloc: Global, record: &Arc<Record, Global>) -> Result<Recorder, Fail>
+/// A body that writes into the record, with a script of this tag.
+fn recording_body(alloc: Global, record: &Arc<Record, Global>, tag: u64) -> Result<Recorder, Fail>
     ensures { IfOk result (λ body. body.inner.told ≡ None) }
 {
     Ok(Recorder {
-        inner: Scripted::new(report_script(alloc, 0)?),
+        inner: Scripted::new(report_script(alloc, tag)?),
         record: Arc::try_clone(record)?,
     })
+}
+
+/// What three boxes of a run were told, the first two of which have a name.
+fn notes_of_boxes(alloc: Global) -> Result<[[u64; 5]; 3], Fail> {
+    let first = blank_record(alloc)?;
+    let second = blank_record(alloc)?;
+    let third = blank_record(alloc)?;
+    run_with(alloc, &first, &second, &third)?;
+    Ok([noted(&first), noted(&second), noted(&third)])
 }
 
 /// Two boxes are called once each, with their requests' answers; a third, for which there is no name, isn't called.
 #[test]
 fn each_box_is_called_once(rt: HostRuntime) -> Result<(), Fail> {
-    let alloc = rt.alloc();
-    let first = blank_record(alloc)?;
-    let second = blank_record(alloc)?;
-    let third = blank_record(alloc)?;
-    run_with(alloc, &first, &second, &third)?;
-    assert_eq!(rt; noted(&first), [1, 1, 0, 1, 0xc000_0201]);
-    assert_eq!(rt; noted(&second), [1, 2, 4, 0, 0]);
-    assert_eq!(rt; noted(&third), [0, 0, 0, 0, 0]);
+    let wanted = [[1, 1, 0, 1, 0xc000_0201], [1, 2, 4, 0, 0], [0, 0, 0, 0, 0]];
+    assert!(rt; notes_of_boxes(rt.alloc())? == wanted);
     Ok(())
 }
 
@@ -130,9 +133,9 @@ fn run_with(
     third: &Arc<Record, Global>,
 ) -> Result<(), Fail> {
     let mut boxes: Vec<Box<dyn Done + Send + Drop>> = Vec::new(alloc);
-    boxes.push(Box::new(alloc, recording_body(alloc, first)?)?)?;
-    boxes.push(Box::new(alloc, recording_body(alloc, second)?)?)?;
-    boxes.push(Box::new(alloc, recording_body(alloc, third)?)?)?;
+    boxes.push(Box::new(alloc, recording_body(alloc, first, 0)?)?)?;
+    boxes.push(Box::new(alloc, recording_body(alloc, second, 0)?)?)?;
+    boxes.push(Box::new(alloc, recording_body(alloc, third, 0)?)?)?;
     let scenario = Scenario {
         line: "192.0.2.1 x.onion",
         ..RUN
@@ -149,4 +152,80 @@ fn run_with(
         scenario.turns,
     );
     Ok(())
+}
+
+/// What a box says of itself: the tag of its script, and the number of the answer that it was told, or 0.
+type Said = (u64, u64);
+
+/// A run with three boxes, and what they say when they are back: each box that has a name was told the answer of its name's
+/// request, whatever its callback or another one commanded.
+#[derive(Clone, Copy)]
+struct Return {
+    shows: &'static str,
+    line: &'static str,
+    said: [Said; 3],
+}
+
+const RETURNS: &[Return] = &[
+    Return {
+        shows: "a box for which there is no name isn't told",
+        line: "192.0.2.1 x.onion",
+        said: [(7, 1), (8, 2), (9, 0)],
+    },
+    Return {
+        shows: "the third name completes first, and destroys the channel: the others are told so",
+        line: "--server 192.0.2.53 --family 4 --quit x.test. y.test. 192.0.2.1",
+        said: [(7, 1), (8, 2), (9, 3)],
+    },
+    Return {
+        shows: "a request that a callback asks has no box",
+        line: "--server 192.0.2.53 --no-edns --tries 1 --follow 192.0.2.1 x.onion",
+        said: [(7, 1), (8, 2), (9, 0)],
+    },
+    Return {
+        shows: "words that are refused ask nothing",
+        line: "--unknown 192.0.2.1",
+        said: [(7, 0), (8, 0), (9, 0)],
+    },
+    Return {
+        shows: "so do more names than there are boxes",
+        line: "192.0.2.1 192.0.2.2 192.0.2.3 192.0.2.4",
+        said: [(7, 0), (8, 0), (9, 0)],
+    },
+];
+
+#[test]
+fn boxes_come_back(rt: HostRuntime) -> Result<(), Fail> {
+    let alloc = rt.alloc();
+    for case in RETURNS {
+        let said = said_by_boxes(alloc, case.line)?;
+        assert!(rt; said.as_slice() == case.said.as_slice(), "{}", case.shows);
+    }
+    Ok(())
+}
+
+/// What three boxes say that a run with these words gave back, in their order.
+fn said_by_boxes(alloc: Global, line: &'static str) -> Result<Vec<Said>, Fail> {
+    let record = blank_record(alloc)?;
+    let mut boxes: Vec<Box<dyn Done + Send + Drop>> = Vec::new(alloc);
+    boxes.push(Box::new(alloc, recording_body(alloc, &record, 7)?)?)?;
+    boxes.push(Box::new(alloc, recording_body(alloc, &record, 8)?)?)?;
+    boxes.push(Box::new(alloc, recording_body(alloc, &record, 9)?)?)?;
+    let scenario = Scenario { line, ..RUN };
+    let words = words_of(alloc, scenario.line)?;
+    let mut outside = outside_of(alloc, &scenario)?;
+    let (_, back) = run_returning_bodies(
+        alloc,
+        words.as_slice(),
+        boxes,
+        &mut outside.files,
+        &mut outside.world,
+        &mut outside.sink,
+        scenario.turns,
+    );
+    let mut said = Vec::new(alloc);
+    for body in back.as_slice() {
+        said.push((body.script().tag(), body.called().unwrap_or(0)))?;
+    }
+    Ok(said)
 }

@@ -1,9 +1,9 @@
 //! Runs of a load, over the network that they make: neither a file nor the network that they are given has a part in them.
 
 use super::bodies::Bodies;
-use super::outside::Outside;
-use super::{RUN, Scenario, has_called, is_put, outside_of, played};
-use chan_types::{Entry, What};
+use super::outcome::{is_refused_with_book, outcome_of, status_in};
+use super::outside::{Outside, outside_of};
+use super::{RUN, Scenario};
 use std::alloc::Global;
 use std::test::Fail;
 
@@ -24,7 +24,7 @@ fn puts(alloc: Global, line: &str, bodies: u64, status: u8, text: &str) -> Resul
     )
 }
 
-/// The same of a run that is lent this.
+/// The same of a run that is lent this: its network isn't called, and with `--journal` its words are refused.
 fn puts_in(
     alloc: Global,
     scenario: &Scenario<'_>,
@@ -32,13 +32,13 @@ fn puts_in(
     status: u8,
     text: &str,
 ) -> Result<bool, Fail> {
-    let is_so = status_of(alloc, scenario, outside)? == status && is_put(outside, text);
-    Ok(is_so && has_called(alloc, outside, "")?)
-}
-
-/// The exit status of a run.
-fn status_of(alloc: Global, scenario: &Scenario<'_>, outside: &mut Outside) -> Result<u8, Fail> {
-    Ok(played(alloc, scenario, outside)?.status)
+    let found = status_in(alloc, scenario, outside)?;
+    Ok(
+        found == status
+            && outside.sink.bytes() == text.as_bytes()
+            && outside.world.log().calls().is_empty()
+            && is_refused_with_book(alloc, scenario)?,
+    )
 }
 
 /// The summary of twelve names: every fourth isn't there, and one first query in three is lost.
@@ -100,45 +100,10 @@ fn loads_are_refused(rt: HostRuntime) -> Result<(), Fail> {
     Ok(())
 }
 
-/// The lines of the attempts that a journal notes: which request's, by which identifier, when, and which of them expired.
-fn attempts_told(alloc: Global, entries: &[Entry]) -> Result<String, Fail> {
-    let mut text = String::new(alloc);
-    for entry in entries {
-        text.push_str(attempt_told(alloc, &entry.what)?.as_str())?;
-    }
-    Ok(text)
-}
-
-/// The line of an entry, if it begins an attempt, or ends one by its deadline.
-fn attempt_told(alloc: Global, what: &What) -> Result<String, Fail> {
-    Ok(match what {
-        What::Start {
-            number,
-            id,
-            moment,
-            ..
-        } => format!(in alloc; "start {number} by {id} at {moment}\n")?,
-        What::Expire { number, moment, .. } => format!(in alloc; "expire {number} at {moment}\n")?,
-        _ => String::new(alloc),
-    })
-}
-
-/// Whether a load makes these attempts.
+/// Whether a load makes these attempts: which request's, by which identifier, when, and which of them expired.
 fn attempts(alloc: Global, line: &str, lines: &str) -> Result<bool, Fail> {
     let scenario = Scenario { line, ..RUN };
-    attempts_in(alloc, &scenario, &mut outside_of(alloc, &scenario)?, lines)
-}
-
-/// The same of a run that is lent this.
-fn attempts_in(
-    alloc: Global,
-    scenario: &Scenario<'_>,
-    outside: &mut Outside,
-    lines: &str,
-) -> Result<bool, Fail> {
-    let ended = played(alloc, scenario, outside)?;
-    let told = attempts_told(alloc, ended.journal.entries())?;
-    Ok(told.as_str() == lines)
+    Ok(outcome_of(alloc, &scenario)?.attempts.as_str() == lines)
 }
 
 /// The attempts of eight names by seed 7. Word i is 40503 i + 7, modulo 65536: words 0 to 7 are the identifiers of the first

@@ -1,6 +1,6 @@
 //! Names that are answered at once, and what is found by following them.
 
-use super::{Case, RUN, Scenario, Wanted, leaves};
+use super::{Case, RUN, Scenario, Wanted, first_wrong};
 use std::test::Fail;
 
 /// A hosts file as systems write it: `localhost` has an address of each family.
@@ -217,13 +217,7 @@ const AT_ONCE: &[Case] = &[
 
 #[test]
 fn names_are_answered_at_once(rt: HostRuntime) -> Result<(), Fail> {
-    for case in AT_ONCE {
-        assert!(rt;
-            leaves(rt.alloc(), &case.run, &case.wanted)?,
-            "{}",
-            case.shows
-        );
-    }
+    assert_eq!(rt; first_wrong(rt.alloc(), AT_ONCE)?, "");
     Ok(())
 }
 
@@ -236,12 +230,6 @@ const COMMANDED: &[Case] = &[
 
 #[test]
 fn callbacks_command(rt: HostRuntime) -> Result<(), Fail> {
-    for case in COMMANDED {
-        assert!(rt;
-            leaves(rt.alloc(), &case.run, &case.wanted)?,
-            "{}",
-            case.shows
-        );
-    }
+    assert_eq!(rt; first_wrong(rt.alloc(), COMMANDED)?, "");
     Ok(())
 }

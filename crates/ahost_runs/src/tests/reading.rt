@@ -1,9 +1,10 @@
 //! Which files a run reads, in which order and with which limits, and what it puts, call by call.
 
-use super::outside::Outside;
+use super::outcome::outcome_in;
+use super::outside::{Outside, outside_of};
 use super::statuses::{AT_ONCE, SILENT};
 use super::telling::{puts_told, reads_told};
-use super::{RUN, Scenario, outside_of, played};
+use super::{RUN, Scenario};
 use std::alloc::Global;
 use std::test::Fail;
 
@@ -120,16 +121,24 @@ fn makes_these(alloc: Global, row: &Row) -> Result<bool, Fail> {
 
 /// The same of a run that is lent this.
 fn makes_in(alloc: Global, row: &Row, outside: &mut Outside) -> Result<bool, Fail> {
-    played(alloc, &row.run, outside)?;
+    outcome_in(alloc, &row.run, outside)?;
     let reads = reads_told(alloc, outside.files.reads())?;
     let puts = puts_told(alloc, outside.sink.puts())?;
     Ok(reads.as_slice() == row.reads.as_bytes() && puts.as_slice() == row.puts.as_bytes())
 }
 
+/// What the first of these runs shows that makes others; nothing where none does.
+fn first_other<'a>(alloc: Global, rows: &'a [Row]) -> Result<&'a str, Fail> {
+    for row in rows {
+        if !makes_these(alloc, row)? {
+            return Ok(row.shows);
+        }
+    }
+    Ok("")
+}
+
 #[test]
 fn files_are_read_and_text_is_put_once(rt: HostRuntime) -> Result<(), Fail> {
-    for row in ROWS {
-        assert!(rt; makes_these(rt.alloc(), row)?, "{}", row.shows);
-    }
+    assert_eq!(rt; first_other(rt.alloc(), ROWS)?, "");
     Ok(())
 }

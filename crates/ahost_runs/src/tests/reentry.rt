@@ -1,10 +1,8 @@
 //! Callbacks that command: what each leaves in the journal, and that every accepted request is called once.
 
 use super::bodies::{Bodies, Deed};
-use super::outside::Outside;
-use super::{Case, RUN, Scenario, Wanted, is_put, leaves, outside_of, played};
-use ahost_tool::Ended;
-use chan_types::{Calls, What};
+use super::outcome::outcome_of;
+use super::{Case, RUN, Scenario, Wanted, first_wrong};
 use std::alloc::Global;
 use std::test::Fail;
 
@@ -97,13 +95,7 @@ const ENDED_BY_CALLBACKS: &[Case] = &[
 
 #[test]
 fn callbacks_end_requests(rt: HostRuntime) -> Result<(), Fail> {
-    for case in ENDED_BY_CALLBACKS {
-        assert!(rt;
-            leaves(rt.alloc(), &case.run, &case.wanted)?,
-            "{}",
-            case.shows
-        );
-    }
+    assert_eq!(rt; first_wrong(rt.alloc(), ENDED_BY_CALLBACKS)?, "");
     Ok(())
 }
 
@@ -150,39 +142,59 @@ const REENTRIES: &[Reentry] = &[
     },
 ];
 
+/// How many others are pending.
+const OTHERS: &[u64] = &[1, 3, 100];
+
 /// In a callback, while 1, 3 and 100 others are pending.
 #[test]
 fn every_request_is_called_once(rt: HostRuntime) -> Result<(), Fail> {
-    for reentry in REENTRIES {
-        assert!(rt; is_right_among(rt.alloc(), reentry)?);
-    }
+    assert!(rt; are_right(rt.alloc())?);
     Ok(())
 }
 
 /// In the callback of a callback.
 #[test]
 fn every_request_is_called_once_inside(rt: HostRuntime) -> Result<(), Fail> {
-    for reentry in REENTRIES {
-        assert!(rt; is_right_inside_among(rt.alloc(), reentry)?);
-    }
+    assert!(rt; are_right_inside(rt.alloc())?);
     Ok(())
+}
+
+/// Whether it is so for each of the deeds.
+fn are_right(alloc: Global) -> Result<bool, Fail> {
+    for reentry in REENTRIES {
+        if !is_right_among(alloc, reentry)? {
+            return Ok(false);
+        }
+    }
+    Ok(true)
+}
+
+fn are_right_inside(alloc: Global) -> Result<bool, Fail> {
+    for reentry in REENTRIES {
+        if !is_right_inside_among(alloc, reentry)? {
+            return Ok(false);
+        }
+    }
+    Ok(true)
 }
 
 /// Whether it is so while 1, 3 and 100 others are pending.
 fn is_right_among(alloc: Global, reentry: &Reentry) -> Result<bool, Fail> {
-    Ok(
-        is_right(alloc, reentry, 1)?
-            && is_right(alloc, reentry, 3)?
-            && is_right(alloc, reentry, 100)?,
-    )
+    for others in OTHERS {
+        if !is_right(alloc, reentry, *others)? {
+            return Ok(false);
+        }
+    }
+    Ok(true)
 }
 
 fn is_right_inside_among(alloc: Global, reentry: &Reentry) -> Result<bool, Fail> {
-    Ok(
-        is_right_inside(alloc, reentry, 1)?
-            && is_right_inside(alloc, reentry, 3)?
-            && is_right_inside(alloc, reentry, 100)?,
-    )
+    for others in OTHERS {
+        if !is_right_inside(alloc, reentry, *others)? {
+            return Ok(false);
+        }
+    }
+    Ok(true)
 }
 
 /// Whether every request is called once, and the page is right, where the callback of a request that completes at once
@@ -216,18 +228,8 @@ fn is_played<'a>(
         bodies,
         ..RUN
     };
-    is_played_in(alloc, &scenario, &mut outside_of(alloc, &scenario)?, page)
-}
-
-/// The same of a run that is lent this.
-fn is_played_in(
-    alloc: Global,
-    scenario: &Scenario<'_>,
-    outside: &mut Outside,
-    page: &str,
-) -> Result<bool, Fail> {
-    let once = is_called_once(&played(alloc, scenario, outside)?);
-    Ok(once && is_put(outside, page))
+    let outcome = outcome_of(alloc, &scenario)?;
+    Ok(outcome.once && outcome.put.as_slice() == page.as_bytes())
 }
 
 /// The page: the blocks of the others, of what is found, and of what is added.
@@ -259,38 +261,4 @@ fn add_times(text: &mut String, part: &str, count: u64) -> Result<(), Fail> {
         text.push_str(part)?;
     }
     Ok(())
-}
-
-/// Whether each accepted request was called once, and nothing else was called.
-fn is_called_once(ended: &Ended) -> bool {
-    let mut accepted: u64 = 0;
-    for entry in ended.journal.entries() {
-        if let What::Accept { number, .. } = &entry.what {
-            if calls_of(&ended.calls, *number) != 1 {
-                return false;
-            }
-            accepted = accepted.saturating_add(1);
-        }
-    }
-    accepted == count_of(&ended.calls)
-}
-
-/// How many callbacks were called.
-fn count_of(calls: &Calls) -> u64 {
-    let mut count: u64 = 0;
-    for _ in calls.iter() {
-        count = count.saturating_add(1);
-    }
-    count
-}
-
-/// How often the request was called.
-fn calls_of(calls: &Calls, number: u64) -> u64 {
-    let mut count: u64 = 0;
-    for answer in calls.iter() {
-        if answer.number == number {
-            count = count.saturating_add(1);
-        }
-    }
-    count
 }

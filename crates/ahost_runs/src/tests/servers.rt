@@ -1,6 +1,6 @@
 //! Servers that are set behind the first turn.
 
-use super::{Case, RUN, Scenario, Wanted, leaves};
+use super::{Case, RUN, Scenario, Wanted, first_wrong};
 use std::test::Fail;
 
 /// Two servers are silent, and two others are set behind the first turn, of which the first is one of the old ones: it
@@ -69,12 +69,6 @@ const SERVERS: &[Case] = &[
 
 #[test]
 fn servers_are_set_once(rt: HostRuntime) -> Result<(), Fail> {
-    for case in SERVERS {
-        assert!(rt;
-            leaves(rt.alloc(), &case.run, &case.wanted)?,
-            "{}",
-            case.shows
-        );
-    }
+    assert_eq!(rt; first_wrong(rt.alloc(), SERVERS)?, "");
     Ok(())
 }

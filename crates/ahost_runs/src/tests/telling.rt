@@ -1,6 +1,6 @@
-//! The calls of callbacks, of files and of an output as lines of text.
+//! The attempts of a journal, and the calls of callbacks, of files and of an output as lines of text.
 
-use chan_types::Calls;
+use chan_types::{Calls, Entry, What};
 use net_world::{FileRead, PutCall, PutEnd, ReadCall};
 use std::alloc::Global;
 use std::test::Fail;
@@ -14,6 +14,63 @@ pub fn answers_told(alloc: Global, calls: &Calls) -> Result<String, Fail> {
         text.push_str(format!(in alloc; "{number} status {code}\n")?.as_str())?;
     }
     Ok(text)
+}
+
+/// Whether each request that the journal accepts was called once, and nothing else was called.
+pub fn is_called_once(entries: &[Entry], calls: &Calls) -> bool {
+    let mut accepted: u64 = 0;
+    for entry in entries {
+        if let What::Accept { number, .. } = &entry.what {
+            if calls_of(calls, *number) != 1 {
+                return false;
+            }
+            accepted = accepted.saturating_add(1);
+        }
+    }
+    accepted == count_of(calls)
+}
+
+/// How many callbacks were called.
+fn count_of(calls: &Calls) -> u64 {
+    let mut count: u64 = 0;
+    for _ in calls.iter() {
+        count = count.saturating_add(1);
+    }
+    count
+}
+
+/// How often the request was called.
+fn calls_of(calls: &Calls, number: u64) -> u64 {
+    let mut count: u64 = 0;
+    for answer in calls.iter() {
+        if answer.number == number {
+            count = count.saturating_add(1);
+        }
+    }
+    count
+}
+
+/// The lines of the attempts that a journal notes: which request's, by which identifier, when, and which of them expired.
+pub fn attempts_told(alloc: Global, entries: &[Entry]) -> Result<String, Fail> {
+    let mut text = String::new(alloc);
+    for entry in entries {
+        text.push_str(attempt_told(alloc, &entry.what)?.as_str())?;
+    }
+    Ok(text)
+}
+
+/// The line of an entry, if it begins an attempt, or ends one by its deadline.
+fn attempt_told(alloc: Global, what: &What) -> Result<String, Fail> {
+    Ok(match what {
+        What::Start {
+            number,
+            id,
+            moment,
+            ..
+        } => format!(in alloc; "start {number} by {id} at {moment}\n")?,
+        What::Expire { number, moment, .. } => format!(in alloc; "expire {number} at {moment}\n")?,
+        _ => String::new(alloc),
+    })
 }
 
 /// The lines of reads: the path of each, how many bytes were asked for at most, and what was answered.

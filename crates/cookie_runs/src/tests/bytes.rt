@@ -38,25 +38,3 @@ pub fn option(alloc: Global, code: u16, content: &[u8]) -> Result<Bytes, NoMemor
     out.extend_from_slice(content)?;
     Ok(Bytes::from_vec(out))
 }
-
-/// The query with an OPT record of no option: 40 bytes.
-pub fn query(alloc: Global) -> Result<Bytes, NoMemory> {
-    with_opt(alloc, QUERY_FRONT.as_slice(), 0, b"")
-}
-
-/// A good reply with this cookie.
-pub fn reply(alloc: Global, cookie: &[u8]) -> Result<Bytes, NoMemory> {
-    let options = option(alloc, 10, cookie)?;
-    with_opt(alloc, REPLY_FRONT.as_slice(), 0, options.as_slice())
-}
-
-/// A reply that asks for the query again, with this cookie (RFC 7873, section 5.2.3).
-pub fn bad_reply(alloc: Global, cookie: &[u8]) -> Result<Bytes, NoMemory> {
-    let options = option(alloc, 10, cookie)?;
-    with_opt(alloc, BAD_FRONT.as_slice(), 1, options.as_slice())
-}
-
-/// A good reply without a cookie: 40 bytes.
-pub fn bare_reply(alloc: Global) -> Result<Bytes, NoMemory> {
-    with_opt(alloc, REPLY_FRONT.as_slice(), 0, b"")
-}

@@ -1,8 +1,7 @@
 //! Servers over UDP.
 
+use super::calls::{is_next, is_sent, is_silent, next, now, serve};
 use super::*;
-use std::net::UdpSocket;
-use std::process::Abort;
 use std::thread;
 use std::thread::Threads;
 use std::time::Duration;
@@ -37,50 +36,45 @@ pub fn far_socket(rt: &HostRuntime, at: SocketAddr) -> std::io::Result<UdpSocket
     Ok(far)
 }
 
-/// Asks, and compares the reply.
-fn ask<R: Abort, W: World>(
-    rt: &R,
-    alloc: Global,
-    world: &mut W,
-    query: &mut [u8],
-) -> Result<(), NoMemory> {
-    assert_eq!(rt; world.send(7, query)?, Sent::Sent);
+/// Whether a query is answered by its echo.
+fn is_echoed<W: World>(alloc: Global, world: &mut W, query: &mut [u8]) -> Result<bool, NoMemory> {
+    if !is_sent(world, 7, query)? {
+        return Ok(false);
+    }
     set_reply(query);
-    assert!(rt; next(world)? == Got::Datagram(7, Bytes::of(alloc, query)?));
-    Ok(())
+    is_next(alloc, world, 7, query)
 }
 
-/// Asks with so many bytes.
-fn ask_long<R: Abort, W: World>(
-    rt: &R,
-    alloc: Global,
-    world: &mut W,
-    len: usize,
-) -> Result<(), NoMemory> {
+/// The same of one of so many bytes.
+fn is_long_echoed<W: World>(alloc: Global, world: &mut W, len: usize) -> Result<bool, NoMemory> {
     let mut query = Vec::from_elem(alloc, 9u8, len)?;
-    ask(rt, alloc, world, query.as_mut_slice())
+    is_echoed(alloc, world, query.as_mut_slice())
 }
 
-/// Asks the server at the port with each length, and then many times in short.
-fn ask_each<R: Abort, W: World>(
-    rt: &R,
-    alloc: Global,
-    world: &mut W,
-    port: u16,
-) -> Result<(), NoMemory> {
-    world.serve(7, &local(port))?;
+/// Whether a query of each length is answered.
+fn are_echoed<W: World>(alloc: Global, world: &mut W) -> Result<bool, NoMemory> {
     for len in LENGTHS {
-        ask_long(rt, alloc, world, len)?;
+        if !is_long_echoed(alloc, world, len)? {
+            return Ok(false);
+        }
     }
-    for _ in 0..MANY {
-        ask_long(rt, alloc, world, QUERY.len())?;
-    }
-    Ok(())
+    Ok(true)
 }
 
-/// Whether nothing comes.
-pub fn is_silent<W: World>(world: &mut W) -> Result<bool, NoMemory> {
-    Ok(world.receive()? == Got::Nothing)
+/// Whether each of many short queries is answered.
+fn are_short_echoed<W: World>(alloc: Global, world: &mut W) -> Result<bool, NoMemory> {
+    for _ in 0..MANY {
+        if !is_long_echoed(alloc, world, QUERY.len())? {
+            return Ok(false);
+        }
+    }
+    Ok(true)
+}
+
+/// Whether the server at the port answers all of these.
+fn all_are_echoed<W: World>(alloc: Global, world: &mut W, port: u16) -> Result<bool, NoMemory> {
+    serve(world, 7, port)?;
+    Ok(are_echoed(alloc, world)? && are_short_echoed(alloc, world)?)
 }
 
 /// A thread that sends so many datagrams back.
@@ -92,26 +86,36 @@ fn echo_thread<R: Threads>(
     Ok(thread::spawn(threads, move || echo(&far, times))?)
 }
 
-/// How often an echo sees the port change from which a network asks.
-fn changes_seen<R: Abort + Threads, W: World>(
+/// How often an echo sees the port change from which a network asks; none where it isn't answered.
+fn changes_seen<R: Threads, W: World>(
     threads: &R,
-    rt: HostRuntime,
+    alloc: Global,
+    far: UdpSocket,
     world: &mut W,
 ) -> Result<usize, Fail> {
-    let far = far_socket(&rt, any_local())?;
-    let port = far.local_addr()?.port();
+    let port = port_of(&far)?;
     let child = echo_thread(threads, far, LENGTHS.len() + MANY)?;
-    ask_each(threads, rt.alloc(), world, port)?;
-    Ok(child.join(threads))
+    let all = all_are_echoed(alloc, world, port)?;
+    let changes = child.join(threads);
+    if all { Ok(changes) } else { Ok(0) }
+}
+
+/// Whether it sees 19, and then nothing else comes.
+fn sees_changes<R: Threads, W: World>(
+    threads: &R,
+    alloc: Global,
+    far: UdpSocket,
+    world: &mut W,
+) -> Result<bool, Fail> {
+    Ok(changes_seen(threads, alloc, far, world)? == 19 && is_silent(world)?)
 }
 
 /// An echo answers each length, and then many short queries, one after the other. Each sixteen come from a port of their
 /// own: 303 queries, 18 times 16 and 15.
 #[test]
 fn an_echo_answers(rt: HostRuntime) -> Result<(), Fail> {
-    let mut world = SockWorld::make(rt)?;
-    assert!(rt; changes_seen(&rt, rt, &mut world)? == 19);
-    assert!(rt; is_silent(&mut world)?);
+    let far = far_socket(&rt, any_local())?;
+    assert!(rt; sees_changes(&rt, rt.alloc(), far, &mut SockWorld::make(rt)?)?);
     Ok(())
 }
 
@@ -139,19 +143,9 @@ fn twice_thread<R: Threads>(
     Ok(thread::spawn(threads, move || echo_twice(&far))?)
 }
 
-/// Whether the next thing is this datagram of the server.
-pub fn is_next<W: World>(
-    alloc: Global,
-    world: &mut W,
-    server: u32,
-    bytes: &[u8],
-) -> Result<bool, NoMemory> {
-    Ok(next(world)? == Got::Datagram(server, Bytes::of(alloc, bytes)?))
-}
-
 /// Whether the server at the port can be asked, and its reply is the next thing.
 fn is_heard<W: World>(alloc: Global, world: &mut W, port: u16) -> Result<bool, NoMemory> {
-    world.serve(7, &local(port))?;
+    serve(world, 7, port)?;
     Ok(is_sent(world, 7, QUERY)? && is_next(alloc, world, 7, REPLY)?)
 }
 
@@ -163,27 +157,22 @@ fn is_heard_again<W: World>(alloc: Global, world: &mut W) -> Result<bool, NoMemo
 /// Whether a reply is received as often as it was sent, which is twice.
 fn hears_twice<R: Threads, W: World>(
     threads: &R,
-    rt: HostRuntime,
+    alloc: Global,
+    far: UdpSocket,
     world: &mut W,
 ) -> Result<bool, Fail> {
-    let far = far_socket(&rt, any_local())?;
-    let port = far.local_addr()?.port();
+    let port = port_of(&far)?;
     let child = twice_thread(threads, far)?;
-    let came = is_heard(rt.alloc(), world, port)?;
-    Ok(child.join(threads) == 2 && came && is_heard_again(rt.alloc(), world)?)
+    let came = is_heard(alloc, world, port)?;
+    Ok(child.join(threads) == 2 && came && is_heard_again(alloc, world)?)
 }
 
 /// A socket whose queries have all got their replies is left alone until a wait is over: what else has come isn't lost.
 #[test]
 fn a_reply_that_comes_twice_is_received_twice(rt: HostRuntime) -> Result<(), Fail> {
-    let mut world = SockWorld::make(rt)?;
-    assert!(rt; hears_twice(&rt, rt, &mut world)?);
+    let far = far_socket(&rt, any_local())?;
+    assert!(rt; hears_twice(&rt, rt.alloc(), far, &mut SockWorld::make(rt)?)?);
     Ok(())
-}
-
-/// Whether a query could be sent.
-fn is_sent<W: World>(world: &mut W, server: u32, query: &[u8]) -> Result<bool, NoMemory> {
-    Ok(world.send(server, query)? == Sent::Sent)
 }
 
 /// Whether the next thing is that the server refuses.
@@ -199,22 +188,25 @@ fn replies<W: World>(
     reply: &[u8],
 ) -> Result<usize, NoMemory> {
     let wanted = Got::Datagram(server, Bytes::of(alloc, reply)?);
+    let first = next(world)?;
+    let second = next(world)?;
+    Ok(replies_in(&wanted, &first, &second, server))
+}
+
+/// How many of these two are the wanted one, of which the other is a refusal of the server; none where it isn't.
+fn replies_in(wanted: &Got, first: &Got, second: &Got, server: u32) -> usize {
     let refusal = Got::Failed(server, 0);
-    let mut replies = 0usize;
-    for _ in 0..2 {
-        let got = next(world)?;
-        if got == wanted {
-            replies = replies.saturating_add(1);
-        } else if got != refusal {
-            return Ok(0);
-        }
+    match (*first == *wanted, *second == *wanted) {
+        (true, true) => 2,
+        (true, false) if *second == refusal => 1,
+        (false, true) if *first == refusal => 1,
+        _ => 0,
     }
-    Ok(replies)
 }
 
 /// Whether a query to the server at the port is refused, and another one can be sent then.
 fn refuses<W: World>(world: &mut W, port: u16) -> Result<bool, NoMemory> {
-    world.serve(7, &local(port))?;
+    serve(world, 7, port)?;
     Ok(is_sent(world, 7, QUERY)? && is_refused(world, 7)? && is_sent(world, 7, QUERY)?)
 }
 
@@ -223,16 +215,15 @@ fn answers_once<W: World>(alloc: Global, world: &mut W) -> Result<bool, NoMemory
     Ok(is_sent(world, 7, QUERY)? && replies(alloc, world, 7, REPLY)? == 1)
 }
 
-/// Whether the next query to a socket that is opened there is answered, and is the only one that it gets.
+/// Whether the next query to this socket, which is opened behind a refusal, is answered, and is the only one that it gets.
 fn reaches<R: Threads, W: World>(
     threads: &R,
-    rt: HostRuntime,
+    alloc: Global,
+    far: UdpSocket,
     world: &mut W,
-    at: SocketAddr,
 ) -> Result<bool, Fail> {
-    let far = far_socket(&rt, at)?;
     let child = echo_thread(threads, far, 1)?;
-    let answered = answers_once(rt.alloc(), world)?;
+    let answered = answers_once(alloc, world)?;
     Ok(child.join(threads) == 1 && answered)
 }
 
@@ -241,15 +232,28 @@ fn free_address(rt: &HostRuntime) -> std::io::Result<SocketAddr> {
     far_socket(rt, any_local())?.local_addr()
 }
 
+/// Whether a refused query costs the next one nothing, which a socket at that address then answers; and a server that wasn't
+/// told takes none.
+fn loses_nothing<R: Threads, W: World>(
+    threads: &R,
+    rt: HostRuntime,
+    world: &mut W,
+    at: SocketAddr,
+) -> Result<bool, Fail> {
+    if !refuses(world, at.port())? {
+        return Ok(false);
+    }
+    let far = far_socket(&rt, at)?;
+    Ok(reaches(threads, rt.alloc(), far, world)? && !is_sent(world, 8, QUERY)?)
+}
+
 /// Nobody listens, so a query is refused. Then an echo opens that port: the next query reaches it, and behind its reply
 /// or before it the refusal is told. A server that wasn't told takes no query. None of this is a failure of this machine.
 #[test]
 fn a_refusal_costs_no_query(rt: HostRuntime) -> Result<(), Fail> {
     let at = free_address(&rt)?;
     let mut world = SockWorld::make(rt)?;
-    assert!(rt; refuses(&mut world, at.port())?);
-    assert!(rt; reaches(&rt, rt, &mut world, at)?);
-    assert!(rt; !is_sent(&mut world, 8, QUERY)?);
+    assert!(rt; loses_nothing(&rt, rt, &mut world, at)?);
     assert!(rt; world.local_failure().is_none());
     Ok(())
 }
@@ -270,8 +274,8 @@ fn repeats<W: World>(world: &mut W) -> Result<bool, NoMemory> {
 
 /// Whether a wait of 20 ms is woken, at that moment or later.
 fn wakes<W: World>(world: &mut W) -> Result<bool, NoMemory> {
-    let until = world.now()?.saturating_add(20);
-    Ok(world.wait(until)? == Waited::Woken && world.now()? >= until)
+    let until = now(world)?.saturating_add(20);
+    Ok(world.wait(until)? == Waited::Woken && now(world)? >= until)
 }
 
 /// Whether words and clock go on.
@@ -283,9 +287,20 @@ fn goes_on<W: World + Send>(world: &mut W) -> Result<bool, NoMemory> {
 /// Four words of the generator are hardly all the same, and the clock goes on.
 #[test]
 fn words_and_time_go_on(rt: HostRuntime) -> Result<(), Fail> {
-    let mut world = SockWorld::make(rt)?;
-    assert!(rt; goes_on(&mut world)?);
+    assert!(rt; goes_on(&mut SockWorld::make(rt)?)?);
     Ok(())
+}
+
+/// Whether a query of so many bytes can be sent to the server at the port.
+fn takes_long<W: World>(
+    alloc: Global,
+    world: &mut W,
+    port: u16,
+    len: usize,
+) -> Result<bool, NoMemory> {
+    serve(world, 7, port)?;
+    let query = Vec::from_elem(alloc, 0u8, len)?;
+    is_sent(world, 7, query.as_slice())
 }
 
 /// A query of more bytes than a datagram over IPv4 has can't be sent, which is this machine's doing (EMSGSIZE, 90).
@@ -293,10 +308,8 @@ fn words_and_time_go_on(rt: HostRuntime) -> Result<(), Fail> {
 fn a_long_query_is_a_local_failure(rt: HostRuntime) -> Result<(), Fail> {
     let far = far_socket(&rt, any_local())?;
     let mut world = SockWorld::make(rt)?;
-    world.serve(7, &local(far.local_addr()?.port()))?;
-    let query = Vec::from_elem(rt.alloc(), 0u8, 65_508)?;
     assert!(rt; world.local_failure().is_none());
-    assert!(rt; !is_sent(&mut world, 7, query.as_slice())?);
+    assert!(rt; !takes_long(rt.alloc(), &mut world, port_of(&far)?, 65_508)?);
     assert!(rt; world.local_failure() == Some(LocalFailure::Other(90)));
     Ok(())
 }

@@ -1,13 +1,17 @@
 //! The real forms over loopback, files that the test makes, and standard output.
+//!
+//! A test makes its sockets and its network, and lends them to a function that answers whether all is as it should be: a
+//! check is long where a network may be dropped behind a `?`.
 
 use dns_message::{Bytes, NoMemory};
 use net_addr::{Addr, ServerAddr};
 use net_world::{FileRead, Files, Got, PutEnd, Sent, Sink, Waited, World, Wrote};
 use sock_engine::*;
 use std::alloc::Global;
-use std::net::{Ipv4Addr, SocketAddr};
+use std::net::{Ipv4Addr, SocketAddr, UdpSocket};
 use std::test::*;
 
+mod calls;
 mod clock;
 mod files;
 mod links;
@@ -41,22 +45,14 @@ fn any_local() -> SocketAddr {
     SocketAddr::from((Ipv4Addr::LOCALHOST, 0))
 }
 
+/// The port of a socket.
+fn port_of(far: &UdpSocket) -> Result<u16, Fail> {
+    Ok(far.local_addr()?.port())
+}
+
 /// Makes a reply of a query.
 fn set_reply(message: &mut [u8]) {
     if let Some(flags) = message.get_mut(2) {
         *flags |= 0x80;
     }
-}
-
-/// What comes next, within some seconds.
-fn next<W: World>(world: &mut W) -> Result<Got, NoMemory> {
-    for _ in 0..100 {
-        let got = world.receive()?;
-        if got != Got::Nothing {
-            return Ok(got);
-        }
-        let now = world.now()?;
-        world.wait(now.saturating_add(100))?;
-    }
-    Ok(Got::Nothing)
 }

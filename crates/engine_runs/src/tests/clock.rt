@@ -1,20 +1,32 @@
 //! The clock stands as long as something that has come isn't given.
 
+use super::calls::{is_sent, now, receive, serve};
 use super::servers::far_socket;
 use super::*;
 use std::io::ErrorKind;
-use std::net::UdpSocket;
 use std::time::Duration;
 
 /// Asks so many times, and has as many replies sent. Then nobody looks for 50 ms, by which all have come.
 fn replied<W: World>(world: &mut W, far: &UdpSocket, count: usize) -> Result<(), Fail> {
-    world.serve(7, &local(far.local_addr()?.port()))?;
-    let mut buffer = [0u8; 64];
+    serve(world, 7, port_of(far)?)?;
     for _ in 0..count {
-        world.send(7, QUERY)?;
-        let (_, from) = far.recv_from(&mut buffer)?;
-        far.send_to(REPLY, from)?;
+        reply_once(world, far)?;
     }
+    rest(far)
+}
+
+/// Asks, and has a reply sent.
+fn reply_once<W: World>(world: &mut W, far: &UdpSocket) -> Result<(), Fail> {
+    let mut buffer = [0u8; 64];
+    is_sent(world, 7, QUERY)?;
+    let (_, from) = far.recv_from(&mut buffer)?;
+    far.send_to(REPLY, from)?;
+    Ok(())
+}
+
+/// Lets 50 ms go by, in which nothing comes to the socket.
+fn rest(far: &UdpSocket) -> Result<(), Fail> {
+    let mut buffer = [0u8; 64];
     far.set_read_timeout(Some(Duration::from_millis(50)))?;
     match far.recv_from(&mut buffer) {
         Err(error) if error.kind() == ErrorKind::WouldBlock => Ok(()),
@@ -25,7 +37,7 @@ fn replied<W: World>(world: &mut W, far: &UdpSocket, count: usize) -> Result<(),
 /// Receives so many datagrams, before and behind each of which the clock shows the moment.
 fn stands<W: World>(world: &mut W, moment: u64, count: usize) -> Result<bool, NoMemory> {
     for _ in 0..count {
-        if world.now()? != moment || !is_datagram(world)? {
+        if now(world)? != moment || !is_datagram(world)? {
             return Ok(false);
         }
     }
@@ -34,23 +46,37 @@ fn stands<W: World>(world: &mut W, moment: u64, count: usize) -> Result<bool, No
 
 /// Whether a datagram is at hand.
 fn is_datagram<W: World>(world: &mut W) -> Result<bool, NoMemory> {
-    Ok(match world.receive()? {
+    Ok(match receive(world)? {
         Got::Datagram(_, _) => true,
         Got::Piece(_, _) | Got::Ended(_) | Got::Nothing | Got::Failed(_, _) => false,
     })
+}
+
+/// Whether a hundred replies come, behind which the clock goes on, and nothing else comes.
+fn many_come<W: World>(world: &mut W, far: &UdpSocket) -> Result<bool, Fail> {
+    let before = now(world)?;
+    replied(world, far, 100)?;
+    Ok(
+        stands(world, before, 100)?
+            && now(world)? >= before.saturating_add(50)
+            && !is_datagram(world)?,
+    )
 }
 
 /// A hundred replies come and wait for 50 ms. The clock stands where it was before until all are received, and goes on then.
 #[test]
 fn many_replies_come_before_time(rt: HostRuntime) -> Result<(), Fail> {
     let far = far_socket(&rt, any_local())?;
-    let mut world = SockWorld::make(rt)?;
-    let before = world.now()?;
-    replied(&mut world, &far, 100)?;
-    assert!(rt; stands(&mut world, before, 100)?);
-    assert!(rt; world.now()? >= before.saturating_add(50));
-    assert!(rt; !is_datagram(&mut world)?);
+    assert!(rt; many_come(&mut SockWorld::make(rt)?, &far)?);
     Ok(())
+}
+
+/// Whether three replies come, at a moment behind which they were looked for.
+fn few_come<W: World>(world: &mut W, far: &UdpSocket) -> Result<bool, Fail> {
+    let before = now(world)?;
+    replied(world, far, 3)?;
+    let moment = now(world)?;
+    Ok(moment >= before.saturating_add(50) && stands(world, moment, 3)?)
 }
 
 /// Three replies are few enough to be received before anything expires: the clock shows at once when they were looked for, and
@@ -58,11 +84,6 @@ fn many_replies_come_before_time(rt: HostRuntime) -> Result<(), Fail> {
 #[test]
 fn few_replies_come_in_time(rt: HostRuntime) -> Result<(), Fail> {
     let far = far_socket(&rt, any_local())?;
-    let mut world = SockWorld::make(rt)?;
-    let before = world.now()?;
-    replied(&mut world, &far, 3)?;
-    let moment = world.now()?;
-    assert!(rt; moment >= before.saturating_add(50));
-    assert!(rt; stands(&mut world, moment, 3)?);
+    assert!(rt; few_come(&mut SockWorld::make(rt)?, &far)?);
     Ok(())
 }

@@ -1,5 +1,6 @@
 //! A runtime whose system gives no random bytes.
 
+use super::calls::{is_begun, is_sent, is_silent, now, serve, write};
 use super::*;
 use std::io;
 use std::io::ErrorKind;
@@ -52,21 +53,21 @@ impl Alloc for Unseeded {
 /// Whether no query is sent, no link begun and none written to.
 fn sends_nothing<W: World>(world: &mut W) -> Result<bool, NoMemory> {
     Ok(
-        world.send(0, b"a")? == Sent::Failed
-            && world.connect(0, 1)? == Sent::Failed
-            && world.write(1, b"a")? == Wrote::Failed,
+        !is_sent(world, 0, b"a")?
+            && !is_begun(world, 0, 1)?
+            && write(world, 1, b"a")? == Wrote::Failed,
     )
 }
 
 /// Whether nothing comes, and no wait is woken.
 fn waits_for_nothing<W: World>(world: &mut W) -> Result<bool, NoMemory> {
-    let now = world.now()?;
-    Ok(world.receive()? == Got::Nothing && world.wait(now)? == Waited::Failed)
+    let now = now(world)?;
+    Ok(is_silent(world)? && world.wait(now)? == Waited::Failed)
 }
 
 /// Whether a network gives the word 0, and nothing is sent, begun or waited for, and nothing comes.
 fn does_nothing<W: World>(world: &mut W) -> Result<bool, NoMemory> {
-    world.serve(0, &local(53))?;
+    serve(world, 0, 53)?;
     if world.word()? != 0 || !sends_nothing(world)? {
         return Ok(false);
     }

@@ -1,9 +1,9 @@
 //! Links over TCP.
 
+use super::calls::{is_begun, is_silent, next, pause, serve, write};
 use super::*;
 use std::io::{Read, Write};
 use std::net::{TcpListener, TcpStream};
-use std::process::Abort;
 use std::thread;
 use std::thread::Threads;
 
@@ -19,31 +19,23 @@ fn echo_once(listener: &TcpListener, len: usize) -> bool {
     stream.read_exact(part).is_ok() && stream.write_all(part).is_ok()
 }
 
-/// Writes all bytes to the link, within some seconds.
-fn write_all<R: Abort, W: World>(
-    rt: &R,
-    world: &mut W,
-    link: u64,
-    bytes: &[u8],
-) -> Result<(), NoMemory> {
+/// Whether the link takes all bytes, within some seconds.
+fn takes_all<W: World>(world: &mut W, link: u64, bytes: &[u8]) -> Result<bool, NoMemory> {
     let mut done = 0usize;
     for _ in 0..100 {
         let Some(rest) = bytes.get(done..) else {
-            return Ok(());
+            return Ok(false);
         };
         if rest.is_empty() {
-            return Ok(());
+            return Ok(true);
         }
-        match world.write(link, rest)? {
-            Wrote::Count(0) => {
-                let now = world.now()?;
-                world.wait(now.saturating_add(100))?;
-            }
+        match write(world, link, rest)? {
+            Wrote::Count(0) => pause(world, 100)?,
             Wrote::Count(count) => done = done.saturating_add(count),
-            Wrote::Failed => panic!(rt; "the link failed"),
+            Wrote::Failed => return Ok(false),
         }
     }
-    panic!(rt; "the link took {done} bytes")
+    Ok(false)
 }
 
 /// The bytes that come on a link up to its end, or none where something else comes.
@@ -61,14 +53,9 @@ fn heard<W: World>(alloc: Global, world: &mut W, link: u64) -> Result<Vec<u8>, N
     Ok(Vec::new(alloc))
 }
 
-/// Whether a link to the server could be begun.
-fn begun<W: World>(world: &mut W, server: u32, link: u64) -> Result<bool, NoMemory> {
-    Ok(world.connect(server, link)? == Sent::Sent)
-}
-
 /// Whether nothing comes, and the link takes nothing.
 fn is_gone<W: World>(world: &mut W, link: u64) -> Result<bool, NoMemory> {
-    Ok(world.receive()? == Got::Nothing && world.write(link, b"a")? == Wrote::Failed)
+    Ok(is_silent(world)? && write(world, link, b"a")? == Wrote::Failed)
 }
 
 /// Whether the link is gone once it is closed.
@@ -79,58 +66,53 @@ fn is_closed<W: World>(world: &mut W, link: u64) -> Result<bool, NoMemory> {
 
 /// Whether a link to a server that nobody is at fails, at once or behind its beginning.
 fn fails<W: World>(world: &mut W, server: u32, link: u64) -> Result<bool, NoMemory> {
-    Ok(!begun(world, server, link)? || next(world)? == Got::Failed(server, link))
+    Ok(!is_begun(world, server, link)? || next(world)? == Got::Failed(server, link))
 }
 
-/// Whether link 2 of the server at the port, which has number 1, echoes and ends.
-fn echoes<R: Abort, W: World>(
-    rt: &R,
+/// Whether these bytes, on link 2 of the server at the port, which has number 1, come back, and the link is ended.
+fn is_echo<W: World>(
     alloc: Global,
     world: &mut W,
     port: u16,
+    bytes: &[u8],
 ) -> Result<bool, NoMemory> {
-    world.serve(1, &local(port))?;
-    if !begun(world, 1, 2)? {
+    serve(world, 1, port)?;
+    if !is_begun(world, 1, 2)? || !takes_all(world, 2, bytes)? {
         return Ok(false);
     }
-    write_all(rt, world, 2, b"query")?;
-    let came = heard(alloc, world, 2)?;
-    Ok(came.as_slice() == b"query".as_slice())
+    Ok(heard(alloc, world, 2)?.as_slice() == bytes)
 }
 
 /// Whether the link is gone then, one of the same server fails, and one of no server can't be begun.
 fn ends<W: World>(world: &mut W) -> Result<bool, NoMemory> {
-    Ok(is_gone(world, 2)? && fails(world, 1, 3)? && !begun(world, 9, 4)?)
+    Ok(is_gone(world, 2)? && fails(world, 1, 3)? && !is_begun(world, 9, 4)?)
 }
 
-/// A thread that sends five bytes of one connection back, and its port.
+/// A thread that sends five bytes of one connection back.
 fn echo_thread<R: Threads>(
     threads: &R,
-    rt: HostRuntime,
-) -> Result<(thread::JoinHandle<bool>, u16), Fail> {
-    let listener = TcpListener::bind(&rt, any_local())?;
-    let port = listener.local_addr()?.port();
-    Ok((
-        thread::spawn(threads, move || echo_once(&listener, 5))?,
-        port,
-    ))
+    listener: TcpListener,
+) -> Result<thread::JoinHandle<bool>, Fail> {
+    Ok(thread::spawn(threads, move || echo_once(&listener, 5))?)
 }
 
 /// Whether a network's link echoes and ends. Another one is begun where nobody listens any more.
-fn is_echoed<R: Abort + Threads, W: World>(
+fn is_echoed<R: Threads, W: World>(
     threads: &R,
-    rt: HostRuntime,
+    alloc: Global,
+    listener: TcpListener,
     world: &mut W,
 ) -> Result<bool, Fail> {
-    let (child, port) = echo_thread(threads, rt)?;
-    let came = echoes(threads, rt.alloc(), world, port)?;
-    Ok(came && child.join(threads) && ends(world)?)
+    let port = listener.local_addr()?.port();
+    let child = echo_thread(threads, listener)?;
+    let came = is_echo(alloc, world, port, b"query")?;
+    Ok(child.join(threads) && came && ends(world)?)
 }
 
 #[test]
 fn a_link_echoes_and_ends(rt: HostRuntime) -> Result<(), Fail> {
-    let mut world = SockWorld::make(rt)?;
-    assert!(rt; is_echoed(&rt, rt, &mut world)?);
+    let listener = TcpListener::bind(&rt, any_local())?;
+    assert!(rt; is_echoed(&rt, rt.alloc(), listener, &mut SockWorld::make(rt)?)?);
     Ok(())
 }
 
@@ -141,35 +123,56 @@ fn accepted<W: World>(
     server: u32,
     link: u64,
 ) -> Result<TcpStream, Fail> {
-    if !begun(world, server, link)? {
+    if !is_begun(world, server, link)? {
         Err("no link was begun")?;
     }
     let (stream, _) = listener.accept()?;
     Ok(stream)
 }
 
-/// Whether the next thing is this piece of the link.
+/// Whether the next thing is this piece of the link, which the other side sends.
 fn is_piece<W: World>(
     alloc: Global,
     world: &mut W,
     link: u64,
+    stream: &mut TcpStream,
     bytes: &[u8],
-) -> Result<bool, NoMemory> {
+) -> Result<bool, Fail> {
+    stream.write_all(bytes)?;
     Ok(next(world)? == Got::Piece(link, Bytes::of(alloc, bytes)?))
+}
+
+/// Whether of two open links the later one, which brings bytes first, is heard and gone once it is closed, and then the other
+/// one is heard.
+fn are_heard<W: World>(
+    alloc: Global,
+    world: &mut W,
+    first: &mut TcpStream,
+    second: &mut TcpStream,
+) -> Result<bool, Fail> {
+    Ok(
+        is_piece(alloc, world, 3, second, b"two")?
+            && is_closed(world, 3)?
+            && is_piece(alloc, world, 2, first, b"one")?,
+    )
+}
+
+/// The same of links that are opened to this listener.
+fn hears_links<W: World>(
+    alloc: Global,
+    world: &mut W,
+    listener: &TcpListener,
+) -> Result<bool, Fail> {
+    serve(world, 1, listener.local_addr()?.port())?;
+    let mut first = accepted(world, listener, 1, 2)?;
+    let mut second = accepted(world, listener, 1, 3)?;
+    are_heard(alloc, world, &mut first, &mut second)
 }
 
 /// Two links are open at once, and the later one brings bytes first. It is closed, and then the other one brings some.
 #[test]
 fn two_links_are_heard(rt: HostRuntime) -> Result<(), Fail> {
     let listener = TcpListener::bind(&rt, any_local())?;
-    let mut world = SockWorld::make(rt)?;
-    world.serve(1, &local(listener.local_addr()?.port()))?;
-    let mut first = accepted(&mut world, &listener, 1, 2)?;
-    let mut second = accepted(&mut world, &listener, 1, 3)?;
-    second.write_all(b"two")?;
-    assert!(rt; is_piece(rt.alloc(), &mut world, 3, b"two")?);
-    assert!(rt; is_closed(&mut world, 3)?);
-    first.write_all(b"one")?;
-    assert!(rt; is_piece(rt.alloc(), &mut world, 2, b"one")?);
+    assert!(rt; hears_links(rt.alloc(), &mut SockWorld::make(rt)?, &listener)?);
     Ok(())
 }
