@@ -1,0 +1,5 @@
+pub mod Answered
+pub mod Extending
+pub mod Many
+pub mod Page
+pub mod Scripts
