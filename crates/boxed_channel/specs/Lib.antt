@@ -1,0 +1,3 @@
+pub mod Making
+pub mod State
+pub mod Lending

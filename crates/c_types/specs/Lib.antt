@@ -1,0 +1,5 @@
+pub mod Laid
+pub mod Addresses
+pub mod Outgoing
+pub mod Faults
+pub mod Told
