@@ -32,7 +32,7 @@ from dataclasses import dataclass, field
 os.chdir(os.path.join(os.path.dirname(os.path.abspath(__file__)), ".."))
 PAGE = "docs/CONTRACTS.md"
 # libraries that hold what tests say, or worked examples, and no call that a program makes
-NOT_LIBRARIES = {"scenario", "channel_examples"}
+NOT_LIBRARIES = {"scenario", "stored_run", "channel_examples"}
 ONE_ANSWER, NO_REFUSAL, SUCCESS = "One answer:", "No refusal:", "Success:"
 # whose `run` answers the exit statuses of a program, and the definitions that have their numbers
 PROGRAMS = {
