@@ -1,12 +1,12 @@
 #!/bin/sh
 # Instructions of each call of id_pool, from the difference of two runs, less those of the loop around it.
-# Proves and builds crates/id_pool_bench first. It wants `rt` (or RT) and `valgrind`; PROGRAM is one that is built already.
+# Proves and builds crates/parts_bench first. It wants `rt` (or RT) and `valgrind`; PROGRAM is one that is built already.
 set -eu
 cd "$(dirname "$0")/.."
-program=${PROGRAM:-crates/id_pool_bench/out/id_pool_bench}
-[ -n "${PROGRAM:-}" ] || (cd crates/id_pool_bench && ${RT:-rt} run > /dev/null 2>&1)
+program=${PROGRAM:-crates/parts_bench/out/parts_bench}
+[ -n "${PROGRAM:-}" ] || (cd crates/parts_bench && ${RT:-rt} run > /dev/null 2>&1)
 instructions() {
-    valgrind --tool=callgrind --callgrind-out-file=/dev/null "$program" "$1" "$2" "$3" \
+    valgrind --tool=callgrind --callgrind-out-file=/dev/null "$program" id_pool "$1" "$2" "$3" \
         2>&1 >/dev/null | awk '/Collected/ { print $4 }'
 }
 step() {

@@ -1,17 +1,17 @@
 #!/bin/sh
 # Instructions that a look into a cache takes, a hit and a miss, counted by valgrind: the difference of two runs over a
 # number of looks, the loop around them among them.
-# Proves and builds crates/query_cache_bench first. It wants `rt` (or RT) and `valgrind`.
+# Proves and builds crates/parts_bench first. It wants `rt` (or RT) and `valgrind`.
 set -eu
 cd "$(dirname "$0")/.."
 work=$(mktemp -d)
 trap 'rm -rf "$work"' EXIT
-(cd crates/query_cache_bench && ${RT:-rt} run > "$work/run.log" 2>&1) || { cat "$work/run.log"; exit 1; }
-bench=crates/query_cache_bench/out/query_cache_bench
+(cd crates/parts_bench && ${RT:-rt} run > "$work/run.log" 2>&1) || { cat "$work/run.log"; exit 1; }
+bench=crates/parts_bench/out/parts_bench
 
 # instructions TASK ANSWERS LOOKS: those of the whole program
 instructions() {
-    valgrind --tool=callgrind --callgrind-out-file="$work/out" "$bench" "$1" "$2" "$3" 2>&1 >/dev/null |
+    valgrind --tool=callgrind --callgrind-out-file="$work/out" "$bench" query_cache "$1" "$2" "$3" 2>&1 >/dev/null |
         awk '/Collected/ { print $NF }'
 }
 

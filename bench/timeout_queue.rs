@@ -1,4 +1,4 @@
-//! The calls that crates/timeout_queue_bench measures, on Rust's own pair of BTreeMaps.
+//! The calls that crates/parts_bench measures, on Rust's own pair of BTreeMaps.
 use std::collections::BTreeMap;
 use std::hint::black_box;
 use std::time::Instant;

@@ -1,6 +1,0 @@
-use Rattle.std.proofs.Common.{ℕ}
-use Rattle.timeout_queue_bench.specs.Numbers.{AreBelow}
-use Rattle.timeout_queue_bench.proofs.calls.drop_many.Given as goal
-
-abbrev pub invariant-loop-number : goal.invariant-loop-number
-invariant-loop-number l = (n : ℕ) → AreBelow n l.fn.queue → AreBelow n l.queue

@@ -1,5 +1,0 @@
-use Rattle.timeout_queue_bench.proofs.NumbersLemmas.{AreBelow-remove}
-use Rattle.timeout_queue_bench.proofs.channel.drop_due.Goals as goal
-
-pub returns-then-due-now : goal.returns-then-due-now
-returns-then-due-now c = λ n below. rw c.drop_key.ensures.taken (AreBelow-remove n _ _ below)

@@ -1,5 +1,0 @@
-use Rattle.timeout_queue_bench.proofs.NumbersLemmas.{AreBelow-empty}
-use Rattle.timeout_queue_bench.proofs.channel.run.Goals as goal
-
-pub loop-number-init : goal.loop-number-init
-loop-number-init c = rw c.make-queue.ensures (AreBelow-empty 0)
