@@ -1,3 +1,4 @@
 mod SendLemmas
 mod DeliveryLemmas
+mod StandingLemmas
 pub mod Theorems

@@ -57,6 +57,13 @@ impl<'c, B: Done + Drop> ChannelPool<'c, B> {
         Ok((ChannelPool { channel, pool }, passes))
     }
 
+    /// The pool alone, without its channel: for a sender that is a part of a round of its own.
+    pub fn carrier(&self) -> &Pool<ChannelTicket<'c, B>>
+        ensures { result.now ≡ self.now.pool }
+    {
+        &self.pool
+    }
+
     /// Offers a ticket of this channel to the workers, or gives it back where the pool was full at a moment of this call.
     /// It doesn't wait for room.
     pub fn offer<R: Wait>(
