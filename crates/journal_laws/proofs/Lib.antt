@@ -1,0 +1,7 @@
+pub mod ScriptLemmas
+pub mod FlatLemmas
+pub mod FateLemmas
+pub mod PutLemmas
+pub mod TellingLemmas
+pub mod AdigLemmas
+pub mod AhostLemmas

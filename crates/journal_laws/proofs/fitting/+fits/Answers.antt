@@ -1,0 +1,6 @@
+use Rattle.std.proofs.Common.{rules}
+use Rattle.journal_laws.proofs.ScriptLemmas.{counted}
+use Rattle.journal_laws.proofs.fitting.+fits.Goals as goal
+
+pub script_fits-returns : goal.script_fits-returns
+script_fits-returns t c = counted c.args.script.now c.steps.result.now (search rules) c.steps.ensures.steps c.steps.ensures.few c.steps_fit.ensures
