@@ -1,5 +1,5 @@
 -- What a call made of the inner World, for each way in which a call ends.
-use Rattle.std.proofs.Common.{◌≡◌, ◌⊎◌, inl, inr, ℕ, ◌≤◌, Bool, true, List, [], ◌∷◌, ◌++◌, Option, Some, None, length, Result, Ok, Err, refl, sym, ap, subst, ◌∙◌, arith}
+use Rattle.std.proofs.Common.{◌≡◌, inl, inr, ℕ, ◌≤◌, true, List, [], ◌∷◌, ◌++◌, Option, Some, None, length, Result, Ok, Err, refl, ap, subst, ◌∙◌, arith}
 use Rattle.std.specs.Prelude.{option_map, is_err}
 use Rattle.item_list.specs.declared.no_memory.NoMemory.{NoMemory}
 use Rattle.net_world.specs.declared.answers.Got.{Got}
@@ -9,7 +9,7 @@ use Rattle.net_world.specs.declared.answers.Sent.{Sent}
 use Rattle.net_addr.specs.declared.addr.ServerAddr.{ServerAddr}
 use Rattle.net_world.specs.Logs.{Logs}
 use Rattle.cookie_world.specs.Receiving.{TakesNext, Hands}
-use Rattle.cookie_world.specs.Rounds.{Makes, Passes, Draws, Holds, Goes, Answers, IsNext, receiving, told, draws_of}
+use Rattle.cookie_world.specs.Rounds.{Makes, Passes, Goes, Answers, IsNext, receiving, told, draws_of}
 use Rattle.cookie_world.specs.Sending.{wire_of, noted}
 use Rattle.cookie_world.specs.Serving.{DrawsWords}
 use Rattle.cookie_world.specs.State.{CookieState, state_of, with_peer, with_noted}

@@ -1,5 +1,5 @@
 -- A datagram with bytes that a caller is given has a reason.
-use Rattle.std.proofs.Common.{◌≡◌, ◌≢◌, ℕ, Bool, true, false, cond, ◌&&◌, eqb, List, [], length, Option, Some, None, refl, sym, ap, subst, ◌∙◌}
+use Rattle.std.proofs.Common.{◌≡◌, ◌≢◌, ℕ, List, [], length, Option, Some, None, ap, subst}
 use Rattle.std.specs.Prelude.{nat_lt}
 use Rattle.net_world.specs.declared.answers.Got.{Got}
 use Rattle.net_world.specs.declared.answers.Got.TheVariants.{Datagram, Piece, Ended, Nothing, Failed as LinkFailed}
@@ -7,15 +7,14 @@ use Rattle.net_world.specs.declared.answers.Sent.{Sent}
 use Rattle.net_world.specs.declared.answers.Sent.TheVariants.{Sent as WasSent, Failed as NotSent}
 use Rattle.net_world.specs.declared.log.WorldCall.{WorldCall}
 use Rattle.net_world.specs.declared.log.WorldCall.TheVariants.{Receive}
-use Rattle.dns_cookie.specs.Cookie.{cookied}
-use Rattle.dns_cookie.specs.Judging.{MayReach, judged_reply}
+use Rattle.dns_cookie.specs.Judging.{judged_reply}
 use Rattle.cookie_world.specs.Reasons.{HasReason, HasReasonOf, HasReasonBy}
 use Rattle.dns_cookie.specs.Reply.{reply_in}
-use Rattle.cookie_world.specs.Rounds.{Becomes, Answers, Receives, Makes, given_again}
+use Rattle.cookie_world.specs.Rounds.{Becomes, Answers, Makes, given_again}
 use Rattle.cookie_world.specs.State.{CookieState, peer_of, last_query}
-use Rattle.cookie_world.specs.Verdict.{client_of, taught_peer, again_by, verdict_for, verdict_found, verdict_read, verdict_of}
+use Rattle.cookie_world.specs.Verdict.{client_of, taught_peer, verdict_for, verdict_found, verdict_read, verdict_of}
 use Rattle.dns_cookie.specs.declared.judging.Judgement.{Judgement}
-use Rattle.dns_cookie.specs.declared.judging.Judgement.TheVariants.{HandOn, Discard, Learn, Repeat}
+use Rattle.dns_cookie.specs.declared.judging.Judgement.TheVariants.{Discard}
 use Rattle.dns_cookie.specs.declared.reply.CookieReply.{CookieReply}
 use Rattle.cookie_world.specs.declared.state.Peer.{Peer}
 use Rattle.cookie_world.specs.declared.state.Query.{Query}

@@ -1,7 +1,6 @@
 -- What a call of a World with cookies leaves as every World's call does: its log, its count of failures, what it holds.
-use Rattle.std.proofs.Common.{◌≡◌, ◌⊎◌, inl, inr, ⊎_elim, ℕ, ◌≤◌, Bool, true, false, cond, IsTrue, List, [], ◌∷◌, ◌++◌, Option, Some, None, Result, Ok, Err, refl, sym, ap, subst, ◌∙◌, append_assoc, arith}
-use Rattle.std.specs.Prelude.{option_map, MatchResult}
-use Rattle.std.specs.List.{flat_map}
+use Rattle.std.proofs.Common.{◌≡◌, ⊎_elim, ℕ, ◌≤◌, Bool, true, false, cond, List, [], ◌∷◌, ◌++◌, Option, Some, None, Result, Ok, Err, refl, sym, ap, subst, ◌∙◌, arith}
+use Rattle.std.specs.Prelude.{option_map}
 use Rattle.std.specs.Option.{option_to_list}
 use Rattle.std.proofs.lemmas.List.{append-nil}
 use Rattle.std.proofs.lemmas.List.Concat.{flat_map-append}
@@ -10,7 +9,7 @@ use Rattle.net_world.specs.declared.answers.Got.{Got}
 use Rattle.net_world.specs.declared.answers.Got.TheVariants.{Datagram, Piece, Ended, Nothing, Failed as LinkFailed}
 use Rattle.net_world.specs.declared.log.WorldCall.{WorldCall}
 use Rattle.net_world.specs.declared.log.WorldCall.TheVariants.{Serve, Now, Word, Send, Connect, Write, Receive, Close, Wait}
-use Rattle.net_world.specs.Cause.{HasCause, Rose, raised}
+use Rattle.net_world.specs.Cause.{HasCause, raised}
 use Rattle.net_world.specs.Logs.{Logs}
 use Rattle.net_world.specs.World.{is_of_link}
 use Rattle.net_world.proofs.CauseLemmas.{raised_later, raised_where}
@@ -18,7 +17,7 @@ use base.Stored.{Gv}
 use Rattle.cookie_world.proofs.LogLemmas.{same_more, both_more}
 use Rattle.cookie_world.proofs.BegunLemmas.{origin_tells}
 use Rattle.cookie_world.specs.Begun.{begun_origin}
-use Rattle.cookie_world.specs.Agreement.{Round, IsMade, AreMade, CookieLogsAgree, Stands, inner_calls, outer_calls}
+use Rattle.cookie_world.specs.Agreement.{Round, IsMade, AreMade, Stands, inner_calls, outer_calls}
 use Rattle.cookie_world.specs.Rounds.{Becomes, Answers, Makes, IsCut, Draws, Holds, Goes, Passes, not_of, tells_failure, told}
 use Rattle.cookie_world.specs.State.{CookieState, MayHold, at_start}
 use Rattle.cookie_world.specs.Verdict.{verdict_of}

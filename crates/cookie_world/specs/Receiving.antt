@@ -1,5 +1,5 @@
 -- The parts of a receive: what comes next, and what becomes of it.
-use Rattle.std.specs.Prelude.{◌≡◌, ◌++◌, List, Option, Some, None, option_map, Result, Ok, Err, ℕ}
+use Rattle.std.specs.Prelude.{◌≡◌, ◌++◌, List, Option, None, option_map, Result, Ok, Err, ℕ}
 use Rattle.item_list.specs.declared.no_memory.NoMemory.{NoMemory}
 use Rattle.net_world.specs.declared.answers.Got.{Got}
 use Rattle.net_world.specs.declared.answers.Got.TheVariants.{Datagram}

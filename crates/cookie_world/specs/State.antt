@@ -1,5 +1,7 @@
 -- What a World with cookies keeps, and what it finds there.
-use Rattle.std.specs.Prelude.{ℕ, ◌<◌, ◌==◌, ◌&&◌, not, Bool, List, [], ◌∷◌, ◌++◌, length, filter, find, Option, Some, None, option_map, ⊤}
+use Rattle.std.specs.Prelude.{ℕ, ◌+◌, ◌*◌, ◌<◌, ◌==◌, nat_eq, not, Bool, List, [], ◌∷◌, ◌++◌, length, filter, find, Option, Some, None, option_map, ⊤}
+use Rattle.std.specs.Map.{lookup}
+use Rattle.indexmap.specs.IndexMap.{insert_entry}
 use Rattle.net_world.specs.declared.answers.Got.{Got}
 use Rattle.net_world.specs.declared.answers.Got.TheVariants.{Datagram, Piece, Ended, Nothing, Failed as LinkFailed}
 use Rattle.net_world.specs.declared.log.WorldCall.{WorldCall}
@@ -11,8 +13,8 @@ use Rattle.cookie_world.specs.declared.state.Query.{Query}
 pub record CookieState : Type 0 where
   -- each server with its cookie
   pub peers : List Peer
-  -- the last query of each server and identifier
-  pub queries : List Query
+  -- the last query of each server and identifier, under its key
+  pub queries : List (ℕ × Query)
   -- what came, and was neither judged nor handed on for want of memory
   pub held : Option Got
   -- how often a failure was told, waits apart
@@ -22,7 +24,7 @@ pub record CookieState : Type 0 where
 
 -- where it stands that keeps this
 abbrev pub state_of : Kept → CookieState
-state_of kept = record { peers = kept.peers.items; queries = kept.queries.items; held = kept.held; failures = kept.failures; log = kept.log.items }
+state_of kept = record { peers = kept.peers.items; queries = kept.queries.entries; held = kept.held; failures = kept.failures; log = kept.log.items }
 
 -- before the first call
 abbrev pub at_start : CookieState
@@ -44,18 +46,18 @@ known_cookie server peers = option_map (λ peer. peer.cookie) (peer_of server pe
 abbrev pub with_peer : Peer → List Peer → List Peer
 with_peer peer peers = filter (λ other. not (is_server peer.server other)) peers ++ peer ∷ []
 
--- it is the query of this server and identifier
-abbrev pub is_query : ℕ → ℕ → Query → Bool
-is_query server id query = query.server == server && query.id == id
+-- what the last query of this server and identifier is kept under: no two of them have one key, since an identifier is below 65,536
+abbrev pub query_key : ℕ → ℕ → ℕ
+query_key server id = server * 65536 + id
 
 -- the last query of this server and identifier
-abbrev pub last_query : ℕ → ℕ → List Query → Option Query
-last_query server id queries = find (is_query server id) queries
+abbrev pub last_query : ℕ → ℕ → List (ℕ × Query) → Option Query
+last_query server id queries = lookup (nat_eq (query_key server id)) queries
 
 -- the queries, where this one, if there is one, stands in place of the one with its server and identifier
-abbrev pub with_noted : Option Query → List Query → List Query
+abbrev pub with_noted : Option Query → List (ℕ × Query) → List (ℕ × Query)
 with_noted None queries = queries
-with_noted (Some query) queries = filter (λ other. not (is_query query.server query.id other)) queries ++ query ∷ []
+with_noted (Some query) queries = insert_entry nat_eq queries (query_key query.server query.id) query
 
 -- it can be held: a datagram, or a piece with a byte
 abbrev pub CanHold : Got → Type 0

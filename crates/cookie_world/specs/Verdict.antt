@@ -58,14 +58,14 @@ verdict_found (Some query) None reply = Pass
 verdict_found (Some query) (Some peer) reply = verdict_by query peer reply
 
 -- what becomes of a reply of this server
-abbrev pub verdict_on : List Peer → List Query → ℕ → CookieReply → Verdict
+abbrev pub verdict_on : List Peer → List (ℕ × Query) → ℕ → CookieReply → Verdict
 verdict_on peers queries server reply = verdict_found (last_query server reply.id queries) (peer_of server peers) reply
 
 -- the same of what could be read, or couldn't
-abbrev pub verdict_read : List Peer → List Query → ℕ → Option CookieReply → Verdict
+abbrev pub verdict_read : List Peer → List (ℕ × Query) → ℕ → Option CookieReply → Verdict
 verdict_read peers queries server None = Pass
 verdict_read peers queries server (Some reply) = verdict_on peers queries server reply
 
 -- what becomes of a datagram of this server
-abbrev pub verdict_of : List Peer → List Query → ℕ → List ℕ → Verdict
+abbrev pub verdict_of : List Peer → List (ℕ × Query) → ℕ → List ℕ → Verdict
 verdict_of peers queries server bytes = verdict_read peers queries server (reply_in bytes)

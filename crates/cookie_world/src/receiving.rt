@@ -1,6 +1,7 @@
 //! Receiving: a datagram is judged by its cookie, and what else comes is handed on.
 
 ghost use Rattle.std.specs.Prelude.{◌≡◌, ◌<◌, IfOk, IfErr, vec_len, vec_capacity};
+ghost use Rattle.std.specs.HashMap.{spare};
 ghost use Rattle.net_world.specs.declared.answers.Got.TheVariants.{Datagram, Piece};
 ghost use Rattle.net_world.specs.declared.log.WorldCall.TheVariants.{Receive};
 ghost use Rattle.net_world.specs.World.{IsWhole};
@@ -56,7 +57,7 @@ fn take_next<W: World>(world: &mut W, kept: &mut Kept) -> Result<Got, NoMemory>
 fn hand<W: World>(world: &mut W, kept: &mut Kept, came: Got) -> Result<Got, Got>
     requires whole { IsWhole came }
     requires peers { vec_len kept.old.peers < vec_capacity kept.old.peers }
-    requires queries { vec_len kept.old.queries < vec_capacity kept.old.queries }
+    requires queries { 0 < spare kept.old.queries }
     requires log { vec_len kept.old.log < vec_capacity kept.old.log }
     ensures hands { Hands came result (W.log world.old) (W.log world.new) (state_of kept.old)
         (state_of kept.new) }
@@ -122,10 +123,10 @@ fn hand_datagram<W: World>(
     bytes: Bytes,
 ) -> Result<Got, Got>
     requires peers { vec_len kept.old.peers < vec_capacity kept.old.peers }
-    requires queries { vec_len kept.old.queries < vec_capacity kept.old.queries }
+    requires queries { 0 < spare kept.old.queries }
     requires log { vec_len kept.old.log < vec_capacity kept.old.log }
     ensures carries { Carries server bytes
-        (verdict_of kept.old.peers.items kept.old.queries.items server bytes) result
+        (verdict_of kept.old.peers.items kept.old.queries.entries server bytes) result
         (W.log world.old) (W.log world.new) (state_of kept.old) (state_of kept.new) }
     ensures answer { IfOk result IsWhole }
     ensures waits { W.wait_faults world.new ≡ W.wait_faults world.old }
@@ -153,7 +154,7 @@ fn carry_out<W: World>(
     verdict: Verdict,
 ) -> Result<Got, Got>
     requires peers { vec_len kept.old.peers < vec_capacity kept.old.peers }
-    requires queries { vec_len kept.old.queries < vec_capacity kept.old.queries }
+    requires queries { 0 < spare kept.old.queries }
     requires log { vec_len kept.old.log < vec_capacity kept.old.log }
     ensures carries { Carries server bytes verdict result (W.log world.old) (W.log world.new)
         (state_of kept.old) (state_of kept.new) }
@@ -233,7 +234,7 @@ fn teach(kept: &mut Kept, server: u32, bytes: Bytes, peer: Peer) -> Result<Got, 
 /// memory.
 fn note_again(kept: &mut Kept, server: u32, peer: Peer, query: Query, outcome: Sent) -> Got
     requires peers { vec_len kept.old.peers < vec_capacity kept.old.peers }
-    requires queries { vec_len kept.old.queries < vec_capacity kept.old.queries }
+    requires queries { 0 < spare kept.old.queries }
     requires log { vec_len kept.old.log < vec_capacity kept.old.log }
     ensures given { result ≡ meaning.given_again server outcome }
     ensures state { state_of kept.new

@@ -11,6 +11,7 @@ use dns_cookie::{Way, cookied};
 use item_list::{Bytes, NoMemory};
 use net_world::{Sent, World, WorldCall};
 use std::alloc::Global;
+use std::mem;
 
 /// A query as it goes on the wire.
 #[derive(Debug, Drop)]
@@ -34,9 +35,11 @@ pub(crate) fn send_with<W: World>(
 {
     make_room(kept)?;
     let wire = wire_for(kept.alloc, &kept.peers, server, bytes)?;
-    let query = noted(kept.alloc, server, bytes, wire.way)?;
+    let room = mem::replace(&mut kept.spare, Vec::new(kept.alloc));
+    let query = noted(room, server, bytes, wire.way)?;
     let copy = Bytes::of(kept.alloc, bytes)?;
     let sent = world.send(server, wire.bytes.as_slice())?;
+    kept.spare = wire.bytes.into_vec();
     put_query(&mut kept.queries, query);
     tell(
         kept,
@@ -76,8 +79,8 @@ fn wire_by(alloc: Global, bytes: &[u8], sent: Option<Bytes>) -> Result<Wire, NoM
     })
 }
 
-/// What is noted of a query that goes in this way, if it has an identifier.
-fn noted(alloc: Global, server: u32, bytes: &[u8], way: Way) -> Result<Option<Query>, NoMemory>
+/// What is noted of a query that goes in this way, if it has an identifier. Its copy takes over this memory, whatever is in it.
+fn noted(room: Vec<u8>, server: u32, bytes: &[u8], way: Way) -> Result<Option<Query>, NoMemory>
     ensures { IfOk result (λ query. query ≡ meaning.noted server bytes.now way) }
 {
     let Some(id) = id_of(bytes) else {
@@ -86,9 +89,19 @@ fn noted(alloc: Global, server: u32, bytes: &[u8], way: Way) -> Result<Option<Qu
     Ok(Some(Query {
         server,
         id,
-        bytes: Bytes::of(alloc, bytes)?,
+        bytes: copied_into(room, bytes)?,
         way,
     }))
+}
+
+/// A copy of the bytes in this memory, whatever is in it.
+fn copied_into(room: Vec<u8>, bytes: &[u8]) -> Result<Bytes, NoMemory>
+    ensures { IfOk result (λ copy. copy ≡ bytes.now) }
+{
+    let mut copy = room;
+    copy.clear();
+    copy.extend_from_slice(bytes)?;
+    Ok(Bytes::from_vec(copy))
 }
 
 /// The identifier of a query: its first two bytes (RFC 1035, section 4.1.1).

@@ -1,6 +1,7 @@
 //! What a World with cookies keeps.
 
 ghost use Rattle.std.specs.Prelude.{◌≡◌, ◌<◌, filter, not, IfOk, OnOk, vec_len, vec_capacity};
+ghost use Rattle.std.specs.HashMap.{spare};
 ghost use Rattle.std.specs.Option.{option_copied};
 ghost use Rattle.net_world.specs.Cause as cause;
 ghost use Rattle.cookie_world.specs.Rounds.{told};
@@ -9,6 +10,7 @@ ghost use Rattle.cookie_world.specs.State as meaning;
 ghost use Rattle.cookie_world.specs.State.{state_of};
 
 use dns_cookie::Way;
+use indexmap::IndexMap;
 use item_list::{Bytes, NoMemory};
 use net_world::{Got, Sent, WorldCall, Wrote, raise};
 use std::alloc::Global;
@@ -37,10 +39,12 @@ pub struct Kept {
     pub alloc: Global,
     /// The servers that were told.
     pub peers: Vec<Peer>,
-    /// The last query of each server and identifier.
-    pub queries: Vec<Query>,
+    /// The last query of each server and identifier, under its `query_key`.
+    pub queries: IndexMap<u64, Query>,
     /// What came, and was neither judged nor handed on for want of memory: a datagram or a piece.
     pub held: Option<Got>,
+    /// Memory in which a query went out. The next one that is noted takes it over.
+    pub spare: Vec<u8>,
     /// How often a failure was told, waits apart. It stays at its greatest.
     pub failures: u64,
     /// The calls with their answers.
@@ -51,7 +55,7 @@ pub struct Kept {
 pub(crate) fn make_room(kept: &mut Kept) -> Result<(), NoMemory>
     ensures same { state_of kept.new ≡ state_of kept.old }
     ensures peers { OnOk result (vec_len kept.new.peers < vec_capacity kept.new.peers) }
-    ensures queries { OnOk result (vec_len kept.new.queries < vec_capacity kept.new.queries) }
+    ensures queries { OnOk result (0 < spare kept.new.queries) }
     ensures log { OnOk result (vec_len kept.new.log < vec_capacity kept.new.log) }
 {
     kept.peers.reserve(1)?;
@@ -67,13 +71,18 @@ pub(crate) fn find_peer(peers: &[Peer], server: u32) -> Option<&Peer>
     peers.iter().find(|peer| peer.server == server)
 }
 
-/// The last query of this server and identifier.
-pub(crate) fn find_query(queries: &[Query], server: u32, id: u16) -> Option<&Query>
-    ensures { option_copied result ≡ meaning.last_query server id queries.now }
+/// What the last query of this server and identifier is kept under.
+fn query_key(server: u32, id: u16) -> u64
+    ensures { result ≡ meaning.query_key server id }
 {
-    queries
-        .iter()
-        .find(|query| query.server == server && query.id == id)
+    server as u64 * 65_536 + id as u64
+}
+
+/// The last query of this server and identifier.
+pub(crate) fn find_query(queries: &IndexMap<u64, Query>, server: u32, id: u16) -> Option<&Query>
+    ensures { option_copied result ≡ meaning.last_query server id queries.now.entries }
+{
+    queries.get(&query_key(server, id))
 }
 
 /// Puts the server in the place of the one with its number.
@@ -94,25 +103,18 @@ fn drop_peer(peers: &mut Vec<Peer>, server: u32)
 }
 
 /// Puts the query, if there is one, in the place of the one with its server and identifier.
-pub(crate) fn put_query(queries: &mut Vec<Query>, query: Option<Query>)
-    requires { vec_len queries.old < vec_capacity queries.old }
-    ensures { queries.new.items ≡ meaning.with_noted query queries.old.items }
+pub(crate) fn put_query(queries: &mut IndexMap<u64, Query>, query: Option<Query>)
+    requires { 0 < spare queries.old }
+    ensures { queries.new.entries ≡ meaning.with_noted query queries.old.entries }
 {
-    match query {
-        Some(query) => {
-            drop_query(queries, query.server, query.id);
-            queries.push_reserved(query);
-        }
-        None => {}
+    let Some(query) = query else {
+        return;
+    };
+    match queries.insert(query_key(query.server, query.id), query) {
+        Ok(_before) => {}
+        // There is room for one more.
+        Err(_) => unreachable!(),
     }
-}
-
-/// Drops the query of this server and identifier.
-fn drop_query(queries: &mut Vec<Query>, server: u32, id: u16)
-    ensures dropped { queries.new.items ≡ filter (λ query. not (meaning.is_query server id query)) queries.old.items }
-    ensures room { vec_len queries.old < vec_capacity queries.old → vec_len queries.new < vec_capacity queries.new }
-{
-    queries.retain(|query| !(query.server == server && query.id == id));
 }
 
 /// Adds the call to the log, and counts it where it tells a failure. It takes no memory.

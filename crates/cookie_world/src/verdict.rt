@@ -5,6 +5,7 @@ ghost use Rattle.cookie_world.specs.Verdict as meaning;
 
 use crate::state::{Peer, Query, find_peer, find_query};
 use dns_cookie::{CookieReply, Judgement, Way, cookied, judge, read_reply};
+use indexmap::IndexMap;
 use item_list::{Bytes, NoMemory};
 use std::alloc::Global;
 
@@ -28,11 +29,11 @@ pub enum Verdict {
 pub(crate) fn judge_datagram(
     alloc: Global,
     peers: &[Peer],
-    queries: &[Query],
+    queries: &IndexMap<u64, Query>,
     server: u32,
     bytes: &[u8],
 ) -> Result<Verdict, NoMemory>
-    ensures { IfOk result (λ verdict. verdict ≡ meaning.verdict_of peers.now queries.now server bytes.now) }
+    ensures { IfOk result (λ verdict. verdict ≡ meaning.verdict_of peers.now queries.now.entries server bytes.now) }
 {
     match read_reply(alloc, bytes)? {
         Some(reply) => verdict_on(alloc, peers, queries, server, reply),
@@ -44,11 +45,11 @@ pub(crate) fn judge_datagram(
 fn verdict_on(
     alloc: Global,
     peers: &[Peer],
-    queries: &[Query],
+    queries: &IndexMap<u64, Query>,
     server: u32,
     reply: CookieReply,
 ) -> Result<Verdict, NoMemory>
-    ensures { IfOk result (λ verdict. verdict ≡ meaning.verdict_on peers.now queries.now server reply) }
+    ensures { IfOk result (λ verdict. verdict ≡ meaning.verdict_on peers.now queries.now.entries server reply) }
 {
     let Some(query) = find_query(queries, server, reply.id) else {
         return Ok(Verdict::Pass);

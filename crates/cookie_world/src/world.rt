@@ -10,6 +10,7 @@ use crate::receiving::receive_with;
 use crate::sending::send_with;
 use crate::serving::serve_with;
 use crate::state::Kept;
+use indexmap::IndexMap;
 use item_list::{ItemList, NoMemory};
 use net_addr::ServerAddr;
 use net_world::{Got, Sent, Waited, World, WorldCall, Wrote};
@@ -58,8 +59,9 @@ impl<W: World + Drop> CookieWorld<W> {
             kept: Kept {
                 alloc,
                 peers: Vec::new(alloc),
-                queries: Vec::new(alloc),
+                queries: IndexMap::new(alloc),
                 held: None,
+                spare: Vec::new(alloc),
                 failures: 0,
                 log: Vec::new(alloc),
             },

@@ -5,6 +5,12 @@
 pub const QUERY: &[u8] =
     b"\x12\x34\x01\0\0\x01\0\0\0\0\0\x01\x07example\x03com\0\0\x01\0\x01\0\0\x29\x04\xd0\0\0\0\0\0\0";
 
+/// A query without an OPT record, with the same identifier: 29 bytes.
+pub const PLAIN: &[u8] = b"\x12\x34\x01\0\0\x01\0\0\0\0\0\0\x07example\x03com\0\0\x01\0\x01";
+
+/// The same with the next identifier.
+pub const NEXT: &[u8] = b"\x12\x35\x01\0\0\x01\0\0\0\0\0\0\x07example\x03com\0\0\x01\0\x01";
+
 /// A good reply without a cookie: 40 bytes.
 pub const BARE: &[u8] =
     b"\x12\x34\x81\x80\0\x01\0\0\0\0\0\x01\x07example\x03com\0\0\x01\0\x01\0\0\x29\x04\xd0\0\0\0\0\0\0";

@@ -1,6 +1,6 @@
 //! Replies with and without a cookie, before and behind the first server cookie.
 
-use super::messages::{BARE, BOTH, FORGED, GOOD, QUERY};
+use super::messages::{BARE, BOTH, FORGED, GOOD, PLAIN, QUERY};
 use super::playing::Step;
 use super::rows::{Row, Told, is_told};
 use scenario::Coming;
@@ -55,9 +55,6 @@ fn a_server_cookie_is_learned(rt: HostRuntime) -> Result<(), Fail> {
     assert!(rt; is_told(rt.alloc(), &LEARNED)?);
     Ok(())
 }
-
-/// A query without an OPT record (RFC 1035, section 4.1).
-const PLAIN: &[u8] = b"\x12\x34\x01\0\0\x01\0\0\0\0\0\0\x07example\x03com\0\0\x01\0\x01";
 
 /// A reply to an identifier that was never asked is handed on, and teaches nothing; so is one to a query that went as it is.
 const STRAY: Row = Row {

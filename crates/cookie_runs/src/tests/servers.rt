@@ -1,6 +1,6 @@
 //! Several servers, and a server that is told again.
 
-use super::messages::{BARE, GOOD, QUERY};
+use super::messages::{BAD, BARE, BOTH, GOOD, NEXT, PLAIN, QUERY};
 use super::playing::{Step, play};
 use super::rows::{Row, Told, is_told};
 use scenario::Coming;
@@ -85,5 +85,52 @@ const TOLD_AGAIN: Row = Row {
 #[test]
 fn a_server_is_told_again(rt: HostRuntime) -> Result<(), Fail> {
     assert!(rt; is_told(rt.alloc(), &TOLD_AGAIN)?);
+    Ok(())
+}
+
+/// Three queries: one with a cookie, one to the same server with the next identifier, and one with the same identifier to
+/// another server, the last two as they are. Of two BADCOOKIEs the other server's answers its own query, and is handed on. The
+/// first server's asks for its own again, and not for the one that was sent last.
+const APART: Row = Row {
+    comings: &[
+        Coming::Datagram {
+            from: 0,
+            server: 7,
+            bytes: BAD,
+        },
+        Coming::Datagram {
+            from: 0,
+            server: 0,
+            bytes: BAD,
+        },
+        Coming::Datagram {
+            from: 0,
+            server: 0,
+            bytes: GOOD,
+        },
+    ],
+    fails: &[],
+    steps: &[
+        Step::Serve(0),
+        Step::Serve(7),
+        Step::Send(0, QUERY),
+        Step::Send(0, NEXT),
+        Step::Send(7, PLAIN),
+        Step::Receive,
+        Step::Receive,
+        Step::Receive,
+    ],
+    outer: Told::Whole(
+        "serve 0\nserve 7\nsend 0 40 sent\nsend 0 29 sent\nsend 7 29 sent\ndatagram 7 60\ndatagram 0 0\ndatagram 0 60\n",
+    ),
+    inner: Told::End(
+        "send 0 52 sent\nsend 0 29 sent\nsend 7 29 sent\ndatagram 7 60\ndatagram 0 60\nsend 0 60 sent\ndatagram 0 60\n",
+    ),
+    sent: BOTH,
+};
+
+#[test]
+fn each_server_and_identifier_has_its_query(rt: HostRuntime) -> Result<(), Fail> {
+    assert!(rt; is_told(rt.alloc(), &APART)?);
     Ok(())
 }

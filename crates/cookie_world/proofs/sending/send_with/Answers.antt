@@ -1,8 +1,5 @@
-use Rattle.std.proofs.Common.{refl, ap, ◌∙◌}
-use Rattle.std.specs.Prelude.{Option}
-use Rattle.net_world.specs.declared.log.WorldCall.TheVariants.{Send}
-use Rattle.cookie_world.specs.Rounds.{told}
-use Rattle.cookie_world.proofs.GoesLemmas.{err_nowhere, goes_sending}
+use Rattle.std.proofs.Common.{refl}
+use Rattle.cookie_world.proofs.GoesLemmas.{err_nowhere}
 use Rattle.cookie_world.proofs.sending.send_with.Goals as goal
 
 pub returns-in_err-make_room-clause-goes : goal.returns-in_err-make_room-clause-goes
