@@ -1,15 +1,13 @@
 -- What is left on a channel, by its counts, and what was taken there.
-use Rattle.std.proofs.Common.{◌≡◌, ◌≢◌, ◌∙◌, ℕ, ◌+◌, ◌<◌, ◌≤◌, List, [], ◌∷◌, ◌++◌, length, refl, ap, sym, subst, arith, ltb-false, ltb-true}
-use Rattle.std.specs.Prelude.{Bool, Err, IfOk, None, Ok, Result, Some, false, nat_lt, true, ◌^◌}
+use Rattle.std.proofs.Common.{◌≡◌, ◌≢◌, ◌∙◌, ℕ, List, [], ◌∷◌, ◌++◌, length, refl, ap, sym, subst, arith}
+use Rattle.std.specs.Prelude.{None}
 use Rattle.std.proofs.lemmas.List.{append-nil}
 use Rattle.chan_types.specs.declared.journal.Entry.{Entry}
 use Rattle.chan_types.specs.declared.script.Script.{Script}
-use Rattle.chan_types.specs.declared.ticket.Ticket.{Ticket}
-use Rattle.net_world.specs.Cause.{Rose}
-use Rattle.channel_model.proofs.Theorems.{call_goes_on, goes_on_refl, goes_on_trans}
+use Rattle.channel_model.proofs.Theorems.{call_goes_on}
 use Rattle.channel_model.specs.Completion.{pending, ready}
 use Rattle.channel_model.specs.Journal.{past_of}
-use Rattle.channel_model.specs.Known.{Calls, GoesOn, Known}
+use Rattle.channel_model.specs.Known.{Calls, Known}
 use Rattle.channel_model.specs.Meanings.{Meaning, Takes, TellsCounts}
 use Rattle.channel_model.specs.Names.{NamesBecome}
 use Rattle.channel_model.specs.Seen.{entries_of}
@@ -17,8 +15,7 @@ use Rattle.channel_model.specs.Setting.{Setting}
 use Rattle.channel_model.specs.declared.answers.Counts.{Counts}
 use Rattle.event_runner.proofs.PauseLemmas.{names_same}
 use Rattle.event_runner.specs.Running.{HasLooked}
-use Rattle.channel_session.specs.Left.{IsLeft, LooksAt, ready_of}
-use Rattle.channel_session.specs.Progressing.{HasTaken}
+use Rattle.channel_session.specs.Left.{LooksAt}
 use Rattle.channel_session.specs.declared.left.Left.TheVariants.{Nothing, Pending, Ready}
 
 -- a call that adds nothing is a look

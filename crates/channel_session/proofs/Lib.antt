@@ -1,4 +1,5 @@
 pub mod AdvanceLemmas
+pub mod ClockLemmas
 pub mod LeftLemmas
 pub mod PartLemmas
 pub mod StepLemmas

@@ -6,8 +6,8 @@ ghost use Rattle.net_world.specs.declared.log.WorldCall.{WorldCall};
 ghost use Rattle.event_runner.specs.Running.{Opens};
 ghost use Rattle.channel_session.specs.Advancing.{ComesToRest};
 ghost use Rattle.channel_session.specs.Left.{pending_of, ready_of};
-ghost use Rattle.channel_session.specs.Progressing.{ComesTo, IsCome};
-ghost use Rattle.channel_session.specs.Sitting.{Moment, Sitting, moment_of};
+ghost use Rattle.channel_session.specs.Progressing.{ComesBy, ComesTo, IsComeBy};
+ghost use Rattle.channel_session.specs.Sitting.{Moment, ReadsClock, Sitting, moment_of};
 ghost use Rattle.channel_session.specs.Stepping.{Rests, Steps, Turns, nothing_by};
 
 use crate::left::{Left, left_on};
@@ -20,12 +20,14 @@ use resolv_options::Options;
 use std::alloc::Global;
 use std::marker::Model;
 
-/// Brings one channel over one network from one completed request to the next. Contracts see its runner, and whether a
-/// turn was made since it last waited.
+/// Brings one channel over one network from one completed request to the next. Contracts see its runner, whether a turn
+/// was made since it last waited, and the last turn's reading of the clock.
 #[derive(Drop)]
 pub struct Session {
     runner: Runner,
     behind_turn: bool,
+    /// The last turn's reading of the clock, in milliseconds, 0 before the first.
+    reading: u64,
 }
 
 impl Model for Session {
@@ -33,7 +35,7 @@ impl Model for Session {
 
     ghost Value = { Sitting };
 
-    ghost view = { λ s. record { running = s.runner; behind_turn = s.behind_turn } };
+    ghost view = { λ s. record { running = s.runner; behind_turn = s.behind_turn; reading = s.reading } };
 }
 
 impl Session {
@@ -48,13 +50,14 @@ impl Session {
             (W.log world.new) }
         ensures fresh { IfOk result (λ session. session.running
             ≡ record session.running { reading = 0; broken = false; rows = []; mix = options.now.flags.mix }) }
-        ensures unturned { IfOk result (λ session. session.behind_turn ≡ false) }
+        ensures unturned { IfOk result (λ session. (session.behind_turn ≡ false) × (session.reading ≡ 0)) }
         ensures waits { W.wait_faults world.new ≡ W.wait_faults world.old }
         ensures origin { W.origin world.new ≡ W.origin world.old }
     {
         Ok(Session {
             runner: Runner::make(alloc, world, options)?,
             behind_turn: false,
+            reading: 0,
         })
     }
 
@@ -74,11 +77,30 @@ impl Session {
         ensures waits { W.wait_faults world.old ≤ W.wait_faults world.new }
         ensures origin { W.origin world.new ≡ W.origin world.old }
     {
+        let mut left = turns;
+        self.next_within(desk, world, &mut left)
+    }
+
+    /// The same, where so many turns are left, and those that it makes aren't any more: for one budget of many calls.
+    pub fn next_within<D: Desk, W: World>(
+        &mut self,
+        desk: &mut D,
+        world: &mut W,
+        left: &mut u64,
+    ) -> Result<Progress<D::Token>, NoMemory>
+        ensures comes_by { ComesBy D.Token.plan D.Token.name left.old left.new
+            (W.wait_faults world.old) (W.wait_faults world.new) result
+            (moment_of (D.known desk.old) self.old (W.log world.old))
+            (moment_of (D.known desk.new) self.new (W.log world.new)) }
+        ensures waits { W.wait_faults world.old ≤ W.wait_faults world.new }
+        ensures origin { W.origin world.new ≡ W.origin world.old }
+    {
+        let turns = *left;
         for _ in 0..turns {
             match desk.take() {
                 Some(ticket) => return Ok(Progress::Completed(ticket)),
                 None => match self.step(desk, world)? {
-                    Stepped::Turned => {}
+                    Stepped::Turned => *left -= 1,
                     Stepped::Over => return Ok(Progress::Over),
                     Stepped::WaitFault => return Ok(Progress::WaitFault),
                     Stepped::Disturbed => return Ok(Progress::Disturbed),
@@ -86,6 +108,22 @@ impl Session {
             }
         }
         Ok(settle(desk))
+    }
+
+    /// Reads the clock where the run stands, right behind a turn or before the first. The reading is no turn's.
+    pub fn read_clock<W: World>(&self, world: &mut W) -> Result<u64, NoMemory>
+        ensures reads { ReadsClock result self.now (W.log world.old) (W.log world.new) }
+        ensures waits { W.wait_faults world.new ≡ W.wait_faults world.old }
+        ensures origin { W.origin world.new ≡ W.origin world.old }
+    {
+        world.now()
+    }
+
+    /// The last turn's reading of the clock, in milliseconds, 0 before the first turn.
+    pub fn reading(&self) -> u64
+        ensures { result ≡ self.now.reading }
+    {
+        self.reading
     }
 
     /// A pause, if a turn was made since it last waited, and then a turn, if a request is pending.
@@ -146,8 +184,9 @@ impl Session {
         ensures waits { W.wait_faults world.new ≡ W.wait_faults world.old }
         ensures origin { W.origin world.new ≡ W.origin world.old }
     {
-        self.runner.turn(desk, world)?;
+        let turned = self.runner.turn(desk, world)?;
         self.behind_turn = true;
+        self.reading = turned.reading;
         Ok(())
     }
 }
@@ -166,7 +205,7 @@ fn nothing_left(paused: Paused) -> Stepped
 /// What it comes to where all turns were made: it takes the first ready request, or looks what is left.
 fn settle<D: Desk>(desk: &mut D) -> Progress<D::Token>
     ensures { (sitting : Sitting) (log : Option (List WorldCall)) (faults : ℕ)
-        → IsCome D.Token.plan D.Token.name 0 faults faults result
+        → IsComeBy D.Token.plan D.Token.name 0 0 faults faults result
         (moment_of (D.known desk.old) sitting log) (moment_of (D.known desk.new) sitting log) }
 {
     match desk.take() {

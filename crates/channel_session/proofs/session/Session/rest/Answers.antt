@@ -15,14 +15,14 @@ returns-in_err-pause-clause-rests g c =
 pub returns-in-Skipped-clause-rests : goal.returns-in-Skipped-clause-rests
 returns-in-Skipped-clause-rests g c =
     rests_viewed (Ok Skipped) _ _ _ _ _ _ _ c.self.view_is
-    (rests_skipped _ _ _ c.pause.new.self _ _ _ c.in_ok-pause.ensures.kept c.requires.none_ready _ c.if-not-self.false (rw c.in-Skipped.is at c.in_ok-pause.ensures.pauses))
+    (rests_skipped _ _ _ c.pause.new.self _ _ _ _ c.in_ok-pause.ensures.kept c.requires.none_ready _ c.if-not-self.false (rw c.in-Skipped.is at c.in_ok-pause.ensures.pauses))
 
 pub returns-in-Woken-clause-rests : goal.returns-in-Woken-clause-rests
 returns-in-Woken-clause-rests g c =
     rests_viewed (Ok Woken) _ _ _ _ _ _ _ c.self.view_is
-    (rests_woken _ _ _ c.pause.new.self _ _ _ c.in_ok-pause.ensures.kept c.requires.none_ready _ c.if-not-self.false (rw c.in-Woken.is at c.in_ok-pause.ensures.pauses))
+    (rests_woken _ _ _ c.pause.new.self _ _ _ _ c.in_ok-pause.ensures.kept c.requires.none_ready _ c.if-not-self.false (rw c.in-Woken.is at c.in_ok-pause.ensures.pauses))
 
 pub returns-in-WaitFault-clause-rests : goal.returns-in-WaitFault-clause-rests
 returns-in-WaitFault-clause-rests g c =
     rests_viewed (Ok WaitFault) _ _ _ _ _ _ _ c.self.view_is
-    (rests_failed _ _ _ c.pause.new.self _ _ _ c.in_ok-pause.ensures.kept c.requires.none_ready _ c.if-not-self.false (rw c.in-WaitFault.is at c.in_ok-pause.ensures.pauses))
+    (rests_failed _ _ _ c.pause.new.self _ _ _ _ c.in_ok-pause.ensures.kept c.requires.none_ready _ c.if-not-self.false (rw c.in-WaitFault.is at c.in_ok-pause.ensures.pauses))

@@ -6,7 +6,9 @@ pub returns-in_err-paused-clause-steps : goal.returns-in_err-paused-clause-steps
 returns-in_err-paused-clause-steps g c = steps_err _ _ c.from_residual.result c.from_residual.ensures.0 _ _ (cut_more 0 1 _ _ (omega arith) c.in_err-paused.ensures.rests)
 
 pub returns-in-WaitFault-clause-steps : goal.returns-in-WaitFault-clause-steps
-returns-in-WaitFault-clause-steps g c = (rw c.in-WaitFault.is at c.in_ok-paused.ensures.rests, c.in_ok-paused.ensures.wait_fault (rw c.in-WaitFault.is refl))
+returns-in-WaitFault-clause-steps g c =
+    let rests = rw c.in-WaitFault.is at c.in_ok-paused.ensures.rests in
+    (rests.0, rests.1, c.in_ok-paused.ensures.wait_fault (rw c.in-WaitFault.is refl))
 
 pub returns-in_err-turn-in-Pending-clause-steps : goal.returns-in_err-turn-in-Pending-clause-steps
 returns-in_err-turn-in-Pending-clause-steps g c =
