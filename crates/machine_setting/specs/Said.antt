@@ -1,5 +1,6 @@
 -- What the files that were read say. Unlike a tool, which ends where a file can't be read, a program goes on with what is left.
 use Rattle.std.specs.Prelude.{List, Option, [], codes, if◌then◌else◌, length, nat_lt, option_map, ℕ, ◌++◌, ◌∷◌, ◌≡◌}
+use mathlib.Core.List.{IsPrefix}
 use Rattle.hosts_file.specs.File.{hosts_of}
 use Rattle.hosts_file.specs.declared.hosts.HostLine.{HostLine}
 use Rattle.net_world.specs.Cause.{Rose}
@@ -53,3 +54,9 @@ pub record IsSetBy (before after : FilesTold) (options : OptionValues) (hosts : 
   pub hosts_fault : hosts_file ≡ Failed → Rose before.faults after.faults
   pub options_are : options ≡ options_by resolv
   pub hosts_are : hosts ≡ hosts_by hosts_file
+
+-- these are the reads of a resolv.conf and of a hosts file, or of the two only the first, or none
+pub record AreFirstReads (reads : List ReadCall) : Type 0 where
+  pub resolv : FileRead
+  pub hosts_file : FileRead
+  pub front : IsPrefix reads (resolv_call resolv ∷ hosts_call hosts_file ∷ [])

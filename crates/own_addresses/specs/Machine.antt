@@ -1,5 +1,6 @@
 -- The addresses from which a machine reaches others, by files of its system.
 use Rattle.std.specs.Prelude.{◌≡◌, ℕ, Bool, if◌then◌else◌, List, [], ◌++◌, ◌∷◌, codes, Option, option_map}
+use mathlib.Core.List.{IsPrefix}
 use Rattle.net_addr.specs.declared.addr.Addr.{Addr}
 use Rattle.net_world.specs.Cause.{Rose}
 use Rattle.net_world.specs.Files.{IsReadOf}
@@ -30,6 +31,16 @@ told_of routes interfaces leaves =
 abbrev pub read_of : List ℕ → FileRead → ReadCall
 read_of path file = record { path = path; most = 1048576; read = file }
 
+-- the read of each of the three files, with this answer
+abbrev pub routes_call : FileRead → ReadCall
+routes_call file = read_of (codes "/proc/net/ipv6_route") file
+
+abbrev pub interfaces_call : FileRead → ReadCall
+interfaces_call file = read_of (codes "/proc/net/if_inet6") file
+
+abbrev pub leaves_call : FileRead → ReadCall
+leaves_call file = read_of (codes "/proc/net/fib_trie") file
+
 -- these are chosen of what three files tell, each read once, in this order, as it is, with 1,048,576 bytes at most; and a read failed only where the count of failures rose
 pub record AreOwn (files : Option (List ℕ → Option (List ℕ))) (faults_before faults_after : ℕ) (reads_before reads_after : Option (List ReadCall)) (own : List Addr) : Type 0 where
   pub routes : FileRead
@@ -38,8 +49,15 @@ pub record AreOwn (files : Option (List ℕ → Option (List ℕ))) (faults_befo
   pub routes_read : IsReadOf files (codes "/proc/net/ipv6_route") 1048576 routes
   pub interfaces_read : IsReadOf files (codes "/proc/net/if_inet6") 1048576 interfaces
   pub leaves_read : IsReadOf files (codes "/proc/net/fib_trie") 1048576 leaves
-  pub reads : reads_after ≡ option_map (λ earlier. earlier ++ read_of (codes "/proc/net/ipv6_route") routes ∷ read_of (codes "/proc/net/if_inet6") interfaces ∷ read_of (codes "/proc/net/fib_trie") leaves ∷ []) reads_before
+  pub reads : reads_after ≡ option_map (λ earlier. earlier ++ routes_call routes ∷ interfaces_call interfaces ∷ leaves_call leaves ∷ []) reads_before
   pub routes_fault : routes ≡ Failed → Rose faults_before faults_after
   pub interfaces_fault : interfaces ≡ Failed → Rose faults_before faults_after
   pub leaves_fault : leaves ≡ Failed → Rose faults_before faults_after
   pub chosen : own ≡ chosen_of (told_of routes interfaces leaves)
+
+-- these are the reads of the three files, or the first ones of them, or none
+pub record AreFirstReads (reads : List ReadCall) : Type 0 where
+  pub routes : FileRead
+  pub interfaces : FileRead
+  pub leaves : FileRead
+  pub front : IsPrefix reads (routes_call routes ∷ interfaces_call interfaces ∷ leaves_call leaves ∷ [])

@@ -1,6 +1,7 @@
 //! The files that tell a machine's addresses.
 
-ghost use Rattle.std.specs.Prelude.{◌≡◌, ◌≤◌, length, IfOk};
+ghost use Rattle.std.specs.Prelude.{◌≡◌, ◌≤◌, length, IfOk, OnErr};
+ghost use Rattle.net_world.specs.Logs.{LogGets};
 ghost use Rattle.own_addresses.specs.Machine as meaning;
 
 use crate::choosing::chosen;
@@ -26,13 +27,15 @@ const FILE_MOST: u64 = 1_048_576;
 /// The addresses from which this machine reaches others, 8 at most: the first of each family and scope, then the others, those
 /// of global scope first. Those of loopback aren't among them, nor those of a family without a default route. There is none
 /// where the system has no such files, or where they can't be read, which the count of failures then tells. Each is read once;
-/// for want of memory not all of them may have been read.
+/// for want of memory only the first ones may have been read, or none.
+#[tactic(auto, using(crate::proofs::ReadLemmas::none_read))]
 pub fn own_addresses<F: Files>(alloc: Global, files: &mut F) -> Result<AddrList, NoMemory>
     ensures own { IfOk result (meaning.AreOwn (F.files files.old) (F.faults files.old) (F.faults files.new)
         (F.reads files.old) (F.reads files.new)) }
     ensures few { IfOk result (λ own. length own ≤ 8) }
     ensures files { F.files files.new ≡ F.files files.old }
     ensures faults { F.faults files.old ≤ F.faults files.new }
+    ensures err { OnErr result (LogGets meaning.AreFirstReads (F.reads files.old) (F.reads files.new)) }
 {
     let routes = files.read(IPV6_ROUTE, FILE_MOST)?;
     let interfaces = files.read(IF_INET6, FILE_MOST)?;

@@ -1,11 +1,11 @@
 -- What looks at sockets add to the inbox, one behind the other.
-use Rattle.std.proofs.Common.{List, [], ◌∷◌, ◌++◌, inl, inr, refl, sym, ap, ◌∙◌}
+use Rattle.std.proofs.Common.{◌≡◌, List, [], ◌∷◌, ◌++◌, refl, sym, ap, ◌∙◌}
 use Rattle.std.proofs.lemmas.List.{append-nil, append_assoc}
 use Rattle.std.proofs.lemmas.List.Elements.{All-nil, All-cons, All-append}
 use mathlib.Core.List.{IsPrefix}
 use Rattle.net_world.specs.declared.answers.Got.{Got}
-use Rattle.net_world.specs.declared.answers.Got.TheVariants.{Nothing}
-use Rattle.sock_engine.specs.Inbox.{BringsOnly, GivesFirst}
+use Rattle.net_world.specs.declared.answers.Got.TheVariants.{Datagram, Piece, Ended, Nothing, Failed as LinkFailed}
+use Rattle.sock_engine.specs.Inbox.{BringsOnly, GivesFirst, IsTaken, IsReceived}
 
 module _ (P : Got → Type 0) where
   -- nothing was added
@@ -34,14 +34,25 @@ pub prefix_longer : (old between new : List Got) → IsPrefix old between → Is
 prefix_longer old between new first second = (first.0 ++ second.0, sym (append_assoc old first.0 second.0) ∙ (ap (λ items. items ++ second.0) first.1 ∙ second.1))
 
 -- the first item was given
-pub first_given : (got : Got) (items : List Got) → GivesFirst (got ∷ items) items got
-first_given got items = record { all = got ∷ items; later = prefix_same (got ∷ items); first = inl refl }
+pub first_given : (got : Got) (items : List Got) → IsTaken got → GivesFirst (got ∷ items) items got
+first_given (Datagram server bytes) items is = record { all = Datagram server bytes ∷ items; held = λ some. refl; first = refl; none = λ same. absurd (cc same) }
+first_given (Piece link bytes) items is = record { all = Piece link bytes ∷ items; held = λ some. refl; first = refl; none = λ same. absurd (cc same) }
+first_given (Ended link) items is = record { all = Ended link ∷ items; held = λ some. refl; first = refl; none = λ same. absurd (cc same) }
+first_given Nothing items is = absurd is
+first_given (LinkFailed server link) items is = record { all = LinkFailed server link ∷ items; held = λ some. refl; first = refl; none = λ same. absurd (cc same) }
+
+-- what is taken may be received
+pub taken_received : (got : Got) → IsTaken got → IsReceived got
+taken_received (Datagram server bytes) is = is
+taken_received (Piece link bytes) is = is
+taken_received (Ended link) is = is
+taken_received Nothing is = tt
+taken_received (LinkFailed server link) is = is
 
 -- there was nothing to give
 pub none_given : GivesFirst [] [] Nothing
-none_given = record { all = []; later = prefix_same []; first = inr (refl, refl, refl) }
+none_given = record { all = []; held = λ some. refl; first = refl; none = λ same. refl }
 
--- more came before the first was given
-pub first_later : (old between new : List Got) (got : Got) → IsPrefix old between → GivesFirst between new got → GivesFirst old new got
-first_later old between new got later gives =
-    record { all = gives.all; later = prefix_longer old between gives.all later gives.later; first = gives.first }
+-- nothing had come, and of what came then the first was given
+pub first_later : (old between new : List Got) (got : Got) → old ≡ [] → GivesFirst between new got → GivesFirst old new got
+first_later old between new got empty gives = record { all = gives.all; held = λ some. absurd (some empty); first = gives.first; none = gives.none }

@@ -1,6 +1,5 @@
 -- What a receive of the network tells of the World's state.
 use Rattle.std.proofs.Common.{◌≡◌, ◌≢◌, ◌≤◌, ℕ, List, [], Result, Ok, Err, IfOk, OnErr, refl}
-use mathlib.Core.List.{IsPrefix}
 use Rattle.net_world.specs.declared.answers.Got.{Got}
 use Rattle.sock_engine.specs.Inbox.{GivesFirst}
 use Rattle.sock_engine.specs.State.{SockState, GivesNext, Keeps}
@@ -12,6 +11,6 @@ module _ (state : SockState) (came : List Got) (moment : ℕ) (later : state.mom
   next_given (Err error) first = first
 
   -- for want of memory nothing of what had come is lost
-  pub state_kept : {E : Type 0} (result : Result Got E) → OnErr result (IsPrefix state.came came) → OnErr result (Keeps state (record state { came = came; moment = moment }))
+  pub state_kept : {E : Type 0} (result : Result Got E) → OnErr result (state.came ≢ [] → came ≡ state.came) → OnErr result (Keeps state (record state { came = came; moment = moment }))
   state_kept (Ok got) is = is
   state_kept (Err error) is = record { state = refl; came = is; clock = record { later = later; holds = holds } }

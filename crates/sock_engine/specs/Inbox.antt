@@ -1,6 +1,5 @@
 -- What was received and not given yet, and what a look at a socket adds to it.
-use Rattle.std.specs.Prelude.{◌≡◌, ◌⊎◌, ℕ, ◌+◌, ◌<◌, ◌≤◌, List, [], ◌∷◌, ◌++◌, length, take, All, Bool, true, false, Option, None, Some, ◌==◌, nat_lt, not, ◌||◌, if◌then◌else◌, ⊤}
-use mathlib.Core.List.{IsPrefix}
+use Rattle.std.specs.Prelude.{◌≡◌, ◌≢◌, ℕ, ◌+◌, ◌<◌, ◌≤◌, List, [], ◌∷◌, ◌++◌, length, take, All, Bool, true, false, Option, None, Some, ◌==◌, nat_lt, not, ◌||◌, if◌then◌else◌, ⊤}
 use Rattle.net_world.specs.declared.answers.Got.{Got}
 use Rattle.net_world.specs.declared.answers.Got.TheVariants.{Datagram, Piece, Ended, Nothing, Failed as LinkFailed}
 use Rattle.sock_engine.specs.declared.inbox.Held.{Held}
@@ -11,13 +10,21 @@ use Rattle.sock_engine.specs.declared.ends.Moved.{Moved}
 use Rattle.sock_engine.specs.declared.ends.Moved.TheVariants.{Done, Blocked as WouldWait, Again as CutOff, Failed as NotMoved}
 use Rattle.sock_engine.specs.Reply.{IsReply}
 
--- what is taken: a datagram may answer something, and a piece has a byte, and at most 16 KiB
+-- what is taken: a datagram may answer something, and a piece has a byte, and at most 16 KiB; that there is nothing is no item
 abbrev pub IsTaken : Got → Type 0
 IsTaken (Datagram server bytes) = IsReply bytes
 IsTaken (Piece link bytes) = (0 < length bytes) × (length bytes ≤ 16384)
 IsTaken (Ended link) = ⊤
-IsTaken Nothing = ⊤
+IsTaken Nothing = ⊥
 IsTaken (LinkFailed server link) = ⊤
+
+-- what is received: an item that was taken, or that there is none
+abbrev pub IsReceived : Got → Type 0
+IsReceived (Datagram server bytes) = IsTaken (Datagram server bytes)
+IsReceived (Piece link bytes) = IsTaken (Piece link bytes)
+IsReceived (Ended link) = IsTaken (Ended link)
+IsReceived Nothing = ⊤
+IsReceived (LinkFailed server link) = IsTaken (LinkFailed server link)
 
 -- how many bytes an item has
 abbrev pub size_of : Got → ℕ
@@ -110,11 +117,20 @@ abbrev pub Pops : List Got → List Got → Option Got → Type 0
 Pops old new (Some got) = old ≡ got ∷ new
 Pops old new None = (old ≡ []) × (new ≡ [])
 
--- what came before, and then what came since: the first of it is given, or there was nothing
+-- the items that an answer gives: one, or none
+abbrev pub items_given : Got → List Got
+items_given (Datagram server bytes) = Datagram server bytes ∷ []
+items_given (Piece link bytes) = Piece link bytes ∷ []
+items_given (Ended link) = Ended link ∷ []
+items_given Nothing = []
+items_given (LinkFailed server link) = LinkFailed server link ∷ []
+
+-- what had come, or where nothing had what comes now, is what is given and then what is left; nothing is given only where none is left
 pub record GivesFirst (old new : List Got) (got : Got) : Type 0 where
   pub all : List Got
-  pub later : IsPrefix old all
-  pub first : (all ≡ got ∷ new) ⊎ ((all ≡ []) × (got ≡ Nothing) × (new ≡ []))
+  pub held : old ≢ [] → all ≡ old
+  pub first : all ≡ items_given got ++ new
+  pub none : got ≡ Nothing → new ≡ []
 
 -- a look at a server's socket brings one datagram of it, which may answer something, or nothing
 abbrev pub LooksAtServer : ℕ → List Got → List Got → Found → Type 0

@@ -5,6 +5,7 @@ use mathlib.Core.List.{IsPrefix}
 use Rattle.net_world.specs.declared.answers.Got.{Got}
 use Rattle.net_world.specs.declared.answers.Sent.{Sent}
 use Rattle.net_world.specs.declared.answers.Waited.{Waited}
+use Rattle.net_world.specs.declared.answers.Waited.TheVariants.{Woken}
 use Rattle.net_world.specs.Cause.{raised, is_not_sent, is_link_failed, is_not_waited}
 use Rattle.sock_engine.specs.declared.local_failure.LocalFailure.{LocalFailure}
 use Rattle.sock_engine.specs.declared.network.Network.{Network}
@@ -62,29 +63,31 @@ pub record HoldsClock (old new : SockState) : Type 0 where
   pub later : old.moment ≤ new.moment
   pub holds : old.came ≢ [] → new.moment ≡ old.moment
 
--- the first of what came is given
+-- the first of what came is given, or nothing came
 pub record GivesNext (old new : SockState) (got : Got) : Type 0 where
   pub state : new ≡ record old { came = new.came; moment = new.moment }
   pub first : GivesFirst old.came new.came got
   pub clock : HoldsClock old new
 
--- the first of what came is given, and the count of failures is one more exactly where it tells one
+-- the first of what came is given, or nothing came, and the count of failures is one more exactly where it tells one
 pub record CountsReceive (old new : SockState) (got : Got) : Type 0 where
   pub state : new ≡ record old { faults = raised (is_link_failed got) old.faults; came = new.came; moment = new.moment; local = new.local }
   pub first : GivesFirst old.came new.came got
   pub clock : HoldsClock old new
   pub failure : KeepsFirst old.local new.local
 
--- nothing is changed, but that more may have come behind what had
+-- nothing is changed, but that something may have come where nothing had
 pub record Keeps (old new : SockState) : Type 0 where
   pub state : new ≡ record old { came = new.came; moment = new.moment }
-  pub came : IsPrefix old.came new.came
+  pub came : old.came ≢ [] → new.came ≡ old.came
   pub clock : HoldsClock old new
 
--- the count of failed waits is one more exactly where this answer tells one; else a first failure of this machine may be known
+-- the count of failed waits is one more exactly where this answer tells one; else a first failure of this machine may be known.
+-- Where something that came isn't given it doesn't fail
 pub record CountsWait (old new : SockState) (waited : Waited) : Type 0 where
   pub state : new ≡ record old { wait_faults = raised (is_not_waited waited) old.wait_faults; local = new.local }
   pub first : KeepsFirst old.local new.local
+  pub held : old.came ≢ [] → waited ≡ Woken
 
 -- without a poll and a generator this answer tells a failure
 abbrev pub FailsUnmade : {T : Type 0} → (T → Bool) → SockState → T → Type 0

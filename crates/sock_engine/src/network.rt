@@ -3,7 +3,8 @@
 ghost use Rattle.std.specs.Prelude.{◌≡◌, ◌≢◌, ◌≤◌, [], length, filter, not, IfOk, OnErr};
 ghost use mathlib.Core.List.{IsPrefix};
 ghost use Rattle.net_world.specs.World.{IsPartOf, is_of_link};
-ghost use Rattle.sock_engine.specs.Inbox.{GivesFirst, IsTaken, byte_count};
+ghost use Rattle.net_world.specs.declared.answers.Waited.TheVariants.{Woken};
+ghost use Rattle.sock_engine.specs.Inbox.{GivesFirst, IsReceived, byte_count};
 
 use crate::clock::clock_millis;
 use crate::ends::{Moved, patience, wrote_of};
@@ -252,12 +253,12 @@ impl Network {
         self.inbox.drop_link(link);
     }
 
-    #[tactic(auto, using(crate::proofs::BringsLemmas::prefix_same, crate::proofs::BringsLemmas::first_later))]
+    #[tactic(auto, using(crate::proofs::BringsLemmas::first_later))]
     pub(crate) fn receive<R: Clock>(&mut self, rt: &R) -> Result<Got, NoMemory>
         ensures ok { IfOk result (GivesFirst self.old.inbox self.new.inbox) }
-        ensures taken { IfOk result IsTaken }
+        ensures taken { IfOk result IsReceived }
         ensures few { IfOk result (λ _. byte_count self.new.inbox ≤ 4259839) }
-        ensures err { OnErr result (IsPrefix self.old.inbox self.new.inbox) }
+        ensures err { OnErr result (self.old.inbox ≢ [] → self.new.inbox ≡ self.old.inbox) }
         ensures later { self.old.watch.shown ≤ self.new.watch.shown }
         ensures holds { self.old.inbox ≢ [] → self.new.watch.shown ≡ self.old.watch.shown }
     {
@@ -268,6 +269,7 @@ impl Network {
     }
 
     pub(crate) fn wait<R: Net + Clock>(&mut self, rt: &R, clock: u64, until: u64) -> Waited
+        ensures held { self.old.inbox ≢ [] → result ≡ Woken }
         ensures inbox { self.new.inbox ≡ self.old.inbox }
         ensures moment { self.new.watch.shown ≡ self.old.watch.shown }
     {
@@ -426,10 +428,10 @@ fn wake_one(servers: &mut [Served], links: &mut [Link], token: usize) {
     }
 }
 
-#[tactic(auto, using(crate::proofs::BringsLemmas::first_given, crate::proofs::BringsLemmas::none_given))]
+#[tactic(auto, using(crate::proofs::BringsLemmas::first_given, crate::proofs::BringsLemmas::taken_received, crate::proofs::BringsLemmas::none_given))]
 fn take_first(inbox: &mut Inbox) -> Result<Got, NoMemory>
     ensures ok { IfOk result (GivesFirst inbox.old inbox.new) }
-    ensures taken { IfOk result IsTaken }
+    ensures taken { IfOk result IsReceived }
     ensures few { byte_count inbox.new ≤ 4259839 }
     ensures err { OnErr result (inbox.new ≡ inbox.old) }
 {

@@ -4,7 +4,7 @@ ghost use Rattle.std.specs.Prelude.{◌≡◌, ◌≤◌, length, filter, not, I
 ghost use Rattle.std.specs.Option.{is_some};
 ghost use Rattle.net_world.specs.Cause.{is_not_sent, is_not_written, is_link_failed, is_not_waited};
 ghost use Rattle.net_world.specs.World.{IsPartOf, IsWhole, is_of_link};
-ghost use Rattle.sock_engine.specs.Inbox.{IsTaken, byte_count};
+ghost use Rattle.sock_engine.specs.Inbox.{IsReceived, byte_count};
 ghost use Rattle.sock_engine.specs.State.{fresh_state, CountsFault, CountsSend, CountsReceive, CountsWait, FailsUnmade, GivesNext, Keeps, KeepsFirst, ReadsOn};
 
 use crate::clock::clock_millis;
@@ -151,7 +151,7 @@ impl<R: Net + Clock + RandomSource + AllocGlobal> SockWorld<R> {
     pub fn receive(&mut self) -> Result<Got, NoMemory>
         ensures ok { IfOk result (CountsReceive self.old self.new) }
         ensures whole { IfOk result IsWhole }
-        ensures taken { IfOk result IsTaken }
+        ensures taken { IfOk result IsReceived }
         ensures few { IfOk result (λ _. byte_count self.new.came ≤ 4259839) }
         ensures err { OnErr result (Keeps self.old self.new) }
     {
@@ -162,9 +162,10 @@ impl<R: Net + Clock + RandomSource + AllocGlobal> SockWorld<R> {
     }
 
     /// The next of what came.
+    #[tactic(auto, using(crate::proofs::BringsLemmas::none_given))]
     fn take_next(&mut self) -> Result<Got, NoMemory>
         ensures ok { IfOk result (GivesNext self.old self.new) }
-        ensures taken { IfOk result IsTaken }
+        ensures taken { IfOk result IsReceived }
         ensures few { IfOk result (λ _. byte_count self.new.came ≤ 4259839) }
         ensures err { OnErr result (Keeps self.old self.new) }
     {

@@ -1,9 +1,9 @@
-use Rattle.std.proofs.Common.{ap, arith, subst}
+use Rattle.std.proofs.Common.{ap, arith, subst, ◌∙◌}
 use Rattle.std.specs.Prelude.{codes}
 use Rattle.net_world.proofs.CauseLemmas.{rose_within}
 use Rattle.net_world.specs.Cause.{is_not_read}
 use Rattle.net_world.specs.Files.{IsReadOf}
-use Rattle.machine_setting.proofs.ReadLemmas.{read_both}
+use Rattle.machine_setting.proofs.ReadLemmas.{on_err, one_read, read_both, two_read}
 use Rattle.machine_setting.proofs.setting.read_setting.Goals as goal
 
 -- both were read, and say this
@@ -20,3 +20,14 @@ returns-clause-set g c =
       options_are = c.in_ok-options_by.ensures;
       hosts_are = c.in_ok-hosts_by.ensures;
     }
+
+-- the first was read, and memory was wanting at the second
+pub returns-in_err-hosts-clause-err : goal.returns-in_err-hosts-clause-err
+returns-in_err-hosts-clause-err g c = on_err _ (one_read c.in_ok-resolv.resolv _ _ (c.in_err-hosts.ensures.reads ∙ c.in_ok-resolv.ensures.reads))
+
+-- both were read, and memory was wanting for what the first one says, or the second
+pub returns-in_err-options_by-clause-err : goal.returns-in_err-options_by-clause-err
+returns-in_err-options_by-clause-err g c = on_err _ (two_read c.in_ok-resolv.resolv c.in_ok-hosts.hosts _ _ _ c.in_ok-resolv.ensures.reads c.in_ok-hosts.ensures.reads)
+
+pub returns-in_err-hosts_by-clause-err : goal.returns-in_err-hosts_by-clause-err
+returns-in_err-hosts_by-clause-err g c = on_err _ (two_read c.in_ok-resolv.resolv c.in_ok-hosts.hosts _ _ _ c.in_ok-resolv.ensures.reads c.in_ok-hosts.ensures.reads)
