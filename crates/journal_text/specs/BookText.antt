@@ -1,5 +1,7 @@
 -- A run as text: its lines in order, each ended by a line feed.
 use Rattle.std.specs.Prelude.{ℕ, List, [], ◌∷◌, ◌++◌, map, flat_map}
+use Rattle.chan_types.specs.declared.journal.Entry.{Entry}
+use Rattle.resolv_options.specs.Values.{OptionValues}
 use Rattle.journal_text.specs.declared.book.Book.{Book}
 use Rattle.journal_text.specs.declared.line.Line.{Line}
 use Rattle.journal_text.specs.declared.line.Line.TheVariants.{Head, Set, Server, Domain, Source, Hosts, Event, End}
@@ -24,3 +26,7 @@ lines_text line items = flat_map (λ item. ended_line (line_text (line item))) i
 -- the text of a run
 abbrev pub text_of_book : Book → List ℕ
 text_of_book book = flat_map (λ line. ended_line (line_text line)) (lines_of_book book)
+
+-- the same by its parts: its options, the bytes of its hosts file, and its entries
+abbrev pub text_of_run : OptionValues → List ℕ → List Entry → List ℕ
+text_of_run options hosts entries = text_of_book (record { options = options; hosts = hosts; journal = entries })

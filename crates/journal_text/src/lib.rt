@@ -23,7 +23,7 @@ mod script_reading;
 mod word_reading;
 
 pub use book::Book;
-pub use book_printing::print_book;
+pub use book_printing::{print_book, print_run};
 pub use book_reading::read_book;
 pub use fault::BookFault;
 pub use laws::{printed_runs_read_back, texts_of_runs_differ};
