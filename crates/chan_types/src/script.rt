@@ -121,6 +121,14 @@ impl Script {
         self.tag
     }
 
+    /// How deep it nests, itself included: at most four.
+    pub fn depth(&self) -> u64
+        ensures depth { result ≡ depth self.now.moves }
+        ensures few { depth self.now.moves ≤ 4 }
+    {
+        self.deep
+    }
+
     /// The steps, in order: at most eight.
     #[tactic(auto, using(crate::proofs::MovesLemmas::count_moves))]
     pub fn steps(&self) -> &[Step]
