@@ -36,7 +36,7 @@ impl<R: Net + Clock + AllocGlobal + Eprint + Copy> Listener for Telling<R> {
 
     ghost log = { λ _. None };
 
-    ghost faults = { λ l. l.inner };
+    ghost faults = { λ l. l.inner.faults };
 
     fn listen(&mut self, port: u16) -> Result<Sent, NoMemory> {
         let sent = self.inner.listen(port)?;

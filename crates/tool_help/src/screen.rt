@@ -1,6 +1,6 @@
 //! The screen of a tool: how it is used, and a line for each of its options.
 
-ghost use Rattle.std.specs.Prelude.{◌≡◌, ◌++◌, ◌-◌, length, map, replicate, IfOk, OnOk};
+ghost use Rattle.std.specs.Prelude.{◌≡◌, ◌++◌, ◌-◌, length, map, replicate, IfOk, OnErr, OnOk};
 ghost use Rattle.std.specs.List.{flat_map};
 ghost use Rattle.std.specs.String.{string_bytes};
 ghost use Rattle.tool_help.specs.Screen as meaning;
@@ -25,12 +25,16 @@ pub fn option_rows(tool: Tool) -> &'static [OptionRow]
     }
 }
 
-/// Adds how the tool is used, and a line for each of its options.
+/// Adds how the tool is used, and a line for each of its options. For want of memory the text is as before.
 pub fn put_screen(alloc: Global, text: &mut String, tool: Tool) -> Result<(), NoMemory>
-    ensures { OnOk result (meaning.PutsScreen tool (string_bytes text.old) (string_bytes text.new)) }
+    ensures ok { OnOk result (meaning.PutsScreen tool (string_bytes text.old) (string_bytes text.new)) }
+    ensures err { OnErr result (string_bytes text.new ≡ string_bytes text.old) }
 {
-    text.push_str(usage(tool))?;
-    put_rows(alloc, text, option_rows(tool))
+    let mut screen = String::new(alloc);
+    screen.push_str(usage(tool))?;
+    put_rows(alloc, &mut screen, option_rows(tool))?;
+    text.push_str(screen.as_str())?;
+    Ok(())
 }
 
 /// How the tool is used.

@@ -1,7 +1,0 @@
-use Rattle.std.proofs.Common.{◌≡◌, ◌++◌, take}
-use Rattle.std.specs.List.{flat_map}
-use Rattle.host_lookups.specs.Page.{address_line}
-use Rattle.host_lookups.proofs.page.put_addresses.Given as goal
-
-abbrev pub invariant-loop-address : goal.invariant-loop-address
-invariant-loop-address l = l.page.items ≡ l.initial.page.items ++ flat_map address_line (take l.address-index l.addresses)
