@@ -14,6 +14,7 @@ mod DeliverLemmas
 mod TakingLemmas
 mod BackLemmas
 mod CallLemmas
+mod RunnerLemmas
 pub mod SendLemmas
 pub mod ClosureLemmas
 mod ScriptLemmas
