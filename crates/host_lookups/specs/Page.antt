@@ -18,5 +18,9 @@ abbrev pub subject_of : List (List ℕ) → ℕ → List ℕ
 subject_of hosts number = unwrap_or (slice_get hosts (number - 1)) (43 ∷ [])
 
 -- an answer on a line: what was asked for, how it ended, and the addresses
+abbrev pub line_of : List ℕ → Answer → List ℕ
+line_of subject answer = subject ++ 32 ∷ status_text answer.status ++ flat_map spaced_address answer.addresses ++ 10 ∷ []
+
+-- the same, where these hosts were asked for, in order
 abbrev pub answer_line : List (List ℕ) → Answer → List ℕ
-answer_line hosts answer = subject_of hosts answer.number ++ 32 ∷ status_text answer.status ++ flat_map spaced_address answer.addresses ++ 10 ∷ []
+answer_line hosts answer = line_of (subject_of hosts answer.number) answer

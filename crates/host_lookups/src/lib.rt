@@ -10,5 +10,5 @@ mod scripts;
 
 pub use many::look_up_all;
 pub use one::look_up;
-pub use page::{put_addresses, put_answer};
+pub use page::{put_addresses, put_answer, put_line};
 pub use request::request_for;

@@ -43,17 +43,34 @@ pub fn put_answer(
         ≡ page.old.items ++ meaning.answer_line (map (λ name. name.now) names.now) answer.now) }
     ensures err { OnErr result (page.new.items ≡ page.old.items) }
 {
-    let line = answer_line(alloc, names, answer)?;
+    put_line(
+        alloc,
+        subject(names, answer.number).as_bytes(),
+        answer,
+        page,
+    )
+}
+
+/// Writes an answer on a line: what was asked for; how it ended; and its addresses. For want of memory the page is as before.
+pub fn put_line(
+    alloc: Global,
+    subject: &[u8],
+    answer: &Answer,
+    page: &mut Vec<u8>,
+) -> Result<(), NoMemory>
+    ensures ok { OnOk result (page.new.items ≡ page.old.items ++ meaning.line_of subject.now answer.now) }
+    ensures err { OnErr result (page.new.items ≡ page.old.items) }
+{
+    let line = line_for(alloc, subject, answer)?;
     page.extend_from_slice(line.as_slice())?;
     Ok(())
 }
 
 /// An answer's line.
-fn answer_line(alloc: Global, names: &[&str], answer: &Answer) -> Result<Vec<u8>, NoMemory>
-    ensures { IfOk result (λ line. line.items
-        ≡ meaning.answer_line (map (λ name. name.now) names.now) answer.now) }
+fn line_for(alloc: Global, subject: &[u8], answer: &Answer) -> Result<Vec<u8>, NoMemory>
+    ensures { IfOk result (λ line. line.items ≡ meaning.line_of subject.now answer.now) }
 {
-    let mut line = Vec::from_slice(alloc, subject(names, answer.number).as_bytes())?;
+    let mut line = Vec::from_slice(alloc, subject)?;
     line.push(b' ')?;
     line.extend_from_slice(answer.status.text().as_bytes())?;
     put_spaced(alloc, answer.addresses.as_slice(), &mut line)?;
