@@ -26,7 +26,7 @@ const OTHER_NAMES: [Call<'static>; 11] = [
 #[test]
 fn names_that_differ_in_case_alone(rt: HostRuntime) -> Result<(), Fail> {
     let mut cache = QueryCache::make(rt.alloc(), 4, 86_400)?;
-    assert_eq!(rt; first_wrong(rt.alloc(), &mut cache, &OTHER_NAMES)?, None);
+    assert!(rt; first_wrong(rt.alloc(), &mut cache, &OTHER_NAMES)? == None);
     Ok(())
 }
 
@@ -55,7 +55,7 @@ const KEPT: [Call<'static>; 1] = [Keep(0, "a.test", 1, &[(A, 300)])];
 fn kinds_and_classes_differ(rt: HostRuntime) -> Result<(), Fail> {
     let alloc = rt.alloc();
     let mut cache = QueryCache::make(alloc, 4, 86_400)?;
-    assert_eq!(rt; first_wrong(alloc, &mut cache, &KEPT)?, None);
+    assert!(rt; first_wrong(alloc, &mut cache, &KEPT)? == None);
     for (kind, class, number) in QUESTIONS.iter() {
         assert!(rt; given_for(alloc, &mut cache, "a.test", *kind, *class)? == *number);
     }
@@ -79,7 +79,7 @@ const ZEROS: [Call<'static>; 10] = [
 #[test]
 fn a_ttl_of_0_in_one_of_two_answers(rt: HostRuntime) -> Result<(), Fail> {
     let mut cache = QueryCache::make(rt.alloc(), 4, 86_400)?;
-    assert_eq!(rt; first_wrong(rt.alloc(), &mut cache, &ZEROS)?, None);
+    assert!(rt; first_wrong(rt.alloc(), &mut cache, &ZEROS)? == None);
     Ok(())
 }
 

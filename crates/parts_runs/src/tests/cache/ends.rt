@@ -22,7 +22,7 @@ const THE_END: [Call<'static>; 9] = [
 #[test]
 fn the_end_itself_is_a_miss(rt: HostRuntime) -> Result<(), Fail> {
     let mut cache = QueryCache::make(rt.alloc(), 4, 86_400)?;
-    assert_eq!(rt; first_wrong(rt.alloc(), &mut cache, &THE_END)?, None);
+    assert!(rt; first_wrong(rt.alloc(), &mut cache, &THE_END)? == None);
     Ok(())
 }
 
@@ -40,7 +40,7 @@ const A_CHAIN: [Call<'static>; 6] = [
 #[test]
 fn a_chain_lives_as_long_as_its_first_to_die(rt: HostRuntime) -> Result<(), Fail> {
     let mut cache = QueryCache::make(rt.alloc(), 4, 86_400)?;
-    assert_eq!(rt; first_wrong(rt.alloc(), &mut cache, &A_CHAIN)?, None);
+    assert!(rt; first_wrong(rt.alloc(), &mut cache, &A_CHAIN)? == None);
     Ok(())
 }
 
@@ -54,7 +54,7 @@ const THE_MOST: [Call<'static>; 3] = [
 #[test]
 fn an_answer_ends_with_the_most(rt: HostRuntime) -> Result<(), Fail> {
     let mut cache = QueryCache::make(rt.alloc(), 4, 60)?;
-    assert_eq!(rt; first_wrong(rt.alloc(), &mut cache, &THE_MOST)?, None);
+    assert!(rt; first_wrong(rt.alloc(), &mut cache, &THE_MOST)? == None);
     Ok(())
 }
 
@@ -70,6 +70,6 @@ const PAST_ALL: [Call<'static>; 5] = [
 #[test]
 fn an_end_past_all_moments(rt: HostRuntime) -> Result<(), Fail> {
     let mut cache = QueryCache::make(rt.alloc(), 1, 604_800)?;
-    assert_eq!(rt; first_wrong(rt.alloc(), &mut cache, &PAST_ALL)?, None);
+    assert!(rt; first_wrong(rt.alloc(), &mut cache, &PAST_ALL)? == None);
     Ok(())
 }

@@ -1,6 +1,6 @@
 //! A body that records its calls, and what scripts command, as tables.
 
-ghost use Rattle.std.specs.Prelude.{◌≡◌, [], IfSome, None, Some, is_some, true};
+ghost use Rattle.std.specs.Prelude.{◌≡◌, [], IfOk, IfSome, None, Some, is_some, true};
 
 use chan_types::{
     Act, Addr, AddrList, Answer, Bytes, Command, Name, Need, NoMemory, Orders, Refusal, Script,
@@ -153,37 +153,79 @@ fn call_both<B: Done + Drop>(
     (early.into_body(), late.into_body())
 }
 
+/// What a record has: the calls, the number and the code of the last one, and the sum of the refusals' numbers.
+fn recorded(record: &Record) -> [u64; 4] {
+    [
+        record.calls.load(Ordering::SeqCst),
+        record.number.load(Ordering::SeqCst),
+        record.code.load(Ordering::SeqCst),
+        record.refusals.load(Ordering::SeqCst),
+    ]
+}
+
+/// A body with a script of this tag, which records what it is told.
+fn recording(alloc: Global, tag: u64, record: &Arc<Record, Global>) -> Result<Recorder, Fail>
+    ensures { IfOk result (λ recorder. recorder.inner.told ≡ None) }
+{
+    let record = Arc::try_clone(record)?;
+    Ok(Recorder {
+        inner: Scripted::new(Script::blank(alloc, tag)),
+        record,
+    })
+}
+
+/// Calls a box. Answers what it said it was told before the call, and what `call_body` answers.
+fn call_box(
+    alloc: Global,
+    recorder: Recorder,
+    told: &Answer,
+) -> Result<(Option<u64>, (u64, u64, bool, Option<u64>)), Fail>
+    requires { recorder.inner.told ≡ None }
+{
+    let mut hand = Hand::make(alloc)?;
+    let body: Box<dyn Done + Send + Drop> = Box::new(alloc, recorder)?;
+    let before = body.called();
+    Ok((before, call_body(body, told, &mut hand)))
+}
+
+/// Refuses a box. Answers what it then says it was told.
+fn refuse_box(alloc: Global, recorder: Recorder, why: Refusal) -> Result<Option<u64>, Fail>
+    requires { recorder.inner.told ≡ None }
+{
+    let body: Box<dyn Done + Send + Drop> = Box::new(alloc, recorder)?;
+    Ok(told_by(refuse_body(body, why)))
+}
+
 // A box is called once, with the answer of its request, and knows that answer's number afterwards. No other box is.
 #[test]
 fn a_box_is_called_once(rt: HostRuntime) -> Result<(), Fail> {
     let alloc = rt.alloc();
     let (first, other) = (blank_record(alloc)?, blank_record(alloc)?);
-    let body: Box<dyn Done + Send + Drop> = Box::new(
-        alloc,
-        Recorder {
-            inner: Scripted::new(Script::blank(alloc, 9)),
-            record: Arc::try_clone(&first)?,
-        },
-    )?;
-    let unused: Box<dyn Done + Send + Drop> = Box::new(
-        alloc,
-        Recorder {
-            inner: Scripted::new(Script::blank(alloc, 8)),
-            record: Arc::try_clone(&other)?,
-        },
-    )?;
-    assert_eq!(rt; body.called(), None);
-    let mut hand = Hand::make(alloc)?;
+    let unused = recording(alloc, 8, &other)?;
     let told = answer(alloc, 7, Status::Cancelled, &[])?;
-    assert_eq!(rt; call_body(body, &told, &mut hand), (9, 7, true, Some(7)));
-    assert_eq!(rt; first.calls.load(Ordering::SeqCst), 1);
-    assert_eq!(rt; first.number.load(Ordering::SeqCst), 7);
-    assert_eq!(rt; first.code.load(Ordering::SeqCst), 24);
-    assert_eq!(rt; first.refusals.load(Ordering::SeqCst), 0);
-    assert_eq!(rt; told_by(refuse_body(unused, Refusal::NoMemory)), None);
-    assert_eq!(rt; other.calls.load(Ordering::SeqCst), 0);
-    assert_eq!(rt; other.refusals.load(Ordering::SeqCst), 2);
+    let called = call_box(alloc, recording(alloc, 9, &first)?, &told)?;
+    assert!(rt; called == (None, (9, 7, true, Some(7))));
+    assert!(rt; recorded(&first) == [1, 7, 24, 0]);
+    assert!(rt; refuse_box(alloc, unused, Refusal::NoMemory)? == None);
+    assert!(rt; recorded(&other) == [0, 0, 0, 2]);
     Ok(())
+}
+
+/// Calls two boxes, the second one first, each with an answer of its own. Answers what each then says it was told.
+fn call_boxes(
+    alloc: Global,
+    first: Recorder,
+    second: Recorder,
+    one: &Answer,
+    other: &Answer,
+) -> Result<(Option<u64>, Option<u64>), Fail>
+    requires { (first.inner.told ≡ None) × (second.inner.told ≡ None) }
+{
+    let (mut hand, mut other_hand) = (Hand::make(alloc)?, Hand::make(alloc)?);
+    let first: Box<dyn Done + Send + Drop> = Box::new(alloc, first)?;
+    let second: Box<dyn Done + Send + Drop> = Box::new(alloc, second)?;
+    let (early, late) = call_both(first, second, one, other, &mut hand, &mut other_hand);
+    Ok((told_by(early), told_by(late)))
 }
 
 // Of two boxes the second one is called first: each is told its own request's answer.
@@ -191,30 +233,14 @@ fn a_box_is_called_once(rt: HostRuntime) -> Result<(), Fail> {
 fn each_box_is_told_its_own(rt: HostRuntime) -> Result<(), Fail> {
     let alloc = rt.alloc();
     let (record, other_record) = (blank_record(alloc)?, blank_record(alloc)?);
-    let first: Box<dyn Done + Send + Drop> = Box::new(
-        alloc,
-        Recorder {
-            inner: Scripted::new(Script::blank(alloc, 1)),
-            record: Arc::try_clone(&record)?,
-        },
-    )?;
-    let second: Box<dyn Done + Send + Drop> = Box::new(
-        alloc,
-        Recorder {
-            inner: Scripted::new(Script::blank(alloc, 1)),
-            record: Arc::try_clone(&other_record)?,
-        },
-    )?;
     let one = answer(alloc, 7, Status::Success, &[])?;
     let other = answer(alloc, 8, Status::TimedOut, &[])?;
-    let (mut hand, mut other_hand) = (Hand::make(alloc)?, Hand::make(alloc)?);
-    let (early, late) = call_both(first, second, &one, &other, &mut hand, &mut other_hand);
-    assert_eq!(rt; told_by(early), Some(7));
-    assert_eq!(rt; told_by(late), Some(8));
-    assert_eq!(rt; record.number.load(Ordering::SeqCst), 7);
-    assert_eq!(rt; record.code.load(Ordering::SeqCst), 0);
-    assert_eq!(rt; other_record.number.load(Ordering::SeqCst), 8);
-    assert_eq!(rt; other_record.code.load(Ordering::SeqCst), 12);
+    let first = recording(alloc, 1, &record)?;
+    let second = recording(alloc, 1, &other_record)?;
+    let told = call_boxes(alloc, first, second, &one, &other)?;
+    assert!(rt; told == (Some(7), Some(8)));
+    assert!(rt; recorded(&record) == [1, 7, 0, 0]);
+    assert!(rt; recorded(&other_record) == [1, 8, 12, 0]);
     Ok(())
 }
 
@@ -312,28 +338,37 @@ const CASES: [(Status, Orders, &[Addr], &[(u8, u64)]); 5] = [
     (Status::Cancelled, NONE, &[], &[(b'q', 2)]),
 ];
 
+// Whether a callback with this script commands what the case has.
+fn commands(
+    alloc: Global,
+    script: &Script,
+    case: &(Status, Orders, &[Addr], &[(u8, u64)]),
+) -> Result<bool, Fail> {
+    let (status, orders, addresses, expected) = *case;
+    let told = answer(alloc, 5, status, addresses)?;
+    let mut hand = Hand::make(alloc)?;
+    hand.set(orders);
+    let callback: Callback<Recorder> = Callback::scripted(script.copy(alloc)?);
+    let called = callback.call(&told, &mut hand);
+    let told = (called.number(), called.boxed());
+    Ok(told == (5, false) && letters(alloc, &mut hand)?.as_slice() == expected)
+}
+
 // A script alone commands by the answer's status, the orders and the answer's first address, in the order of its steps.
 #[test]
 fn scripts_command_by_answer_and_orders(rt: HostRuntime) -> Result<(), Fail> {
     let alloc = rt.alloc();
     let script = four_steps(alloc)?;
-    for (status, orders, addresses, expected) in CASES {
-        let mut hand = Hand::make(alloc)?;
-        hand.set(orders);
-        let callback: Callback<Recorder> = Callback::scripted(script.copy(alloc)?);
-        let called = callback.call(&answer(alloc, 5, status, addresses)?, &mut hand);
-        assert_eq!(rt; (called.number(), called.boxed()), (5, false));
-        assert_eq!(rt; letters(alloc, &mut hand)?.as_slice(), expected);
+    for case in CASES.iter() {
+        assert!(rt; commands(alloc, &script, case)?);
     }
     Ok(())
 }
 
-// A hand holds eight commands, and gives them back in order.
-#[test]
-fn a_hand_holds_eight(rt: HostRuntime) -> Result<(), Fail> {
-    let alloc = rt.alloc();
-    let mut hand = Hand::make(alloc)?;
-    assert_eq!(rt; hand.orders(), NONE);
+/// Fills a hand: a query, a destroy, and cancels. Answers for how many more there is room.
+fn fill(alloc: Global, hand: &mut Hand) -> Result<u64, Fail>
+    requires { hand.old.commands ≡ [] }
+{
     hand.ask(query(alloc)?, Script::blank(alloc, 4));
     hand.destroy();
     for _ in 0..6 {
@@ -341,10 +376,29 @@ fn a_hand_holds_eight(rt: HostRuntime) -> Result<(), Fail> {
             hand.cancel();
         }
     }
-    assert_eq!(rt; hand.free(), 0);
-    assert!(rt; matches!(hand.next(), Some(Command::Ask(..))));
-    assert!(rt; matches!(hand.next(), Some(Command::Destroy)));
-    assert!(rt; matches!(hand.next(), Some(Command::Cancel)));
-    assert_eq!(rt; hand.free(), 3);
+    Ok(hand.free())
+}
+
+/// What `fill` leaves, in order.
+const FILLED: [(u8, u64); 8] = [
+    (b'q', 4),
+    (b'd', 0),
+    (b'c', 0),
+    (b'c', 0),
+    (b'c', 0),
+    (b'c', 0),
+    (b'c', 0),
+    (b'c', 0),
+];
+
+// A hand holds eight commands, and gives them back in order.
+#[test]
+fn a_hand_holds_eight(rt: HostRuntime) -> Result<(), Fail> {
+    let alloc = rt.alloc();
+    let mut hand = Hand::make(alloc)?;
+    assert!(rt; hand.orders() == NONE);
+    assert!(rt; fill(alloc, &mut hand)? == 0);
+    assert!(rt; letters(alloc, &mut hand)?.as_slice() == FILLED.as_slice());
+    assert!(rt; hand.free() == 8);
     Ok(())
 }

@@ -44,43 +44,58 @@ fn answer(alloc: Global, number: u64) -> Result<Answer, NoMemory> {
     })
 }
 
-#[test]
-fn calls_keep_their_order(rt: HostRuntime) -> Result<(), Fail> {
-    let alloc = rt.alloc();
-    let first = Call::make(alloc)?;
-    assert_eq!(rt; first.answer().number, 0);
-    assert_eq!(rt; first.answer().status, Status::Success);
-    assert!(rt; first.answer().message.is_empty());
-    let mut calls = Calls::new();
-    calls.add(first);
-    let mut others = Calls::new();
-    for number in 1..3 {
-        let mut call = Call::make(alloc)?;
-        call.fill(answer(alloc, number)?);
-        let (quiet, call) = Ticket::of(Quiet::new(alloc), call).spend();
-        goes_to_threads(&quiet);
-        others.add(call);
-    }
-    calls.append(others);
-    goes_to_threads(&calls);
+/// The number, the status and the length of the message of a call that isn't filled.
+fn blank(call: &Call) -> (u64, Status, usize) {
+    let answer = call.answer();
+    (answer.number, answer.status, answer.message.len())
+}
+
+/// A call with an answer of this number, which went with a ticket.
+fn spent(alloc: Global, number: u64) -> Result<Call, NoMemory> {
+    let mut call = Call::make(alloc)?;
+    call.fill(answer(alloc, number)?);
+    let (quiet, call) = Ticket::of(Quiet::new(alloc), call).spend();
+    goes_to_threads(&quiet);
+    Ok(call)
+}
+
+/// The numbers of the calls, in order.
+fn numbers_of(alloc: Global, calls: &Calls) -> Result<Vec<u64>, NoMemory> {
     let mut numbers = Vec::new(alloc);
     for answer in calls.iter() {
         numbers.push(answer.number)?;
     }
-    assert_eq!(rt; numbers.as_slice(), [0, 1, 2].as_slice());
+    Ok(numbers)
+}
+
+#[test]
+fn calls_keep_their_order(rt: HostRuntime) -> Result<(), Fail> {
+    let alloc = rt.alloc();
+    let first = Call::make(alloc)?;
+    assert!(rt; blank(&first) == (0, Status::Success, 0));
+    let mut others = Calls::new();
+    others.add(spent(alloc, 1)?);
+    others.add(spent(alloc, 2)?);
+    let mut calls = Calls::new();
+    calls.add(first);
+    calls.append(others);
+    goes_to_threads(&calls);
+    assert!(rt; numbers_of(alloc, &calls)?.as_slice() == [0, 1, 2].as_slice());
     Ok(())
+}
+
+// Whether it is what `answer` makes with the number 7.
+fn is_seventh(answer: &Answer) -> bool {
+    answer.number == 7
+        && answer.status == Status::NoData
+        && answer.message.as_slice() == b"reply".as_slice()
+        && answer.addresses.as_slice() == [Addr::V4(0xc000_0201), Addr::V6(1)].as_slice()
 }
 
 #[test]
 fn an_answer_is_copied(rt: HostRuntime) -> Result<(), Fail> {
-    let copied = answer(rt.alloc(), 7)?.copy(rt.alloc())?;
-    assert_eq!(rt; copied.number, 7);
-    assert_eq!(rt; copied.status, Status::NoData);
-    assert_eq!(rt; copied.message.as_slice(), b"reply".as_slice());
-    assert_eq!(rt;
-        copied.addresses.as_slice(),
-        [Addr::V4(0xc000_0201), Addr::V6(1)].as_slice()
-    );
+    let made = answer(rt.alloc(), 7)?;
+    assert!(rt; is_seventh(&made.copy(rt.alloc())?));
     Ok(())
 }
 
@@ -112,30 +127,35 @@ fn nested(alloc: Global, scripts: u64) -> Result<Result<Script, BadScript>, NoMe
     Ok(Ok(script))
 }
 
-#[test]
-fn five_deep_make_no_script(rt: HostRuntime) -> Result<(), Fail> {
-    assert_eq!(rt; nested(rt.alloc(), 5)?.err(), Some(BadScript::TooDeep));
-    let script = nested(rt.alloc(), 4)??.copy(rt.alloc())?;
-    assert_eq!(rt; script.tag(), 4);
-    match script.steps() {
+/// The tag of a script, and of the one that its one step hands on where that asks for `a`.
+fn tags(script: &Script) -> (u64, Option<u64>) {
+    (script.tag(), tag_inside(script.steps()))
+}
+
+/// The tag of the script that one step hands on where it asks for `a`.
+fn tag_inside(steps: &[Step]) -> Option<u64> {
+    match steps {
         [
             Step {
                 act: Act::Ask(Spec::Query { name, kind, class }, inside),
                 ..
             },
-        ] => {
-            assert_eq!(rt; name.as_slice(), b"a".as_slice());
-            assert_eq!(rt; (*kind, *class), (1, 1));
-            assert_eq!(rt; inside.tag(), 3);
-        }
-        _ => assert!(rt; false, "one step that asks"),
+        ] if name.as_slice() == b"a".as_slice() && (*kind, *class) == (1, 1) => Some(inside.tag()),
+        _ => None,
     }
-    Ok(())
 }
 
 #[test]
-fn nine_steps_make_no_script(rt: HostRuntime) -> Result<(), Fail> {
-    let mut steps = Steps::new(rt.alloc());
+fn five_deep_make_no_script(rt: HostRuntime) -> Result<(), Fail> {
+    assert!(rt; nested(rt.alloc(), 5)?.err() == Some(BadScript::TooDeep));
+    let script = nested(rt.alloc(), 4)??;
+    assert!(rt; tags(&script.copy(rt.alloc())?) == (4, Some(3)));
+    Ok(())
+}
+
+/// Nine steps.
+fn nine_steps(alloc: Global) -> Result<Steps, NoMemory> {
+    let mut steps = Steps::new(alloc);
     for _ in 0..9 {
         steps.push(Step {
             when: When::Always,
@@ -143,6 +163,12 @@ fn nine_steps_make_no_script(rt: HostRuntime) -> Result<(), Fail> {
             act: Act::Destroy,
         })?;
     }
-    assert_eq!(rt; Script::new(1, steps).err(), Some(BadScript::TooManySteps));
+    Ok(steps)
+}
+
+#[test]
+fn nine_steps_make_no_script(rt: HostRuntime) -> Result<(), Fail> {
+    let steps = nine_steps(rt.alloc())?;
+    assert!(rt; Script::new(1, steps).err() == Some(BadScript::TooManySteps));
     Ok(())
 }

@@ -1,0 +1,6 @@
+//! The parts below a channel: what finds an attempt, what is called when a request completes, and a cache of answers. All of
+//! it is tests.
+#![tactic(auto)]
+
+#[cfg(test)]
+mod tests;
