@@ -1,0 +1,5 @@
+mod AskLemmas
+mod RunLemmas
+mod EndLemmas
+mod PageLemmas
+mod SendLemmas

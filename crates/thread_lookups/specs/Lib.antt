@@ -1,0 +1,4 @@
+pub mod Asking
+pub mod Page
+pub mod Passing
+pub mod Shared
