@@ -31,7 +31,6 @@ use Rattle.ahost_tool.specs.Promise.{Promise}
 use Rattle.ahost_tool.specs.Running.{Comes, IsRunFor}
 use Rattle.ahost_tool.specs.Setting.{GivesSetting, IsSettingOf, bytes_read, hosts_bytes}
 use Rattle.run_end.specs.declared.ended.Ended.{Ended}
-use Rattle.journal_laws.specs.Scripts.{AreFlat}
 use Rattle.journal_laws.specs.Telling.{HasPut, IsWithinLimits, PutsRun}
 use Rattle.journal_laws.proofs.PutLemmas.{IsPageEnd, whole_put}
 use Rattle.journal_laws.proofs.TellingLemmas.{tells_run}
@@ -80,13 +79,13 @@ book_at : (options : OptionValues) (hosts : List ℕ) (journal : List Entry) (ca
 book_at options hosts journal calls end (inl is) = ap (text_at (report_for true hosts) options journal calls) is
 book_at options hosts journal calls end (inr is) = ap (text_at (report_for true hosts) options journal calls) is
 
-pub ahost_tells : (options : OptionValues) (hosts : List ℕ) (ended : Ended) → (AreFlat ended.journal → IsBook (book_of options hosts ended.journal))
+pub ahost_tells : (options : OptionValues) (hosts : List ℕ) (ended : Ended) → IsBook (book_of options hosts ended.journal)
     → (ask : AhostAsk) (plans : List Plan) (turns : ℕ) (files_before files_after : FilesTold) (before after : Outside) (lines : List HostLine)
     → (run : IsRunFor ask plans turns ended files_before files_after before after)
     → ask.journal ≡ true → run.setting ≡ Ok (options, lines) → hosts_bytes run.reads ≡ hosts → HasPut ended.status
-    → AreFlat ended.journal → IsWithinLimits (book_of options hosts ended.journal)
+    → IsWithinLimits (book_of options hosts ended.journal)
     → PutsRun (book_of options hosts ended.journal) ended.calls before.output after.output
-ahost_tells options hosts ended fits ask plans turns files_before files_after before after lines run as_book set bytes has_put flat limits =
+ahost_tells options hosts ended fits ask plans turns files_before files_after before after lines run as_book set bytes has_put limits =
     let book : Book = book_of options hosts ended.journal in
     let setting : Setting = setting_with options lines in
     let promise : Promise (asked_of (report_for true hosts) ask.specs plans ask.orders ask.later) setting turns ended before after =
@@ -100,6 +99,6 @@ ahost_tells options hosts ended fits ask plans turns files_before files_after be
     record {
       grows = whole.grows;
       once = whole.once;
-      tells = tells_run book ended.calls setting (ap (setting_with options) are.said) (fits flat) limits are.small
+      tells = tells_run book ended.calls setting (ap (setting_with options) are.said) fits limits are.small
           promise.lawful promise.called_with_fates promise.called_once;
     }

@@ -1,5 +1,4 @@
 pub mod ScriptLemmas
-pub mod FlatLemmas
 pub mod FateLemmas
 pub mod PutLemmas
 pub mod TellingLemmas

@@ -6,17 +6,17 @@ ghost use Rattle.std.specs.List.{AllByRecursion};
 ghost use Rattle.hex.specs.Hex.{IsBytes};
 ghost use Rattle.net_addr.specs.Addr.{IsAddr};
 ghost use Rattle.chan_types.specs.Scripts.{deed_of, inside_of, moves_of};
-ghost use Rattle.journal_text.specs.Fits.{FitsKey, FitsMix, FitsMoves, FitsName, FitsServer, FitsSpec, IsBook};
-ghost use Rattle.journal_laws.specs.Scripts.{AreFlat, FitsAct, FitsIfFlat, IsCounted};
+ghost use Rattle.journal_text.specs.Fits.{FitsEntry, FitsKey, FitsMix, FitsMoves, FitsName, FitsPlan, FitsServer, FitsSpec, IsBook};
+ghost use Rattle.journal_laws.specs.Scripts.{FitsAct};
 
 use chan_types::{Act, Entry, Journal, Script, ServerKey, Spec, Step, What};
 use dns_message::Name;
 use net_addr::{Addr, ServerAddr};
 use resolv_options::Options;
 
-/// A run of these options, this hosts file and this journal has a text, where its scripts nest at most four deep.
+/// A run of these options, this hosts file and this journal has a text.
 pub(crate) fn run_fits(options: &Options, hosts: &[u8], journal: &Journal)
-    ensures { AreFlat journal.now → IsBook (record { options = options.now; hosts = hosts.now; journal = journal.now }) }
+    ensures { IsBook (record { options = options.now; hosts = hosts.now; journal = journal.now }) }
 {
     let _tries = options.tries();
     servers_fit(options.servers().as_slice());
@@ -103,12 +103,13 @@ fn spec_fits(spec: &Spec)
     }
 }
 
-/// A script has a tag of 64 bits and at most eight steps, and so have the scripts inside it.
+/// A script has a tag of 64 bits and at most eight steps, nested at most four deep, and so have the scripts inside it.
 #[cycle(fits)]
 fn script_fits(script: &Script)
-    ensures { IsCounted script.now }
+    ensures { FitsPlan script.now }
 {
     let _tag = script.tag();
+    let _depth = script.depth();
     steps_fit(script.steps());
 }
 
@@ -164,7 +165,7 @@ fn mix_fits(mix: Option<u16>)
 
 /// An entry has numbers in their ranges.
 fn entry_fits(entry: &Entry)
-    ensures { FitsIfFlat entry.now }
+    ensures { FitsEntry entry.now }
 {
     let (_seat, _by) = (entry.seat, entry.by);
     match &entry.what {
@@ -221,7 +222,7 @@ fn entry_fits(entry: &Entry)
 
 /// So it is of each entry.
 fn entries_fit(entries: &[Entry])
-    ensures { AllByRecursion FitsIfFlat entries.now }
+    ensures { AllByRecursion FitsEntry entries.now }
 {
     if let [first, rest @ ..] = entries {
         entry_fits(first);
