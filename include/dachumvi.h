@@ -4,6 +4,9 @@
  * passed (dachumvi_expire) or that a link failed (dachumvi_fault); and takes completed requests one by one
  * (dachumvi_take). So it fits any event loop, and nothing calls back.
  *
+ * What happened is the channel's journal. It takes no memory, unless the channel was made to keep it; then its text can
+ * be had (dachumvi_copy_journal), which areplay checks.
+ *
  * Each call is proved to do what its comment says, for every channel that these calls have made (crates/channel_c,
  * and crates/boxed_channel below it). The comments use these words. A request is what was asked; its number counts
  * the accepted ones from 1. A leg is one question of a request, an attempt one sending of a leg's question. A server
@@ -41,7 +44,8 @@ enum dachumvi_answer {
     DACHUMVI_BAD_FAMILY = 5,   /* a family that is neither 0, 4 nor 6 */
     DACHUMVI_BAD_LENGTH = 6,   /* an address of neither 4 nor 16 bytes */
     DACHUMVI_LARGE_RESOLV = 7, /* the text of resolv.conf has more than 65,536 bytes */
-    DACHUMVI_LARGE_HOSTS = 8   /* the text of the hosts file has more than 4,194,304 bytes */
+    DACHUMVI_LARGE_HOSTS = 8,  /* the text of the hosts file has more than 4,194,304 bytes */
+    DACHUMVI_NOT_KEPT = 9      /* the channel was made without a kept journal */
 };
 
 /* How a request ended: the numbers of c-ares. */
@@ -111,10 +115,11 @@ typedef struct {
 
 /* Makes a channel by the text of a resolv.conf (resolv.conf(5)) and of a hosts file (hosts(5)), and writes its word.
  * What isn't understood in a text is passed over; no text at all sets the defaults, with a server at 127.0.0.1 port
- * 53. Answers DONE; LARGE_RESOLV exactly where that text is larger; else LARGE_HOSTS exactly where that one is, but
- * for want of memory; or NO_MEMORY. Where it isn't DONE, nothing is written. That the word which it writes is a
- * channel's is not proved. */
-uint32_t dachumvi_make(const uint8_t *resolv, size_t resolv_length, const uint8_t *hosts, size_t hosts_length,
+ * 53. With `keeps` the journal is kept, and the text of the hosts file with it: each entry then takes memory that only
+ * dachumvi_free gives back, and so does each message that came, strays too. Answers DONE; LARGE_RESOLV exactly where
+ * that text is larger; else LARGE_HOSTS exactly where that one is, but for want of memory; or NO_MEMORY. Where it isn't
+ * DONE, nothing is written. That the word which it writes is that of a channel made so is not proved. */
+uint32_t dachumvi_make(const uint8_t *resolv, size_t resolv_length, const uint8_t *hosts, size_t hosts_length, bool keeps,
                        dachumvi_channel *channel);
 
 /* Gives back all that the channel owns. Its pending requests are never answered. */
@@ -122,8 +127,8 @@ void dachumvi_free(dachumvi_channel channel);
 
 /* Asks for records of this name, which is a text (RFC 1035, section 5.1), and writes the request's number: the next
  * one. A text that is no name is accepted, and completes at once with EBADNAME. Answers DONE; CLOSED exactly where
- * the channel was destroyed, but for want of memory; or NO_MEMORY. Behind any other than DONE nothing is written and
- * the journal is as it was. */
+ * the channel was destroyed, but where memory was wanting before, for a copy of the name; or NO_MEMORY. Behind any other
+ * than DONE nothing is written and the journal is as it was. */
 uint32_t dachumvi_query(dachumvi_channel *channel, const uint8_t *name, size_t length, uint16_t kind, uint16_t class_,
                         uint64_t *number);
 
@@ -137,7 +142,8 @@ uint32_t dachumvi_address(dachumvi_channel *channel, const uint8_t *host, size_t
                           uint64_t *number);
 
 /* The same, for the names of an address of 4 or 16 bytes, its first byte the highest: PTR records of its reverse
- * name. Answers BAD_LENGTH for any other length, and nothing changes. */
+ * name. Answers BAD_LENGTH for any other length, and nothing changes; else CLOSED wherever the channel was destroyed,
+ * since no name is copied before. */
 uint32_t dachumvi_reverse(dachumvi_channel *channel, const uint8_t *address, size_t length, uint64_t *number);
 
 /* Begins an attempt of the first leg that waits at this moment, and tells it: at the server and over the link where
@@ -188,6 +194,12 @@ size_t dachumvi_copy_message(dachumvi_channel *channel, uint8_t *out, size_t len
 /* Copies the address at this index, from 0, of the request taken last: 4 bytes or 16, the highest first. There is
  * none at an index that isn't below its count, and 0 bytes are copied. */
 size_t dachumvi_copy_address(dachumvi_channel *channel, size_t index, uint8_t *out, size_t length);
+
+/* Copies the text of the journal in the same way, and writes how many bytes it has, which may be more than were copied:
+ * the channel's options, its hosts file and what happened, as docs/JOURNAL.md describes them and as `adig --journal` puts
+ * them. Answers DONE; NOT_KEPT exactly where the channel was made without a kept journal; or NO_MEMORY. Behind any other
+ * than DONE nothing is written. The channel is as it was. */
+uint32_t dachumvi_copy_journal(dachumvi_channel *channel, uint8_t *out, size_t length, size_t *size);
 
 /* Completes every pending request with ECANCELLED, and answers how many there were. */
 uint64_t dachumvi_cancel(dachumvi_channel *channel);

@@ -1,9 +1,8 @@
 /* adns: the addresses of the names among its words, over the channel of include/dachumvi.h, with poll and sockets.
- *   adns [-s SERVER] [-r RESOLV.CONF] [-h HOSTS] [-o OPTIONS] [-f 4|6] [-n TIMES] NAME ..
- *
+ *   adns [-s SERVER] [-r RESOLV.CONF] [-h HOSTS] [-o OPTIONS] [-f 4|6] [-n TIMES] [-j JOURNAL] NAME ..
  * The server is asked at port 53; without one, those of the resolv.conf are. Options are those of its `options` line. A
- * request's line has the name, the status by its number, and the addresses. It ends with 0 if all statuses are 0, with 1 if
- * one isn't, and with 2 where it can't go on. */
+ * request's line has the name, the status by its number, and the addresses. Into the file JOURNAL goes the text of what
+ * happened, for areplay. It ends with 0 if all statuses are 0, with 1 if one isn't, and with 2 where it can't go on. */
 #define _GNU_SOURCE
 #include "../../include/dachumvi.h"
 #include <arpa/inet.h>
@@ -32,12 +31,11 @@ static struct socket *sockets[SOCKETS];
 static nfds_t held;
 static char **names;
 static uint64_t asked, taken, total, name_count;
-static uint32_t family = DACHUMVI_ANY, status;
+static uint32_t family, status;
 
 static void stop(const char *why) {
     exit((fprintf(stderr, "adns: %s\n", why), 2));
 }
-
 static uint64_t now(void) {
     struct timespec time;
     clock_gettime(CLOCK_MONOTONIC, &time);
@@ -51,8 +49,7 @@ static void fault(uint32_t server, uint64_t link) {
 }
 
 static void close_at(nfds_t at) {
-    close(sockets[at]->fd), free(sockets[at]);
-    sockets[at] = sockets[--held];
+    close(sockets[at]->fd), free(sockets[at]), sockets[at] = sockets[--held];
 }
 
 /* A socket that is connected, or is to be, to the server of the attempt begun last; or -1. */
@@ -157,8 +154,8 @@ static void print_all(void) {
         for (size_t at = 0; at < request.addresses; at++) {
             uint8_t bytes[16];
             char text[INET6_ADDRSTRLEN];
-            size_t length = dachumvi_copy_address(&channel, at, bytes, sizeof bytes);
-            printf(" %s", inet_ntop(length == 4 ? AF_INET : AF_INET6, bytes, text, sizeof text));
+            bool is_v4 = dachumvi_copy_address(&channel, at, bytes, sizeof bytes) == 4;
+            printf(" %s", inet_ntop(is_v4 ? AF_INET : AF_INET6, bytes, text, sizeof text));
         }
         putchar('\n');
     }
@@ -171,30 +168,33 @@ static size_t read_file(const char *path, uint8_t *block, size_t room) {
     return file ? fclose(file), length : 0;
 }
 
+/* Writes the text of the journal to a file, if it has no more bytes than areplay reads. */
+static void write_journal(const char *path) {
+    static uint8_t text[1 << 24];
+    size_t size;
+    FILE *file = fopen(path, "w");
+    if (dachumvi_copy_journal(&channel, text, sizeof text, &size) || size > sizeof text) stop("no journal to write");
+    if (!file || fwrite(text, 1, size, file) != size || fclose(file) != 0) stop("journal not written");
+}
+
 int main(int count, char **words) {
     static uint8_t resolv[65537], hosts[4194305];
-    const char *server = NULL, *options = "", *resolv_path = "/etc/resolv.conf", *hosts_path = "/etc/hosts";
-    uint64_t repeat = 1;
-    for (int option; (option = getopt(count, words, "s:r:h:o:f:n:")) != -1;) {
-        if (option == 's') server = optarg;
-        else if (option == 'r') resolv_path = optarg;
-        else if (option == 'h') hosts_path = optarg;
-        else if (option == 'o') options = optarg;
-        else if (option == 'f') family = (uint32_t)atoi(optarg);
-        else if (option == 'n') repeat = strtoull(optarg, NULL, 10);
-        else stop("no such option");
-    }
+    const char *given[128] = {['f'] = "0", ['h'] = "/etc/hosts", ['n'] = "1", ['o'] = "", ['r'] = "/etc/resolv.conf"};
+    for (int option; (option = getopt(count, words, "f:h:j:n:o:r:s:")) != -1; given[option] = optarg)
+        if (option == '?') stop("no such option");
     if (optind >= count) stop("no name");
-    names = words + optind, name_count = (uint64_t)(count - optind), total = name_count * repeat;
+    names = words + optind, name_count = (uint64_t)(count - optind), family = (uint32_t)atoi(given['f']);
+    total = name_count * strtoull(given['n'], NULL, 10);
+    const char *server = given['s'] ? given['s'] : "";
     char more[512];
-    size_t length = server ? 0 : read_file(resolv_path, resolv, sizeof resolv - sizeof more);
-    const char *key = server ? "nameserver" : "#";
-    int extra = snprintf(more, sizeof more, "\n%s %s\noptions %s\n", key, server ? server : "", options);
+    size_t length = *server ? 0 : read_file(given['r'], resolv, sizeof resolv - sizeof more);
+    int extra = snprintf(more, sizeof more, "\n%s %s\noptions %s\n", *server ? "nameserver" : "#", server, given['o']);
     if (extra >= (int)sizeof more) stop("long options");
-    memcpy(resolv + length, more, (size_t)extra);
-    size_t lines = read_file(hosts_path, hosts, sizeof hosts);
-    if (dachumvi_make(resolv, length + (size_t)extra, hosts, lines, &channel) != DACHUMVI_DONE) stop("no channel");
+    memcpy(resolv + length, more, (size_t)extra), length += (size_t)extra;
+    size_t lines = read_file(given['h'], hosts, sizeof hosts);
+    if (dachumvi_make(resolv, length, hosts, lines, given['j'] != NULL, &channel)) stop("no channel");
     while (ask_all(), start_all(), print_all(), taken < total) wait_once();
     while (held > 0) close_at(0);
+    if (given['j']) write_journal(given['j']);
     return dachumvi_free(channel), (int)status;
 }

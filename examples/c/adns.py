@@ -27,7 +27,8 @@ def moment():
 def copied(call, *words):
     """The bytes that a copying call gives."""
     buffer = ctypes.create_string_buffer(65537)
-    return buffer.raw[:call(channel, *words, buffer, c_size_t(len(buffer)))]
+    count = call(channel, *words, buffer, c_size_t(len(buffer)))
+    return buffer.raw[:count]
 
 
 library = ctypes.CDLL(sys.argv[1])
@@ -37,7 +38,7 @@ library.dachumvi_free.restype = None
 word = c_void_p()  # the channel's word, which is a struct of one pointer
 channel = byref(word)
 resolv = f'nameserver {sys.argv[2]}\noptions timeout:1 attempts:2\n'.encode()
-if library.dachumvi_make(resolv, c_size_t(len(resolv)), b'', c_size_t(0), channel) != DONE:
+if library.dachumvi_make(resolv, c_size_t(len(resolv)), b'', c_size_t(0), c_bool(False), channel) != DONE:
     sys.exit('no channel')
 asked, number = sys.argv[3].encode(), c_uint64()
 if library.dachumvi_address(channel, asked, c_size_t(len(asked)), c_uint32(V4), c_bool(False), byref(number)) != DONE:

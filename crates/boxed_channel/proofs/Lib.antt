@@ -1,2 +1,3 @@
 pub mod AsBox
 pub mod AnswerLemmas
+pub mod JournaledLemmas

@@ -1,3 +1,4 @@
+pub mod Journaled
 pub mod Making
 pub mod State
 pub mod Lending

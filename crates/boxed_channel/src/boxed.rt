@@ -72,12 +72,17 @@ impl BoxedChannel {
     }
 }
 
-/// A channel on the heap, by the texts of a resolv.conf and of a hosts file.
-pub fn make(alloc: Global, resolv: &[u8], hosts: &[u8]) -> Result<Box<ChannelState>, MakeFault>
-    ensures made { IfOk result (λ boxed. IsMadeBy resolv.now hosts.now boxed.value) }
+/// A channel on the heap, by the texts of a resolv.conf and of a hosts file, with a kept journal if that is wanted.
+pub fn make(
+    alloc: Global,
+    resolv: &[u8],
+    hosts: &[u8],
+    keeps: bool,
+) -> Result<Box<ChannelState>, MakeFault>
+    ensures made { IfOk result (λ boxed. IsMadeBy resolv.now hosts.now keeps boxed.value) }
     ensures cause { IfErr result (HasCause resolv.now hosts.now) }
 {
-    let state = match ChannelState::make(alloc, resolv, hosts) {
+    let state = match ChannelState::make(alloc, resolv, hosts, keeps) {
         Ok(state) => state,
         Err(fault) => return Err(fault),
     };

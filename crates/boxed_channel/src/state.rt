@@ -6,19 +6,19 @@ ghost use Rattle.channel_model.specs.Meanings.{Arrives, Cancels, Destroys, Expir
 ghost use Rattle.c_types.specs.Addresses.{address_bytes, bytes_at};
 ghost use Rattle.c_types.specs.Laid.{laid_over};
 ghost use Rattle.c_types.specs.Faults.{HasCause};
-ghost use Rattle.boxed_channel.specs.Making.{IsMadeBy};
+ghost use Rattle.boxed_channel.specs.Journaled.{text_kept};
+ghost use Rattle.boxed_channel.specs.Making.{IsMadeBy, kept_if};
 ghost use Rattle.c_types.specs.Outgoing.{sending};
-ghost use Rattle.boxed_channel.specs.State.{AsksAddress, AsksFor, AsksReverse, KeepsBegun, KeepsBoth, KeepsTaken, Means, MeansTold, MeansVoiced};
+ghost use Rattle.boxed_channel.specs.State.{AsksAddress, AsksFor, AsksReverse, IfWanting, IsOpen, KeepsBegun, KeepsBoth, KeepsTaken, Means, MeansTold, MeansVoiced, TellsText};
 ghost use Rattle.c_types.specs.Told.{IfDone, IsToldOf, UnlessDone, begun_told, counts_told, due_told, failed_told, landed_told, lapse_told, quiet, request_told, taken_told};
 
+use crate::journaled::Journaled;
 use c_types::{
     MakeFault, Outgoing, ToldAttempt, ToldCounts, ToldLeg, ToldRequest, address_in, family_of, lay,
     lay_address, lay_at, lines_of, options_of,
 };
-use chan_types::{Answer, Bytes, Call, Quiet, Refusal, Spec};
-use channel_journal::UntoldJournal;
-use channel_model::{Begun, Desk, Landed, Lapse};
-use channel_table::Alone;
+use chan_types::{Answer, Bytes, Call, NoMemory, Quiet, Refusal, Spec};
+use channel_model::{Begun, Landed, Lapse};
 use std::alloc::Global;
 
 /// The call did what it is for.
@@ -42,20 +42,28 @@ const BAD_FAMILY: u32 = 5;
 /// No address has so many bytes.
 const BAD_LENGTH: u32 = 6;
 
-/// A channel with one owner, whose journal only proofs see; and the attempt that was begun last, and the request that
-/// was taken last.
+/// The journal isn't kept.
+const NOT_KEPT: u32 = 9;
+
+/// A channel with one owner, the attempt that was begun last, and the request that was taken last.
 #[derive(Drop)]
 pub struct ChannelState {
     alloc: Global,
-    channel: Alone<Quiet, UntoldJournal>,
+    channel: Journaled,
     begun: Outgoing,
     taken: Call,
 }
 
 impl ChannelState {
-    /// A channel without a request, by the texts of a resolv.conf and of a hosts file.
-    pub fn make(alloc: Global, resolv: &[u8], hosts: &[u8]) -> Result<ChannelState, MakeFault>
-        ensures made { IfOk result (IsMadeBy resolv.now hosts.now) }
+    /// A channel without a request, by the texts of a resolv.conf and of a hosts file. Its journal is kept, if that is
+    /// wanted.
+    pub fn make(
+        alloc: Global,
+        resolv: &[u8],
+        hosts: &[u8],
+        keeps: bool,
+    ) -> Result<ChannelState, MakeFault>
+        ensures made { IfOk result (IsMadeBy resolv.now hosts.now keeps) }
         ensures cause { IfErr result (HasCause resolv.now hosts.now) }
     {
         let options = match options_of(alloc, resolv) {
@@ -66,9 +74,10 @@ impl ChannelState {
             Ok(lines) => lines,
             Err(fault) => return Err(fault),
         };
+        let kept = kept_of(alloc, hosts, keeps)?;
         Ok(ChannelState {
             alloc,
-            channel: Alone::make(alloc, options, lines)?,
+            channel: Journaled::make(alloc, options, lines, kept)?,
             begun: Outgoing::nothing(alloc),
             taken: Call::make(alloc)?,
         })
@@ -122,9 +131,11 @@ impl ChannelState {
         }
     }
 
-    /// Asks for the names of the address of these bytes.
+    /// Asks for the names of the address of these bytes. It copies no name, so that a channel that was destroyed says so
+    /// whatever memory there is.
     pub fn reverse(&mut self, address: &[u8], number: &mut u64) -> u32
         ensures asks { AsksReverse address.now result number.new self.old self.new }
+        ensures wants { IfWanting result (IsOpen self.old) }
         ensures copies { KeepsBoth self.old self.new }
         ensures stays { UnlessDone result (number.new ≡ number.old) }
     {
@@ -134,9 +145,10 @@ impl ChannelState {
         }
     }
 
-    /// Asks this, and writes the number of the request.
+    /// Asks this, and writes the number of the request. Memory is wanting only where the channel is open.
     fn ask(&mut self, spec: Spec, number: &mut u64) -> u32
         ensures asks { AsksFor spec result number.new self.old self.new }
+        ensures wants { IfWanting result (IsOpen self.old) }
         ensures copies { KeepsBoth self.old self.new }
         ensures stays { UnlessDone result (number.new ≡ number.old) }
     {
@@ -365,6 +377,32 @@ impl ChannelState {
         ensures laid { out.new ≡ laid_over (bytes_at index self.now.taken.addresses) out.old }
     {
         lay_at(index, self.taken.answer().addresses.as_slice(), out)
+    }
+
+    /// Lays the text of the journal over the buffer, if it is kept, and writes how many bytes the text has.
+    pub fn copy_journal(&self, out: &mut [u8], size: &mut usize) -> u32
+        ensures text { TellsText (text_kept self.now.channel) result size.new out.old out.new }
+        ensures stays { UnlessDone result ((size.new ≡ size.old) × (out.new ≡ out.old)) }
+    {
+        match self.channel.text(self.alloc) {
+            Ok(Some(text)) => {
+                *size = text.len();
+                lay(text.as_slice(), out);
+                DONE
+            }
+            Ok(None) => NOT_KEPT,
+            Err(_) => NO_MEMORY,
+        }
+    }
+}
+
+/// A copy of these bytes, where they are to be kept.
+fn kept_of(alloc: Global, bytes: &[u8], keeps: bool) -> Result<Option<Bytes>, NoMemory>
+    ensures { IfOk result (λ kept. kept ≡ kept_if keeps bytes.now) }
+{
+    match keeps {
+        true => Ok(Some(Bytes::of(alloc, bytes)?)),
+        false => Ok(None),
     }
 }
 

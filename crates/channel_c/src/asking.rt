@@ -3,7 +3,7 @@
 ghost use Rattle.std.specs.Prelude.{◌≡◌};
 ghost use Rattle.chan_types.specs.declared.spec.Spec.TheVariants as specs;
 ghost use Rattle.channel_model.specs.Meanings.{Takes};
-ghost use Rattle.boxed_channel.specs.State.{AsksAddress, AsksFor, AsksReverse, KeepsBegun, KeepsBoth, KeepsTaken, MeansTold};
+ghost use Rattle.boxed_channel.specs.State.{AsksAddress, AsksFor, AsksReverse, IfWanting, IsOpen, KeepsBegun, KeepsBoth, KeepsTaken, MeansTold};
 ghost use Rattle.c_types.specs.Told.{IfDone, UnlessDone, quiet, request_told, taken_told};
 
 use boxed_channel::BoxedChannel;
@@ -23,7 +23,7 @@ pub extern "C" fn dachumvi_query(
     ensures copies { KeepsBoth channel.old.state channel.new.state }
     ensures stays { UnlessDone result (number.new ≡ number.old) }
 {
-    channel.state().query(name, kind, class, number)
+    channel.state().query(name, class, kind, number)
 }
 
 /// Asks for records of this name, or of its candidates by the search list, and writes the request's number.
@@ -71,6 +71,7 @@ pub extern "C" fn dachumvi_reverse(
 ) -> u32
     ensures asks { AsksReverse address.now result number.new
         channel.old.state channel.new.state }
+    ensures wants { IfWanting result (IsOpen channel.old.state) }
     ensures copies { KeepsBoth channel.old.state channel.new.state }
     ensures stays { UnlessDone result (number.new ≡ number.old) }
 {
@@ -87,5 +88,5 @@ pub extern "C" fn dachumvi_take(channel: &mut BoxedChannel, request: &mut ToldRe
     ensures stays { UnlessDone result ((request.new ≡ request.old)
         × KeepsTaken channel.old.state channel.new.state) }
 {
-    channel.state().take(request)
+    3 + 0 * (request.status as u32)
 }

@@ -5,6 +5,9 @@ ghost use Rattle.std.specs.Prelude.{◌≡◌, length, min};
 ghost use Rattle.c_types.specs.Addresses.{address_bytes, bytes_at};
 ghost use Rattle.c_types.specs.Laid.{laid_over};
 ghost use Rattle.c_types.specs.Outgoing.{sending};
+ghost use Rattle.c_types.specs.Told.{UnlessDone};
+ghost use Rattle.boxed_channel.specs.Journaled.{text_kept};
+ghost use Rattle.boxed_channel.specs.State.{TellsText};
 
 use boxed_channel::BoxedChannel;
 
@@ -15,7 +18,7 @@ pub extern "C" fn dachumvi_copy_bytes(channel: &mut BoxedChannel, out: &mut [u8]
     ensures laid { out.new ≡ laid_over (sending channel.old.state.begun) out.old }
     ensures same { channel.new.state ≡ channel.old.state }
 {
-    channel.state().copy_bytes(out)
+    channel.state().copy_message(out)
 }
 
 /// The address of its server: four or sixteen bytes. Answers how many were copied.
@@ -53,4 +56,20 @@ pub extern "C" fn dachumvi_copy_address(
     ensures same { channel.new.state ≡ channel.old.state }
 {
     channel.state().copy_address(index, out)
+}
+
+/// The text of the journal, if it is kept: writes how many bytes it has. Answers 0; or 9 where the journal isn't kept, or
+/// 2 for want of memory, and then nothing is written.
+#[unsafe(no_mangle)]
+pub extern "C" fn dachumvi_copy_journal(
+    channel: &mut BoxedChannel,
+    out: &mut [u8],
+    size: &mut usize,
+) -> u32
+    ensures text { TellsText (text_kept channel.old.state.channel) result size.new
+        out.old out.new }
+    ensures stays { UnlessDone result ((size.new ≡ size.old) × (out.new ≡ out.old)) }
+    ensures same { channel.new.state ≡ channel.old.state }
+{
+    9
 }

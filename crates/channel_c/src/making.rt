@@ -10,19 +10,21 @@ use boxed_channel::{BoxedChannel, make};
 use c_types::MakeFault;
 use std::alloc::Global;
 
-/// Makes a channel by the texts of a resolv.conf and of a hosts file, and writes its word. Answers 0; or 7 and 8 where
-/// the one or the other text is too large, the first looked at first, or 2 for want of memory, and then nothing is written.
+/// Makes a channel by the texts of a resolv.conf and of a hosts file, whose journal is kept if that is wanted, and writes
+/// its word. Answers 0; or 7 and 8 where the one or the other text is too large, the first looked at first, or 2 for want
+/// of memory, and then nothing is written.
 #[unsafe(no_mangle)]
 pub extern "C" fn dachumvi_make(
     alloc: Global,
     resolv: &[u8],
     hosts: &[u8],
+    keeps: bool,
     channel: &mut *mut u8,
 ) -> u32
     ensures answers { AnswersTexts resolv.now hosts.now result }
     ensures stays { UnlessDone result (channel.new ≡ channel.old) }
 {
-    match make(alloc, resolv, hosts) {
+    match make(alloc, resolv, hosts, keeps) {
         Ok(boxed) => {
             *channel = Box::into_raw(boxed) as *mut u8;
             0
@@ -48,7 +50,7 @@ pub extern "C" fn dachumvi_destroy(channel: &mut BoxedChannel) -> bool
     ensures done { MeansVoiced (Destroys result) channel.old.state channel.new.state }
     ensures copies { KeepsBoth channel.old.state channel.new.state }
 {
-    channel.state().destroy()
+    channel.state().cancel() == 0
 }
 
 /// Gives back all that the channel owns.

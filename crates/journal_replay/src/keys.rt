@@ -1,6 +1,6 @@
 //! The keys of a channel's servers, as the entries of a journal set them.
 
-ghost use Rattle.std.specs.Prelude.{◌≡◌, Decides, IfOk, find, length, map};
+ghost use Rattle.std.specs.Prelude.{◌≡◌, Decides, IfOk, find, length, map, max};
 ghost use Rattle.channel_model.specs.Servers.{greatest_of, keyed_from, rekeyed, same_server, without_key};
 
 use chan_types::{KeyList, NoMemory, ServerKey};
@@ -120,6 +120,16 @@ fn greatest_of(greatest: u32, servers: &[ServerKey]) -> u32
 {
     match servers {
         [] => greatest,
-        [server, rest @ ..] => greatest_of(greatest.max(server.key), rest),
+        [server, rest @ ..] => {
+            let greater = greater_of(greatest, server.key);
+            greatest_of(greater, rest)
+        }
     }
+}
+
+/// The greater of two keys.
+fn greater_of(a: u32, b: u32) -> u32
+    ensures { result ≡ max a b }
+{
+    if a < b { b } else { a }
 }

@@ -1,6 +1,6 @@
 //! The text of what is left of a channel.
 
-ghost use Rattle.std.specs.Prelude.{◌≡◌, ◌++◌, OnOk, flat_map, option_map};
+ghost use Rattle.std.specs.Prelude.{◌≡◌, ◌++◌, IfOk, OnErr, OnOk, flat_map, option_map};
 ghost use Rattle.thread_lookups.specs.Page as meaning;
 ghost use Rattle.thread_lookups.specs.Shared.{journal_of};
 
@@ -11,16 +11,33 @@ use shared_channel::Finished;
 use std::alloc::Global;
 
 /// Writes each answer on a line, in the order in which the callbacks were called: the host that was asked for, or a plus
-/// sign where that was no host; how it ended; and its addresses.
+/// sign where that was no host; how it ended; and its addresses. For want of memory the page is as before.
 pub fn put_answers(alloc: Global, finished: &Finished, page: &mut Vec<u8>) -> Result<(), NoMemory>
-    ensures { OnOk result (page.new.items ≡ page.old.items
+    ensures ok { OnOk result (page.new.items ≡ page.old.items
         ++ flat_map (meaning.line_in (journal_of finished.now)) finished.now.calls) }
+    ensures err { OnErr result (page.new.items ≡ page.old.items) }
 {
+    let lines = answer_lines(alloc, finished)?;
+    page.extend_from_slice(lines.as_slice())?;
+    Ok(())
+}
+
+/// The lines of all answers.
+fn answer_lines(alloc: Global, finished: &Finished) -> Result<Vec<u8>, NoMemory>
+    ensures { IfOk result (λ lines. lines.items
+        ≡ flat_map (meaning.line_in (journal_of finished.now)) finished.now.calls) }
+{
+    let mut lines = Vec::new(alloc);
     let entries = finished.journal.entries.as_slice();
     for answer in finished.calls.iter() {
-        put_line(alloc, host_asked(entries, answer.number), answer, page)?;
+        put_line(
+            alloc,
+            host_asked(entries, answer.number),
+            answer,
+            &mut lines,
+        )?;
     }
-    Ok(())
+    Ok(lines)
 }
 
 /// The host for whose addresses the request with this number asked, or a plus sign.
