@@ -1,9 +1,8 @@
 -- What is left of a channel through whose four passes requests were asked.
-use Rattle.std.proofs.Common.{◌≡◌, ◌∙◌, ◌+◌, ◌<◌, ◌==◌, ℕ, zero, suc, Bool, true, false, cond, List, [], ◌∷◌, ◌++◌, Some, None, length, length-append, map, refl, ap, ap₂, sym, subst, arith, eq-eqb}
-use Rattle.std.proofs.lemmas.List.{append-nil, append_cancel_left, map-append}
-use Rattle.std.proofs.lemmas.List.Elements.{filter-append, filter_map-append}
+use Rattle.std.proofs.Common.{◌≡◌, ◌∙◌, ◌+◌, ◌<◌, ◌==◌, ℕ, zero, suc, Bool, true, false, cond, List, [], ◌∷◌, ◌++◌, Some, None, length, length-append, map, refl, ap, ap₂, sym, subst, arith, eq-eqb, inl, inr, ◌⊎◌}
+use Rattle.std.proofs.lemmas.List.{append_cancel_left, map-append}
+use Rattle.std.proofs.lemmas.List.Elements.{filter_map-append}
 use Rattle.std.specs.List.{AllByRecursion, Contains}
-use Rattle.std.specs.Prelude.{slice_index_or}
 use Rattle.atomic_table.specs.Seated.{TableId}
 use Rattle.channel_journal.specs.declared.kept.KeptJournal.{KeptJournal}
 use Rattle.chan_types.specs.declared.journal.Entry.{Entry}
@@ -17,39 +16,41 @@ use Rattle.channel_model.specs.Meanings.{Destroys}
 use Rattle.channel_model.specs.Seen.{entries_of}
 use Rattle.channel_model.specs.Setting.{Setting}
 use Rattle.completion_ticket.specs.States.{CalledState}
-use Rattle.shared_channel.specs.Finishing.{AnswersAll, DeliversAll, DeliversSome, EmptiesChannel, Finishes, IsNumberOfOne, LeavesNothing}
+use Rattle.shared_channel.specs.Finishing.{AnswersAll, DeliversSome, EmptiesChannel, Finishes, IsNumberOfOne, LeavesNothing}
 use Rattle.shared_channel.specs.Making.{IsNewChannel, new_pass}
 use Rattle.shared_channel.specs.Passes.{PassView, desk_of}
 use Rattle.shared_channel.specs.declared.finishing.Finished.{Finished}
-use Rattle.shared_channel.proofs.Theorems.{WentOn, stays_destroy, went_all, went_destroy, went_on}
-use Rattle.thread_lookups.specs.Asking.{asks_in, free_ask, quiet_ask}
-use Rattle.thread_lookups.specs.Passing.{AsksEach, AsksNothing}
+use Rattle.shared_channel.proofs.Theorems.{WentOn, went_all, went_destroy, went_on}
+use Rattle.thread_lookups.specs.Asking.{Use, destroying, free_use, quiet_ask, uses_in}
+use Rattle.thread_lookups.specs.Passing.{AsksEach, OnlyRuns}
 use Rattle.thread_lookups.specs.Shared.{AreAnswered, journal_of}
-use Rattle.thread_lookups.proofs.AskLemmas.{asks_kept}
 use Rattle.thread_lookups.proofs.RunLemmas.{delivery_asks, nothing_asked, nothing_more}
 
--- the end of a channel asks nothing but on callbacks' commands
-some_ask : (orders : Orders) (calleds : List CalledState) (old new : PassView) → DeliversSome orders old calleds new → AsksNothing old new
-some_ask orders [] old new same = subst (AsksNothing old) (sym same) (nothing_asked old)
+-- deliveries at the end of a channel
+some_ask : (orders : Orders) (calleds : List CalledState) (old new : PassView) → DeliversSome orders old calleds new → OnlyRuns old new
+some_ask orders [] old new same = subst (OnlyRuns old) (sym same) (nothing_asked old)
 some_ask orders (c ∷ cs) old new some = nothing_more old some.0 new (delivery_asks orders (Some c) old some.0 some.1) (some_ask orders cs some.0 new some.2)
 
-destroy_asks : (is_first : Bool) (old new : PassView) → Calls (Destroys is_first) 0 (desk_of old) (desk_of new) → AsksNothing old new
-destroy_asks is_first old new call = record {
-  stays = stays_destroy is_first old new call;
-  asked = asks_kept old.own new.own (entries_of old.number 0 call.added) call.own (by_first is_first call.meant.entry);
-}
+-- what a destroy notes: the first one itself, and a later one nothing
+abbrev pub destroyed_by : Bool → List Use
+destroyed_by true = destroying ∷ []
+destroyed_by false = []
+
+destroy_uses : (is_first : Bool) (old new : PassView) → Calls (Destroys is_first) 0 (desk_of old) (desk_of new) → uses_in new.own ≡ uses_in old.own ++ destroyed_by is_first
+destroy_uses is_first old new call =
+    ap uses_in call.own ∙ filter_map-append free_use old.own (entries_of old.number 0 call.added) ∙ ap (λ uses. uses_in old.own ++ uses) (by_first is_first call.meant.entry)
   where
-    by_first : (b : Bool) → call.added ≡ cond b (Some Destroy) None → asks_in (entries_of old.number 0 call.added) ≡ []
-    by_first true is = ap (λ added. asks_in (entries_of old.number 0 added)) is
-    by_first false is = ap (λ added. asks_in (entries_of old.number 0 added)) is
+    by_first : (b : Bool) → call.added ≡ cond b (Some Destroy) None → uses_in (entries_of old.number 0 call.added) ≡ destroyed_by b
+    by_first true is = ap (λ added. uses_in (entries_of old.number 0 added)) is
+    by_first false is = ap (λ added. uses_in (entries_of old.number 0 added)) is
 
 module _ (orders : Orders) (all last : PassView) (emptied : EmptiesChannel orders all last) where
-  end_asks : AsksNothing all last
-  end_asks =
+  end_uses : uses_in last.own ≡ uses_in all.own ++ destroyed_by emptied.is_first
+  end_uses =
       let delivered = emptied.delivered in
-      nothing_more all emptied.destroyed last (destroy_asks emptied.is_first all emptied.destroyed emptied.destroys)
-      (nothing_more emptied.destroyed delivered.middle last (some_ask orders delivered.called emptied.destroyed delivered.middle delivered.some)
-      (delivery_asks orders None delivered.middle last delivered.none))
+      (delivery_asks orders None delivered.middle last delivered.none).uses
+      ∙ (some_ask orders delivered.called emptied.destroyed delivered.middle delivered.some).uses
+      ∙ destroy_uses emptied.is_first all emptied.destroyed emptied.destroys
 
   end_went : WentOn all last
   end_went = went_on all emptied.destroyed last (went_destroy emptied.is_first all emptied.destroyed emptied.destroys) (went_all orders emptied.destroyed last emptied.delivered)
@@ -64,7 +65,7 @@ number_below number (suc (suc (suc (suc k))), lt, is) = absurd (omega (arith, lt
 
 module _ {lock : TableId} {setting : Setting} {orders : Orders} (p₀ p₁ p₂ p₃ q₀ q₁ q₂ q₃ : PassView) (specs₁ specs₂ specs₃ : List Spec) (finished : Finished KeptJournal)
     (new : IsNewChannel lock setting 4 (p₀ ∷ p₁ ∷ p₂ ∷ p₃ ∷ []))
-    (ran : AsksNothing p₀ q₀) (asked₁ : AsksEach specs₁ p₁ q₁) (asked₂ : AsksEach specs₂ p₂ q₂) (asked₃ : AsksEach specs₃ p₃ q₃)
+    (ran : OnlyRuns p₀ q₀) (asked₁ : AsksEach specs₁ p₁ q₁) (asked₂ : AsksEach specs₂ p₂ q₂) (asked₃ : AsksEach specs₃ p₃ q₃)
     (ends : Finishes (λ (journal : KeptJournal). journal.entries.items) orders (q₀ ∷ q₁ ∷ q₂ ∷ q₃ ∷ []) finished) where
   new₀ : p₀ ≡ new_pass lock setting 4 0
   new₀ = new.each 0 p₀ (omega arith)
@@ -114,14 +115,14 @@ module _ {lock : TableId} {setting : Setting} {orders : Orders} (p₀ p₁ p₂ 
 
   -- what an asking thread made is what its seat made of the journal
   asker : (specs : List Spec) (k : ℕ) (p q : PassView) → p ≡ new_pass lock setting 4 k → q.number ≡ k → (each : AsksEach specs p q) → q.own ≡ own_entries q.number journal
-      → map free_ask (own_entries k journal) ≡ map (λ spec. Some (quiet_ask spec)) specs
+      → map free_use (own_entries k journal) ≡ map (λ spec. Some (quiet_ask spec)) specs
   asker specs k p q new_p number each owns =
       let made : q.own ≡ each.entries = each.makes.own ∙ ap (λ pass. pass.own ++ each.entries) new_p in
       let of_seat : own_entries k journal ≡ each.entries = ap (λ n. own_entries n journal) (sym number) ∙ sym owns ∙ made in
-      ap (map free_ask) of_seat ∙ each.asked
+      ap (map free_use) of_seat ∙ each.asked
 
-  -- the thread that ran the channel asked nothing, nor did the end
-  runner : asks_in (own_entries 0 journal) ≡ []
+  -- the thread that ran the channel did nothing else, and the end destroyed it, once at most
+  runner : uses_in (own_entries 0 journal) ≡ destroyed_by ends.emptied.is_first
   runner =
       let made : List Entry = ends.journal.made in
       let went = end_went orders all ends.last ends.emptied in
@@ -129,9 +130,13 @@ module _ {lock : TableId} {setting : Setting} {orders : Orders} (p₀ p₁ p₂ 
       let own_made : own_entries all.number made ≡ made =
       filter_all (λ entry. entry.seat == all.number) made (each-then (λ (entry : Entry). entry.seat ≡ all.number) (λ entry. (entry.seat == all.number) ≡ true) made (λ entry is. eq-eqb entry.seat all.number is) ends.journal.made_by_first) in
       let last_own : ends.last.own ≡ all.own ++ made = went.own ∙ ap (λ es. all.own ++ own_entries all.number es) since_is ∙ ap (λ es. all.own ++ es) own_made in
-      let all_own : asks_in all.own ≡ [] = ap (λ p. asks_in p.own) all_is ∙ ran.asked ∙ ap (λ p. asks_in p.own) new₀ in
-      ap (λ n. asks_in (own_entries n journal)) (sym all_number) ∙ ap asks_in (ends.journal.first_owns ∙ sym last_own)
-      ∙ (end_asks orders all ends.last ends.emptied).asked ∙ all_own
+      let all_own : uses_in all.own ≡ [] = ap (λ p. uses_in p.own) all_is ∙ ran.uses ∙ ap (λ p. uses_in p.own) new₀ in
+      ap (λ n. uses_in (own_entries n journal)) (sym all_number) ∙ ap uses_in (ends.journal.first_owns ∙ sym last_own)
+      ∙ end_uses orders all ends.last ends.emptied ∙ ap (λ uses. uses ++ destroyed_by ends.emptied.is_first) all_own
+
+  once_at_most : (b : Bool) → uses_in (own_entries 0 journal) ≡ destroyed_by b → (uses_in (own_entries 0 journal) ≡ []) ⊎ (uses_in (own_entries 0 journal) ≡ destroying ∷ [])
+  once_at_most true is = inr is
+  once_at_most false is = inl is
 
   pub are_answered : AreAnswered setting (specs₁ ++ specs₂ ++ specs₃) finished
   are_answered =
@@ -142,11 +147,11 @@ module _ {lock : TableId} {setting : Setting} {orders : Orders} (p₀ p₁ p₂ 
       record {
         nothing = subst (λ s. LeavesNothing s journal) all_setting ends.nothing;
         makers = makers;
-        asked = map-append free_ask (own_entries 1 journal ++ own_entries 2 journal) (own_entries 3 journal)
-            ∙ ap₂ (λ xs ys. xs ++ ys) (map-append free_ask (own_entries 1 journal) (own_entries 2 journal) ∙ ap₂ (λ xs ys. xs ++ ys) one two) three
+        asked = map-append free_use (own_entries 1 journal ++ own_entries 2 journal) (own_entries 3 journal)
+            ∙ ap₂ (λ xs ys. xs ++ ys) (map-append free_use (own_entries 1 journal) (own_entries 2 journal) ∙ ap₂ (λ xs ys. xs ++ ys) one two) three
             ∙ sym (map-append (λ spec. Some (quiet_ask spec)) (specs₁ ++ specs₂) specs₃
             ∙ ap (λ xs. xs ++ map (λ spec. Some (quiet_ask spec)) specs₃) (map-append (λ spec. Some (quiet_ask spec)) specs₁ specs₂));
-        unasked = runner;
+        ran = once_at_most ends.emptied.is_first runner;
         accepted_are = ends.accepted_are;
         answers = subst (λ s. AnswersAll s journal finished.accepted finished.calls) all_setting ends.answers;
       }

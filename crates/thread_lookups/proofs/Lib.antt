@@ -1,5 +1,4 @@
 mod AskLemmas
 mod RunLemmas
 mod EndLemmas
-mod PageLemmas
 mod SendLemmas

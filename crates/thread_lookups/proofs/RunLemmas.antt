@@ -1,7 +1,7 @@
--- What a runner, its pauses and deliveries do to a pass: each request that is taken is told its answer, and nothing is asked but on a callback's command.
-use Rattle.std.proofs.Common.{◌≡◌, ◌≢◌, ◌∙◌, ◌+◌, ◌<◌, ◌==◌, ℕ, zero, suc, Bool, true, false, List, [], ◌∷◌, ◌++◌, Option, Some, None, Result, Ok, Err, length, refl, ap, sym, subst, arith, ne_eqb}
+-- What a runner, its pauses and deliveries do to a pass: each request that is taken is told its answer, and beside takings, turns and what callbacks command nothing is done.
+use Rattle.std.proofs.Common.{◌≡◌, ◌≢◌, ◌∙◌, ◌+◌, ◌<◌, ◌==◌, ℕ, zero, suc, true, List, [], ◌∷◌, Option, Some, None, Result, Ok, Err, length, refl, ap, sym, subst, arith, ne_eqb}
 use Rattle.std.proofs.lemmas.Bool.{and_parts}
-use Rattle.std.specs.List.{AllByRecursion, list_all, range_with_len}
+use Rattle.std.specs.List.{list_all, range_with_len}
 use Rattle.std.specs.Prelude.{not}
 use Rattle.chan_types.specs.declared.answer.Answer.{Answer}
 use Rattle.chan_types.specs.declared.journal.Entry.{Entry}
@@ -26,7 +26,6 @@ use Rattle.channel_table.specs.Commanded.{IsOfCommand}
 use Rattle.completion_ticket.specs.States.{CallbackState, CalledState}
 use Rattle.event_runner.specs.Goes.{AreMadeInTurns, Break, Ends, Stretch, is_made_in_turn}
 use Rattle.event_runner.specs.Running.{HasLooked, Pauses, Running, run_of}
-use Rattle.event_runner.specs.State.{State}
 use Rattle.event_runner.specs.declared.answers.Paused.{Paused}
 use Rattle.event_runner.specs.declared.answers.Paused.TheVariants.{Skipped, WaitFault, Woken}
 use Rattle.item_list.specs.declared.no_memory.NoMemory.{NoMemory}
@@ -35,38 +34,38 @@ use Rattle.shared_channel.specs.Passes.{PassView, desk_of}
 use Rattle.shared_channel.specs.Spending.{DeliversOne}
 use Rattle.shared_channel.specs.Under.{plan_of}
 use Rattle.shared_channel.proofs.Theorems.{fate_later, stays_counts, stays_delivery, stays_looks, stays_more, stays_none, stays_turns}
-use Rattle.thread_lookups.specs.Asking.{ask_by, asks_in, free_ask}
-use Rattle.thread_lookups.specs.Passing.{AsksNothing}
-use Rattle.thread_lookups.proofs.AskLemmas.{asks_kept, command_asks, event_asks, none_asked}
+use Rattle.thread_lookups.specs.Asking.{use_by, uses_in, free_use}
+use Rattle.thread_lookups.specs.Passing.{OnlyRuns}
+use Rattle.thread_lookups.proofs.AskLemmas.{uses_kept, command_uses, event_uses, none_used}
 
 -- by nothing, and by one part behind another
-pub nothing_asked : (pass : PassView) → AsksNothing pass pass
-nothing_asked pass = record { stays = stays_none pass; asked = refl }
+pub nothing_asked : (pass : PassView) → OnlyRuns pass pass
+nothing_asked pass = record { stays = stays_none pass; uses = refl }
 
-pub nothing_more : (a b c : PassView) → AsksNothing a b → AsksNothing b c → AsksNothing a c
-nothing_more a b c one two = record { stays = stays_more a b c one.stays two.stays; asked = two.asked ∙ one.asked }
+pub nothing_more : (a b c : PassView) → OnlyRuns a b → OnlyRuns b c → OnlyRuns a c
+nothing_more a b c one two = record { stays = stays_more a b c one.stays two.stays; uses = two.uses ∙ one.uses }
 
 -- by looks
-looks_ask : (old new : PassView) → HasLooked (desk_of old) (desk_of new) → AsksNothing old new
-looks_ask old new looked = record { stays = stays_looks old new looked.goes_on looked.own; asked = ap asks_in looked.own }
+looks_ask : (old new : PassView) → HasLooked (desk_of old) (desk_of new) → OnlyRuns old new
+looks_ask old new looked = record { stays = stays_looks old new looked.goes_on looked.own; uses = ap uses_in looked.own }
 
--- what only a turn makes asks nothing
-turn_asks : (what : What) → not (length (parts_of_entry what) == 0) ≡ true → ask_by what ≡ None
+-- what only a turn makes is no use of the channel
+turn_asks : (what : What) → not (length (parts_of_entry what) == 0) ≡ true → use_by what ≡ None
 turn_asks (Accept number spec script) of_turn = absurd (cc of_turn)
-turn_asks Cancel of_turn = refl
-turn_asks Destroy of_turn = refl
+turn_asks Cancel of_turn = absurd (cc of_turn)
+turn_asks Destroy of_turn = absurd (cc of_turn)
 turn_asks (Take number) of_turn = refl
 turn_asks (Start number leg server link id mix moment) of_turn = refl
 turn_asks (Arrive server link bytes) of_turn = refl
 turn_asks (Expire number leg moment) of_turn = refl
 turn_asks (Fault server link moment) of_turn = refl
-turn_asks (Servers list) of_turn = refl
+turn_asks (Servers list) of_turn = absurd (cc of_turn)
 
-turns_ask : (es : List Entry) → list_all is_made_in_turn es ≡ true → asks_in es ≡ []
+turns_ask : (es : List Entry) → list_all is_made_in_turn es ≡ true → uses_in es ≡ []
 turns_ask [] all = refl
 turns_ask (e ∷ es) all =
     let parts = and_parts (is_made_in_turn e) (list_all is_made_in_turn es) all in
-    rw (event_asks e (turn_asks e.what (and_parts (is_of_turn e) (e.by == 0) parts.0).0)) (turns_ask es parts.1)
+    rw (event_uses e (turn_asks e.what (and_parts (is_of_turn e) (e.by == 0) parts.0).0)) (turns_ask es parts.1)
 
 turns_are : (es : List Entry) → list_all is_made_in_turn es ≡ true → list_all is_of_turn es ≡ true
 turns_are [] all = refl
@@ -74,15 +73,15 @@ turns_are (e ∷ es) all =
     let parts = and_parts (is_made_in_turn e) (list_all is_made_in_turn es) all in
     rw ((and_parts (is_of_turn e) (e.by == 0) parts.0).0) (turns_are es parts.1)
 
-went_by_turns : (old new : PassView) (goes : GoesOn (desk_of old) (desk_of new)) → AreMadeInTurns old.number goes.since → AsksNothing old new
+went_by_turns : (old new : PassView) (goes : GoesOn (desk_of old) (desk_of new)) → AreMadeInTurns old.number goes.since → OnlyRuns old new
 went_by_turns old new goes made = record {
   stays = stays_turns old new goes (turns_are (own_entries old.number goes.since) made);
-  asked = asks_kept old.own new.own (own_entries old.number goes.since) goes.own (turns_ask (own_entries old.number goes.since) made);
+  uses = uses_kept old.own new.own (own_entries old.number goes.since) goes.own (turns_ask (own_entries old.number goes.since) made);
 }
 
 -- by a turn, whatever it answers
 pub turn_asks_nothing : {T : Type 0} (whole : T → Stretch) (cut : Break) (result : Result T NoMemory) (old new : PassView) (was is : Running) (before after : Option (List WorldCall)) →
-    Ends whole cut result (run_of (desk_of old) was before) (run_of (desk_of new) is after) → AsksNothing old new
+    Ends whole cut result (run_of (desk_of old) was before) (run_of (desk_of new) is after) → OnlyRuns old new
 turn_asks_nothing whole cut (Ok answer) old new was is before after ends = went_by_turns old new ends.goes_on ends.made
 turn_asks_nothing whole cut (Err fault) old new was is before after ends = went_by_turns old new ends.goes_on ends.made
 
@@ -95,17 +94,17 @@ looked_twice old middle new one two = record {
 }
 
 -- by a pause, whatever it answers
-pub pause_asks_nothing : (latest : ℕ) (result : Result Paused NoMemory) (old new : PassView) (before after : Option (List WorldCall)) → Pauses latest result (desk_of old) (desk_of new) before after → AsksNothing old new
+pub pause_asks_nothing : (latest : ℕ) (result : Result Paused NoMemory) (old new : PassView) (before after : Option (List WorldCall)) → Pauses latest result (desk_of old) (desk_of new) before after → OnlyRuns old new
 pause_asks_nothing latest (Ok Skipped) old new before after pauses = looks_ask old new pauses.looked
 pause_asks_nothing latest (Ok Woken) old new before after pauses = looks_ask old new (looked_twice (desk_of old) pauses.middle (desk_of new) pauses.looked pauses.looked_again)
 pause_asks_nothing latest (Ok WaitFault) old new before after pauses = looks_ask old new (looked_twice (desk_of old) pauses.middle (desk_of new) pauses.looked pauses.looked_again)
 pause_asks_nothing latest (Err fault) old new before after pauses = looks_ask old new pauses.0
 
 -- by a look at the counts
-pub counts_ask : (counts : Counts) (old new : PassView) → Calls (TellsCounts counts) 0 (desk_of old) (desk_of new) → AsksNothing old new
+pub counts_ask : (counts : Counts) (old new : PassView) → Calls (TellsCounts counts) 0 (desk_of old) (desk_of new) → OnlyRuns old new
 counts_ask counts old new call = record {
   stays = stays_counts counts old new call;
-  asked = asks_kept old.own new.own (entries_of old.number 0 call.added) call.own (ap (λ added. asks_in (entries_of old.number 0 added)) call.meant.nothing);
+  uses = uses_kept old.own new.own (entries_of old.number 0 call.added) call.own (ap (λ added. uses_in (entries_of old.number 0 added)) call.meant.nothing);
 }
 
 -- where they are 0 nothing is left
@@ -129,12 +128,12 @@ fate_numbered setting request answer journal lawful is zero_is =
     (unasked_fate setting request (past_of journal) (ap (occurrences request) (requests_numbered setting (past_of journal) lawful.allowed) ∙ none))
 
 -- by a delivery
-pub delivery_asks : (orders : Orders) (called : Option CalledState) (old new : PassView) → DeliversOne orders old called new → AsksNothing old new
+pub delivery_asks : (orders : Orders) (called : Option CalledState) (old new : PassView) → DeliversOne orders old called new → OnlyRuns old new
 delivery_asks orders None old new call = record {
   stays = stays_delivery orders None old new call;
-  asked = asks_kept old.own new.own (entries_of old.number 0 call.added) call.own (ap (λ added. asks_in (entries_of old.number 0 added)) call.meant.0);
+  uses = uses_kept old.own new.own (entries_of old.number 0 call.added) call.own (ap (λ added. uses_in (entries_of old.number 0 added)) call.meant.0);
 }
-delivery_asks orders (Some called) old new delivers = record { stays = stays_delivery orders (Some called) old new delivers; asked = spent ∙ taken }
+delivery_asks orders (Some called) old new delivers = record { stays = stays_delivery orders (Some called) old new delivers; uses = spent ∙ taken }
   where
     ticket : Ticket CallbackState
     ticket = delivers.0
@@ -145,8 +144,8 @@ delivery_asks orders (Some called) old new delivers = record { stays = stays_del
     call : Calls (Takes plan_of (Some ticket)) 0 (desk_of old) (desk_of middle)
     call = delivers.2
 
-    taken : asks_in middle.own ≡ asks_in old.own
-    taken = asks_kept old.own middle.own (entries_of old.number 0 call.added) call.own (ap (λ added. asks_in (entries_of old.number 0 added)) call.meant.0)
+    taken : uses_in middle.own ≡ uses_in old.own
+    taken = uses_kept old.own middle.own (entries_of old.number 0 call.added) call.own (ap (λ added. uses_in (entries_of old.number 0 added)) call.meant.0)
 
     -- the request was accepted, and so has a number
     numbered : ticket.call.number ≢ 0
@@ -154,10 +153,10 @@ delivery_asks orders (Some called) old new delivers = record { stays = stays_del
         (subst (λ s. fate s ticket.call.number (past_of middle.seen) ≡ Some ticket.call) (sym call.desk.setting)
         (fate_later old.setting ticket.call.number ticket.call call.here middle.seen (entries_of old.number 0 call.added, sym call.seen) call.meant.2))
 
-    spent : asks_in new.own ≡ asks_in middle.own
+    spent : uses_in new.own ≡ uses_in middle.own
     spent =
         let done = delivers.3.performed in
-        asks_kept middle.own new.own (own_entries middle.number done.since) done.own
-        (none_asked (own_entries middle.number done.since)
-        (each-then (λ (e : Entry). (e.by ≡ ticket.call.number) × IsOfCommand e.what) (λ e. free_ask e ≡ None) (own_entries middle.number done.since)
-        (λ e commanded. command_asks e (λ zero_is. numbered (sym commanded.0 ∙ zero_is))) done.commanded))
+        uses_kept middle.own new.own (own_entries middle.number done.since) done.own
+        (none_used (own_entries middle.number done.since)
+        (each-then (λ (e : Entry). (e.by ≡ ticket.call.number) × IsOfCommand e.what) (λ e. free_use e ≡ None) (own_entries middle.number done.since)
+        (λ e commanded. command_uses e (λ zero_is. numbered (sym commanded.0 ∙ zero_is))) done.commanded))

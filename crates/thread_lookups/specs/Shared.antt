@@ -1,6 +1,6 @@
 -- What is left of a channel from which four threads asked for hosts' addresses.
 use Rattle.std.specs.List.{AllByRecursion}
-use Rattle.std.specs.Prelude.{List, Some, [], length, map, ◌++◌, ◌<◌, ◌≡◌}
+use Rattle.std.specs.Prelude.{List, Some, [], length, map, ◌++◌, ◌<◌, ◌∷◌, ◌≡◌, ◌⊎◌}
 use Rattle.chan_types.specs.declared.journal.Entry.{Entry}
 use Rattle.channel_journal.specs.declared.kept.KeptJournal.{KeptJournal}
 use Rattle.channel_model.specs.Journal.{accepted, own_entries, past_of}
@@ -8,7 +8,7 @@ use Rattle.channel_model.specs.Setting.{Setting}
 use Rattle.shared_channel.specs.Finishing.{AnswersAll, LeavesNothing}
 use Rattle.shared_channel.specs.declared.finishing.Finished.{Finished}
 use Rattle.chan_types.specs.declared.spec.Spec.{Spec}
-use Rattle.thread_lookups.specs.Asking.{asks_in, free_ask, quiet_ask}
+use Rattle.thread_lookups.specs.Asking.{destroying, free_use, quiet_ask, uses_in}
 
 -- the entries of a finished channel's journal
 abbrev pub journal_of : Finished KeptJournal → List Entry
@@ -25,9 +25,9 @@ pub record AreAnswered (setting : Setting) (specs : List Spec) (finished : Finis
   -- these four threads made all of it
   pub makers : AllByRecursion (λ entry. entry.seat < 4) (journal_of finished)
   -- what three of them made are these requests, each once and in order, with callbacks that command nothing; and nothing else
-  pub asked : map free_ask (made_by_askers (journal_of finished)) ≡ map (λ spec. Some (quiet_ask spec)) specs
-  -- the other one asked nothing, but on a callback's command
-  pub unasked : asks_in (own_entries 0 (journal_of finished)) ≡ []
+  pub asked : map free_use (made_by_askers (journal_of finished)) ≡ map (λ spec. Some (quiet_ask spec)) specs
+  -- the other one took, made turns and did what callbacks commanded; beside that it did nothing but destroy the channel, once at most
+  pub ran : (uses_in (own_entries 0 (journal_of finished)) ≡ []) ⊎ (uses_in (own_entries 0 (journal_of finished)) ≡ destroying ∷ [])
   -- each accepted request has exactly one answer, its fate
   pub accepted_are : finished.accepted ≡ length (accepted (past_of (journal_of finished)))
   pub answers : AnswersAll setting (journal_of finished) finished.accepted finished.calls

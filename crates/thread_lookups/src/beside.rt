@@ -1,7 +1,7 @@
 //! Threads that ask, beside the one that runs the channel.
 
 ghost use Rattle.std.specs.Prelude.{◌≡◌};
-ghost use Rattle.thread_lookups.specs.Passing.{AsksNothing, HasAsked};
+ghost use Rattle.thread_lookups.specs.Passing.{OnlyRuns, HasAsked};
 
 use crate::asking::{Asked, ask_all};
 use crate::running::run_place;
@@ -64,7 +64,7 @@ fn ask_beside<R: Threads + Wait + Sync, G: FnOnce() -> A, A>(
 /// Runs the channel through a pass.
 pub fn run_at<R: Wait, W: World + Drop>(rt: &R, channel: &Channel<Scripted>, run: Run<W>) -> Ran<W>
     requires { run.pass.lock ≡ channel.now }
-    ensures { AsksNothing run.pass result.run.pass }
+    ensures { OnlyRuns run.pass result.run.pass }
 {
     let Run {
         pass,
@@ -93,7 +93,7 @@ fn one_beside<R: Threads + Wait + Sync, W: World + Drop>(
     requires at { share.pass.lock ≡ channel.now }
     requires run { run.pass.lock ≡ channel.now }
     ensures asked { HasAsked share.requests.items result.0.all share.pass result.0.pass }
-    ensures ran { AsksNothing run.pass result.1.run.pass }
+    ensures ran { OnlyRuns run.pass result.1.run.pass }
 {
     ask_beside(
         rt,
@@ -102,7 +102,7 @@ fn one_beside<R: Threads + Wait + Sync, W: World + Drop>(
         share,
         move ||
             requires { run.pass.lock ≡ channel.now }
-            ensures { AsksNothing run.pass result.run.pass }
+            ensures { OnlyRuns run.pass result.run.pass }
         { run_at(rt, channel, run) },
     )
 }
@@ -119,7 +119,7 @@ fn two_beside<R: Threads + Wait + Sync, W: World + Drop>(
     requires run { run.pass.lock ≡ channel.now }
     ensures first { HasAsked shares.0.requests.items result.0.all shares.0.pass result.0.pass }
     ensures second { HasAsked shares.1.requests.items result.1.0.all shares.1.pass result.1.0.pass }
-    ensures ran { AsksNothing run.pass result.1.1.run.pass }
+    ensures ran { OnlyRuns run.pass result.1.1.run.pass }
 {
     let (first, second) = shares;
     ask_beside(
@@ -130,7 +130,7 @@ fn two_beside<R: Threads + Wait + Sync, W: World + Drop>(
         move ||
             requires { (second.pass.lock ≡ channel.now) × (run.pass.lock ≡ channel.now) }
             ensures { HasAsked second.requests.items result.0.all second.pass result.0.pass
-                × AsksNothing run.pass result.1.run.pass }
+                × OnlyRuns run.pass result.1.run.pass }
         { one_beside(rt, channel, alloc, second, run) },
     )
 }
@@ -149,7 +149,7 @@ pub fn three_beside<R: Threads + Wait + Sync, W: World + Drop>(
     ensures first { HasAsked shares.0.requests.items result.0.all shares.0.pass result.0.pass }
     ensures second { HasAsked shares.1.requests.items result.1.0.all shares.1.pass result.1.0.pass }
     ensures third { HasAsked shares.2.requests.items result.1.1.0.all shares.2.pass result.1.1.0.pass }
-    ensures ran { AsksNothing run.pass result.1.1.1.run.pass }
+    ensures ran { OnlyRuns run.pass result.1.1.1.run.pass }
 {
     let (first, second, third) = shares;
     ask_beside(
@@ -161,7 +161,7 @@ pub fn three_beside<R: Threads + Wait + Sync, W: World + Drop>(
             requires { (second.pass.lock ≡ channel.now) × (third.pass.lock ≡ channel.now) × (run.pass.lock ≡ channel.now) }
             ensures { HasAsked second.requests.items result.0.all second.pass result.0.pass
                 × HasAsked third.requests.items result.1.0.all third.pass result.1.0.pass
-                × AsksNothing run.pass result.1.1.run.pass }
+                × OnlyRuns run.pass result.1.1.run.pass }
         { two_beside(rt, channel, alloc, (second, third), run) },
     )
 }

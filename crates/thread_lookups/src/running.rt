@@ -4,7 +4,7 @@ ghost use Rattle.std.specs.Prelude.{◌≡◌, ◌≤◌, IsTrue, Ok};
 ghost use Rattle.channel_session.specs.Left.{IsOver};
 ghost use Rattle.net_world.specs.Cause.{Rose};
 ghost use Rattle.shared_channel.specs.Passes.{desk_of};
-ghost use Rattle.thread_lookups.specs.Passing.{AsksNothing};
+ghost use Rattle.thread_lookups.specs.Passing.{OnlyRuns};
 
 use chan_types::Orders;
 use channel_journal::ChannelJournal;
@@ -48,7 +48,7 @@ pub fn run_place<B: Done + Drop, R: Wait, J: ChannelJournal, W: World>(
     runner: &mut Runner,
     world: &mut W,
 ) -> Result<RunEnd, NoMemory>
-    ensures asks { AsksNothing place.old place.new }
+    ensures asks { OnlyRuns place.old place.new }
     ensures over { result ≡ Ok RunEnd.Over → IsOver (desk_of place.new) }
     ensures wait_fault { result ≡ Ok RunEnd.WaitFault → Rose (W.wait_faults world.old) (W.wait_faults world.new) }
     ensures waits { W.wait_faults world.old ≤ W.wait_faults world.new }
@@ -74,7 +74,7 @@ pub fn run_place<B: Done + Drop, R: Wait, J: ChannelJournal, W: World>(
 
 /// Calls the callbacks of the requests that are ready, until none is.
 fn deliver_ready<B: Done + Drop, R: Wait, J: ChannelJournal>(rt: &R, place: &mut Place<'_, B, R, J>)
-    ensures { AsksNothing place.old place.new }
+    ensures { OnlyRuns place.old place.new }
 {
     for _ in rt.forever() {
         if deliver_next(place) {
@@ -86,14 +86,14 @@ fn deliver_ready<B: Done + Drop, R: Wait, J: ChannelJournal>(rt: &R, place: &mut
 
 /// Calls the callback of the first ready request. Answers whether none was ready.
 fn deliver_next<B: Done + Drop, R: Wait, J: ChannelJournal>(place: &mut Place<'_, B, R, J>) -> bool
-    ensures { AsksNothing place.old place.new }
+    ensures { OnlyRuns place.old place.new }
 {
     deliver_one(place, FOLLOW).is_none()
 }
 
 /// Whether nothing is pending or ready on a place's channel.
 fn is_over<B: Done + Drop, R: Wait, J: ChannelJournal>(place: &mut Place<'_, B, R, J>) -> bool
-    ensures asks { AsksNothing place.old place.new }
+    ensures asks { OnlyRuns place.old place.new }
     ensures over { IsTrue result → IsOver (desk_of place.new) }
 {
     let counts = place.counts();
@@ -106,7 +106,7 @@ fn turn_and_pause<B: Done + Drop, R: Wait, J: ChannelJournal, W: World>(
     runner: &mut Runner,
     world: &mut W,
 ) -> Result<Paused, NoMemory>
-    ensures asks { AsksNothing place.old place.new }
+    ensures asks { OnlyRuns place.old place.new }
     ensures wait_fault { result ≡ Ok Paused.WaitFault → Rose (W.wait_faults world.old) (W.wait_faults world.new) }
     ensures waits { W.wait_faults world.old ≤ W.wait_faults world.new }
     ensures origin { W.origin world.new ≡ W.origin world.old }
@@ -121,7 +121,7 @@ fn turn<B: Done + Drop, R: Wait, J: ChannelJournal, W: World>(
     runner: &mut Runner,
     world: &mut W,
 ) -> Result<(), NoMemory>
-    ensures asks { AsksNothing place.old place.new }
+    ensures asks { OnlyRuns place.old place.new }
     ensures waits { W.wait_faults world.new ≡ W.wait_faults world.old }
     ensures origin { W.origin world.new ≡ W.origin world.old }
 {
@@ -135,7 +135,7 @@ fn pause<B: Done + Drop, R: Wait, J: ChannelJournal, W: World>(
     runner: &mut Runner,
     world: &mut W,
 ) -> Result<Paused, NoMemory>
-    ensures asks { AsksNothing place.old place.new }
+    ensures asks { OnlyRuns place.old place.new }
     ensures wait_fault { result ≡ Ok Paused.WaitFault → Rose (W.wait_faults world.old) (W.wait_faults world.new) }
     ensures waits { W.wait_faults world.old ≤ W.wait_faults world.new }
     ensures origin { W.origin world.new ≡ W.origin world.old }

@@ -1,4 +1,4 @@
-use Rattle.std.proofs.Common.{List, false, true, [], arith, subst, ◌++◌, ◌∙◌, ◌∷◌, ◌≡◌, ap, sym}
+use Rattle.std.proofs.Common.{List, false, true, [], arith, subst, ◌++◌, ◌∙◌, ◌∷◌, ◌≡◌, ap}
 use Rattle.channel_journal.specs.declared.kept.KeptJournal.{KeptJournal}
 use Rattle.host_lookups.specs.Answered.{setting_with}
 use Rattle.shared_channel.specs.Finishing.{Finishes}
