@@ -12,7 +12,7 @@ root=$(cd "$(dirname "$0")" && pwd)
 missing=0
 
 mkdir -p "$prefix/bin" "$prefix/share/man/man1"
-for tool in adig ahost tns areplay; do
+for tool in adig ahost tns areplay acache; do
     program=$root/crates/$tool/out/$tool
     if [ -x "$program" ]; then
         install -m 755 "$program" "$prefix/bin/$tool"

@@ -1,0 +1,13 @@
+mod RequestLemmas
+mod OwnerLemmas
+mod BringLemmas
+mod NameLemmas
+mod SceneLemmas
+mod EndLemmas
+mod LoopLemmas
+mod CloseLemmas
+mod AskLemmas
+mod ClosedLemmas
+mod BeginLemmas
+mod PromiseLemmas
+mod WordLemmas

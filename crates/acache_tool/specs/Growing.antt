@@ -1,0 +1,50 @@
+-- How the channel of a run goes on.
+use Rattle.std.specs.List.{list_all}
+use Rattle.std.specs.Prelude.{Bool, IsTrue, List, Some, [], false, map, true, ℕ, ◌&&◌, ◌++◌, ◌==◌, ◌≡◌}
+use Rattle.chan_types.specs.declared.answer.Answer.{Answer}
+use Rattle.chan_types.specs.declared.journal.Entry.{Entry}
+use Rattle.chan_types.specs.declared.journal.What.{What}
+use Rattle.chan_types.specs.declared.journal.What.TheVariants.{Accept, Arrive, Cancel, Destroy, Expire, Fault, Servers, Start, Take}
+use Rattle.channel_model.specs.Completion.{fate, pending, ready, taken}
+use Rattle.channel_model.specs.Journal.{Accepted, accepted, past_of}
+use Rattle.channel_model.specs.Lawful.{IsLawful}
+use Rattle.channel_table.specs.Calling.{Owned}
+
+-- the event leaves the channel running: it neither cancels nor destroys, nor does it set servers
+abbrev pub leaves_running : What → Bool
+leaves_running (Accept number spec script) = true
+leaves_running Cancel = false
+leaves_running Destroy = false
+leaves_running (Take number) = true
+leaves_running (Start number leg server link id mix moment) = true
+leaves_running (Arrive server link bytes) = true
+leaves_running (Expire number leg moment) = true
+leaves_running (Fault server link moment) = true
+leaves_running (Servers list) = false
+
+-- the entry is of the channel's one seat, no callback commanded it, and it leaves the channel running
+abbrev pub is_plain : Entry → Bool
+is_plain entry = (entry.seat == 0) && (entry.by == 0) && leaves_running entry.what
+
+-- the channel's journal went on, by entries that leave it running, which accept these requests and take those
+pub record Grows (accepts : List Accepted) (takes : List ℕ) (old new : Owned) : Type 0 where
+  pub entries : List Entry
+  pub seen : new.seen ≡ old.seen ++ entries
+  pub setting : new.setting ≡ old.setting
+  pub voice : new.voice ≡ old.voice
+  pub lawful : IsLawful old.setting old.seen → IsLawful new.setting new.seen
+  pub plain : IsTrue (list_all is_plain entries)
+  pub accepts_are : accepted (past_of new.seen) ≡ accepted (past_of old.seen) ++ accepts
+  pub takes_are : taken (past_of new.seen) ≡ taken (past_of old.seen) ++ takes
+
+-- nothing is pending and nothing ready
+abbrev pub IsOver : Owned → Type 0
+IsOver channel = (pending channel.setting (past_of channel.seen) ≡ []) × (ready channel.setting (past_of channel.seen) ≡ [])
+
+-- the answer is the fate of its request in this channel
+abbrev pub IsFate : Owned → Answer → Type 0
+IsFate channel answer = fate channel.setting answer.number (past_of channel.seen) ≡ Some answer
+
+-- the answers that were called for are the fates of the requests that were taken, in the same order
+abbrev pub AreCalled : Owned → List Answer → Type 0
+AreCalled channel calls = map Some calls ≡ map (λ number. fate channel.setting number (past_of channel.seen)) (taken (past_of channel.seen))

@@ -1,0 +1,12 @@
+pub mod Asked
+pub mod Parts
+pub mod Growing
+pub mod Bringing
+pub mod Told
+pub mod Output
+pub mod Shown
+pub mod Naming
+pub mod Leaving
+pub mod Closing
+pub mod Promise
+pub mod Running
