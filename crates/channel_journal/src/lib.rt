@@ -9,6 +9,3 @@ mod untold;
 pub use journal::ChannelJournal;
 pub use kept::KeptJournal;
 pub use untold::UntoldJournal;
-
-#[cfg(test)]
-mod tests;

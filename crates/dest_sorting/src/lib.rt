@@ -8,6 +8,3 @@ mod source;
 
 pub use sorting::sort;
 pub use source::source_for;
-
-#[cfg(test)]
-mod tests;

@@ -14,6 +14,3 @@ pub use opt::{EdnsItem, Opt, OptionList};
 pub use rcode::full_rcode;
 pub use reading::find;
 pub use writing::with_opt;
-
-#[cfg(test)]
-mod tests;

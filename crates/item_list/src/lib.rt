@@ -8,6 +8,3 @@ mod no_memory;
 pub use aliases::{Bytes, BytesList};
 pub use list::ItemList;
 pub use no_memory::NoMemory;
-
-#[cfg(test)]
-mod tests;

@@ -15,6 +15,3 @@ pub use prefix::common_prefix;
 pub use reverse::reverse_name;
 pub use scopes::scope;
 pub use text::{print, read};
-
-#[cfg(test)]
-mod tests;
