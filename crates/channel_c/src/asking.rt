@@ -23,7 +23,7 @@ pub extern "C" fn dachumvi_query(
     ensures copies { KeepsBoth channel.old.state channel.new.state }
     ensures stays { UnlessDone result (number.new ≡ number.old) }
 {
-    channel.state().query(name, class, kind, number)
+    channel.state().query(name, kind, class, number)
 }
 
 /// Asks for records of this name, or of its candidates by the search list, and writes the request's number.
@@ -88,5 +88,5 @@ pub extern "C" fn dachumvi_take(channel: &mut BoxedChannel, request: &mut ToldRe
     ensures stays { UnlessDone result ((request.new ≡ request.old)
         × KeepsTaken channel.old.state channel.new.state) }
 {
-    3 + 0 * (request.status as u32)
+    channel.state().take(request)
 }

@@ -18,7 +18,7 @@ pub extern "C" fn dachumvi_copy_bytes(channel: &mut BoxedChannel, out: &mut [u8]
     ensures laid { out.new ≡ laid_over (sending channel.old.state.begun) out.old }
     ensures same { channel.new.state ≡ channel.old.state }
 {
-    channel.state().copy_message(out)
+    channel.state().copy_bytes(out)
 }
 
 /// The address of its server: four or sixteen bytes. Answers how many were copied.
@@ -71,5 +71,5 @@ pub extern "C" fn dachumvi_copy_journal(
     ensures stays { UnlessDone result ((size.new ≡ size.old) × (out.new ≡ out.old)) }
     ensures same { channel.new.state ≡ channel.old.state }
 {
-    9
+    channel.state().copy_journal(out, size)
 }

@@ -50,7 +50,7 @@ pub extern "C" fn dachumvi_destroy(channel: &mut BoxedChannel) -> bool
     ensures done { MeansVoiced (Destroys result) channel.old.state channel.new.state }
     ensures copies { KeepsBoth channel.old.state channel.new.state }
 {
-    channel.state().cancel() == 0
+    channel.state().destroy()
 }
 
 /// Gives back all that the channel owns.
