@@ -2,6 +2,7 @@
 
 mod bound;
 mod serving;
+mod threads;
 
 use chan_types::{Answer, Calls};
 use host_lookups::{look_up, look_up_all, put_addresses, put_answer};
