@@ -5,3 +5,4 @@ pub mod Scripts
 pub mod Falls
 pub mod Gives
 pub mod Runs
+pub mod RunFalls

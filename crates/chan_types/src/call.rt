@@ -1,7 +1,7 @@
 //! The record of a call: one answer, in a node that is made beforehand and needs no memory later.
 
 ghost use Rattle.std.specs.Prelude.{◌≡◌, [], ◌∷◌, IfOk};
-ghost use Rattle.chan_types.specs.Runs.{unfilled, answers_of};
+ghost use Rattle.chan_types.specs.Runs.{unfilled};
 
 use crate::answer::Answer;
 use crate::runs::Runs;
@@ -9,16 +9,13 @@ use crate::status::Status;
 use dns_message::{Bytes, Name, NoMemory};
 use net_addr::AddrList;
 use std::alloc::Global;
-use std::collections::LinkedList;
 use std::marker::Model;
 
 /// The record of a call: the answer that a callback was told. Contracts see it as that answer.
 #[derive(Drop)]
 pub struct Call {
-    /// The answer, in a list of its own: a list of calls takes over its node.
-    answer: LinkedList<Answer>,
-    /// The end of a chain of runs.
-    end: Box<Runs>,
+    /// The answer, in a run of its own: a list of calls takes over its node.
+    runs: Runs,
 }
 
 impl Model for Call {
@@ -28,9 +25,9 @@ impl Model for Call {
 
     ghost Value = { Answer };
 
-    ghost view = { λ call. only call.answer };
+    ghost view = { λ call. only call.runs };
 
-    ghost invariant = { λ call. length call.answer ≡ 1 };
+    ghost invariant = { λ call. length call.runs ≡ 1 };
 }
 
 impl Call {
@@ -39,17 +36,15 @@ impl Call {
     pub fn make(alloc: Global) -> Result<Call, NoMemory>
         ensures { IfOk result (λ call. call ≡ unfilled) }
     {
-        let mut answer = LinkedList::new(alloc);
-        answer.push_back(Answer {
+        let answer = Answer {
             number: 0,
             status: Status::Success,
             message: Bytes::new(alloc),
             addresses: AddrList::new(alloc),
             canonical: Name::root(alloc),
-        })?;
+        };
         Ok(Call {
-            answer,
-            end: Box::new(alloc, Runs::End)?,
+            runs: Runs::one(alloc, answer)?,
         })
     }
 
@@ -57,21 +52,21 @@ impl Call {
     pub fn fill(&mut self, answer: Answer)
         ensures { self.new ≡ answer }
     {
-        *self.answer.front_mut().unwrap() = answer;
+        self.runs.fill(answer);
     }
 
     /// The answer.
     pub fn answer(&self) -> &Answer
         ensures { result.now ≡ self.now }
     {
-        self.answer.front().unwrap()
+        let (answer, _, _) = self.runs.first().unwrap();
+        answer
     }
-    /// The answer as a chain of one run.
+
+    /// The answer as one run.
     pub(crate) fn into_runs(self) -> Runs
-        ensures { answers_of result ≡ self ∷ [] }
+        ensures { result ≡ self ∷ [] }
     {
-        let Call { answer, mut end } = self;
-        *end = Runs::End;
-        Runs::Run(answer, end)
+        self.runs
     }
 }

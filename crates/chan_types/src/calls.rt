@@ -1,29 +1,28 @@
 //! The calls that were made: a list of answers that takes no memory, since each record of a call brings its node.
 
-ghost use Rattle.std.specs.Prelude.{◌≡◌, [], ◌∷◌, ◌++◌, MatchOption};
+ghost use Rattle.std.specs.Prelude.{◌≡◌, [], ◌∷◌, ◌++◌};
 ghost use Rattle.std.specs.Iterator.{YieldsFirstRef, item_count};
-ghost use Rattle.chan_types.specs.Runs.{answers_of};
 
 use crate::answer::Answer;
 use crate::call::Call;
-use crate::runs::Runs;
+use crate::runs::{Runs, Told};
 use std::collections::linked_list::Iter;
 use std::marker::Model;
 
 /// The answers of the calls that were made, in order. Contracts see it as the list of them.
 #[derive(Drop)]
 pub struct Calls {
-    runs: Runs,
+    /// None where there was no call.
+    runs: Option<Runs>,
 }
 
 impl Model for Calls {
-    ghost use Rattle.std.specs.Prelude.{List};
+    ghost use Rattle.std.specs.Prelude.{List, [], unwrap_or};
     ghost use Rattle.chan_types.specs.declared.answer.Answer.{Answer};
-    ghost use Rattle.chan_types.specs.Runs.{answers_of};
 
     ghost Value = { List Answer };
 
-    ghost view = { λ calls. answers_of calls.runs };
+    ghost view = { λ calls. unwrap_or calls.runs [] };
 }
 
 impl Calls {
@@ -31,21 +30,33 @@ impl Calls {
     pub fn new() -> Calls
         ensures { result ≡ [] }
     {
-        Calls { runs: Runs::End }
+        Calls { runs: None }
     }
 
     /// Adds a call at the end. It takes no memory.
     pub fn add(&mut self, call: Call)
         ensures { self.new ≡ self.old ++ call ∷ [] }
     {
-        self.runs.append(call.into_runs());
+        self.take_over(call.into_runs());
     }
 
     /// Adds the other calls at the end, in their order. It takes no memory.
     pub fn append(&mut self, other: Calls)
         ensures { self.new ≡ self.old ++ other }
     {
-        self.runs.append(other.runs);
+        if let Some(runs) = other.runs {
+            self.take_over(runs);
+        }
+    }
+
+    /// Adds these runs at the end.
+    fn take_over(&mut self, more: Runs)
+        ensures { self.new ≡ self.old ++ more }
+    {
+        match &mut self.runs {
+            Some(runs) => runs.append(more),
+            None => self.runs = Some(more),
+        }
     }
 
     /// The answers, in order.
@@ -54,7 +65,7 @@ impl Calls {
     {
         CallsIter {
             begun: None,
-            rest: &self.runs,
+            rest: self.runs.as_ref(),
         }
     }
 }
@@ -62,20 +73,21 @@ impl Calls {
 /// The answers of calls, in order. Contracts see it as the list of those that are left.
 #[derive(Drop)]
 pub struct CallsIter<'a> {
-    /// What is left of a run that was begun.
-    begun: Option<Iter<'a, Answer>>,
+    /// What is left of a list that was begun.
+    begun: Option<Iter<'a, Told>>,
     /// The runs behind it.
-    rest: &'a Runs,
+    rest: Option<&'a Runs>,
 }
 
 impl<'a> Model for CallsIter<'a> {
     ghost use Rattle.std.specs.Prelude.{List, ◌++◌, [], unwrap_or};
+    ghost use Rattle.std.specs.Option.{option_copied};
     ghost use Rattle.chan_types.specs.declared.answer.Answer.{Answer};
-    ghost use Rattle.chan_types.specs.Runs.{answers_of};
+    ghost use Rattle.chan_types.specs.Runs.{answers_in};
 
     ghost Value = { List Answer };
 
-    ghost view = { λ iter. unwrap_or iter.begun [] ++ answers_of iter.rest.now };
+    ghost view = { λ iter. answers_in (unwrap_or iter.begun []) ++ unwrap_or (option_copied iter.rest) [] };
 }
 
 impl<'a> Iterator for CallsIter<'a> {
@@ -87,30 +99,13 @@ impl<'a> Iterator for CallsIter<'a> {
 
     fn next(&mut self) -> Option<&'a Answer> {
         if let Some(begun) = &mut self.begun
-            && let Some(answer) = begun.next()
+            && let Some(told) = begun.next()
         {
-            return Some(answer);
+            return Some(&told.answer);
         }
-        let (answer, begun, rest) = first_of(self.rest)?;
+        let (answer, begun, rest) = self.rest?.first()?;
         self.begun = Some(begun);
-        self.rest = rest;
+        self.rest = Some(rest);
         Some(answer)
-    }
-}
-
-/// The first answer of these runs, what is left of its run, and the runs behind it.
-fn first_of(runs: &Runs) -> Option<(&Answer, Iter<'_, Answer>, &Runs)>
-    ensures { MatchOption result (answers_of runs.now ≡ [])
-        (λ found. answers_of runs.now ≡ found.0.now ∷ (found.1 ++ answers_of found.2.now)) }
-{
-    match runs {
-        Runs::End => None,
-        Runs::Run(answers, rest) => {
-            let mut begun = answers.iter();
-            match begun.next() {
-                Some(answer) => Some((answer, begun, rest)),
-                None => first_of(rest),
-            }
-        }
     }
 }

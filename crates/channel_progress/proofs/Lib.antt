@@ -21,6 +21,8 @@ pub mod FailedLemmas
 pub mod ScriptLemmas
 pub mod PromptedLemmas
 pub mod StalledLemmas
+pub mod BesideLemmas
+pub mod GrowLemmas
 pub mod Theorems
 pub mod WakingExamples
 pub mod AllowedExamples

@@ -15,6 +15,7 @@ use Rattle.channel_model.specs.Endings.{IsStalledBehind}
 use Rattle.channel_model.specs.Setting.{Setting}
 use Rattle.channel_model.specs.Turn.{HasExpired, HasStarted, IsTurn}
 use Rattle.channel_progress.specs.Allowed.{attempts_allowed}
+use Rattle.channel_progress.specs.Beside.{IsStalledBeside}
 use Rattle.channel_progress.specs.PlainRun.{IsPlainRun}
 use Rattle.channel_progress.proofs.ExampleWords.{accepts, at, heard_nothing, none_closed, none_expired, none_written, own, query, server, starts}
 
@@ -151,3 +152,46 @@ plain = record {
 pub allowed : attempts_allowed setting journal ≡ 3
 unfolding NameText.units_of
 allowed = refl
+
+-- the same run, whose clock is read once more before the first turn, between the two, and behind the last
+pub beside :
+    IsStalledBeside setting 0 (2 ^ 64 - 1) 2 3 journal
+    (Serve 0 server
+    ∷ Now 0
+    ∷ Now 0 ∷ Receive Nothing ∷ Word 7 ∷ Send 0 (query 7) WasSent ∷ Word 0 ∷ Now 1 ∷ Wait 2000 Woken
+    ∷ Now 2000 ∷ Receive Nothing ∷ Word 8 ∷ Send 0 (query 8) WasSent ∷ Word 0 ∷ Now 2001 ∷ [])
+unfolding NameText.units_of
+beside = record {
+  course = record {
+    first = accepts ∷ [];
+    first_asides = 0 ∷ [];
+    rounds =
+        record {
+          reading = 0;
+          entries = starts 7 0 ∷ [];
+          calls = Now 0 ∷ Receive Nothing ∷ Word 7 ∷ Send 0 (query 7) WasSent ∷ Word 0 ∷ [];
+          new = at (accepts ∷ starts 7 0 ∷ []);
+          between = [];
+          asides = 1 ∷ [];
+          rest = Some (record { until = 2000; outcome = Woken });
+        }
+        ∷ record {
+          reading = 2000;
+          entries = expires ∷ starts 8 2000 ∷ [];
+          calls = Now 2000 ∷ Receive Nothing ∷ Word 8 ∷ Send 0 (query 8) WasSent ∷ Word 0 ∷ [];
+          new = at journal;
+          between = [];
+          asides = 2001 ∷ [];
+          rest = None;
+        }
+        ∷ [];
+    journal_is = refl;
+    log_is = refl;
+    before = refl;
+    turns_are = (first_turn, refl, refl, refl, (second_turn, refl, refl, refl, tt));
+    count = refl;
+    asides_are = refl;
+    of_seat = refl;
+  };
+  left_pending = refl;
+}

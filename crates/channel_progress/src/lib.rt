@@ -6,5 +6,5 @@ mod turn_laws;
 mod waking_laws;
 
 pub use server_laws::attempts_stay_where_no_servers_are_set;
-pub use turn_laws::a_course_comes_to_its_end;
+pub use turn_laws::{a_course_comes_to_its_end, readings_cost_no_turn};
 pub use waking_laws::a_script_wakes_in_time;

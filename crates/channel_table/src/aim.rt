@@ -62,6 +62,7 @@ impl Aim {
 }
 
 /// The answer of a candidate of a request of this number, whose legs have ended so, if those have that it has.
+#[inline(always)]
 pub fn answer_of(
     alloc: Global,
     options: &Options,
@@ -146,6 +147,7 @@ fn both_answer(
 }
 
 /// An answer with a status and a message alone. It takes no memory.
+#[inline(always)]
 pub fn bare_answer(alloc: Global, number: u64, status: Status, message: Bytes) -> Answer
     ensures { result ≡ bare number status message }
 {

@@ -32,6 +32,7 @@ impl<T: Token> Model for Held<T> {
 
 impl<T: Token> Held<T> {
     /// This request, or it is handed back where there is no memory.
+    #[inline(always)]
     pub fn of(alloc: Global, row: Row<T>) -> Result<Held<T>, Row<T>>
         ensures ok { IfOk result (λ held. held ≡ row) }
         ensures back { IfErr result (λ given. given ≡ row) }
@@ -50,6 +51,7 @@ impl<T: Token> Held<T> {
     }
 
     /// The request, off the heap.
+    #[inline(always)]
     pub fn into_row(self) -> Row<T>
         ensures { result ≡ self }
     {
@@ -136,6 +138,7 @@ pub fn row_at<T: Token>(rows: &VecDeque<Held<T>>, index: usize) -> &Row<T>
 
 /// Takes the request at this index out of the list: those before it move, or those behind it, whichever are fewer. None
 /// moves where it is the first.
+#[inline(always)]
 pub fn take_at<T: Token>(rows: &mut VecDeque<Held<T>>, index: usize) -> Row<T>
     requires { index < deque_len rows.old }
     ensures value { result ≡ get_or rows.old.items index result }
@@ -152,6 +155,7 @@ pub fn take_at<T: Token>(rows: &mut VecDeque<Held<T>>, index: usize) -> Row<T>
 }
 
 /// Takes the first request out of the list, which has some.
+#[inline(always)]
 fn take_first<T: Token>(rows: &mut VecDeque<Held<T>>) -> Row<T>
     requires { 0 < deque_len rows.old }
     ensures value { result ≡ get_or rows.old.items 0 result }

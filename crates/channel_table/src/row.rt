@@ -55,6 +55,7 @@ impl<T: Token> Row<T> {
     }
 
     /// An attempt of this side begins.
+    #[inline(always)]
     pub fn begin(
         &mut self,
         is_second: bool,
@@ -79,6 +80,7 @@ impl<T: Token> Row<T> {
 
     /// The answer that the current candidate has behind the end of the attempts that an entry concerns, which meant
     /// this and came with these bytes or none, where a leg may spend so many attempts; or none, where it goes on.
+    #[inline(always)]
     pub fn answer_behind(
         &self,
         alloc: Global,
@@ -133,6 +135,7 @@ impl<T: Token> Row<T> {
     }
 
     /// The ticket of the request, whose last candidate has this answer. It takes no memory.
+    #[inline(always)]
     pub fn into_ticket(self, answer: Answer) -> Ticket<T>
         ensures { result ≡ record {
           token = self.token;
@@ -235,6 +238,7 @@ pub fn ticket_of<T: Token>(
 }
 
 /// The ticket with this answer. It takes no memory.
+#[inline(always)]
 pub fn ticket_with<T: Token>(answer: Answer, token: T, call: Call) -> Ticket<T>
     ensures { result ≡ record { token = token; call = answer } }
 {

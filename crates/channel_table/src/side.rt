@@ -156,6 +156,7 @@ impl Side {
 
     /// How its leg has ended behind an entry that concerns it, if it does, meant this and came with these bytes or
     /// none, where a leg may spend so many attempts; or none.
+    #[inline(always)]
     pub fn ended_behind<'a>(
         &'a self,
         concerned: Hits,
@@ -181,6 +182,7 @@ impl Side {
 
     /// An attempt of it begins on this server, over this link, with this identifier and these bits for the case of its
     /// letters, if there are some, at a moment, and is given so long.
+    #[inline(always)]
     pub fn begin(&mut self, server: u32, link: u64, id: u16, mix: Option<u16>, at: u64, wait: u64)
         requires waits { IsWaiting self.old.leg.phase }
         ensures { self.new ≡ begun_side (attempt_from server link id mix at wait) self.old }
@@ -191,6 +193,7 @@ impl Side {
 
     /// Its attempt has come to its end, if the entry concerns it, which meant this and came with this reply or none,
     /// where a leg may spend so many. It takes no memory.
+    #[inline(always)]
     pub fn close(
         &mut self,
         concerned: Hits,

@@ -126,6 +126,7 @@ impl<T: Token, J: ChannelJournal> Table<T, J> {
 
 /// What an accept of a request that comes to this needs beside so many rows, if memory was found for it: room for its
 /// entry, for those that its request may need, and for its ticket.
+#[inline(always)]
 fn prepare<T: Token, J: ChannelJournal>(
     alloc: Global,
     opening: Result<Opening, NoMemory>,
@@ -160,6 +161,7 @@ fn prepare<T: Token, J: ChannelJournal>(
 
 /// Puts the request of this number, whose answer is made of this, among the pending ones, or among the ready ones. It
 /// gives the token back where there is no memory.
+#[inline(always)]
 fn place<T: Token>(
     alloc: Global,
     options: &Options,
@@ -240,6 +242,7 @@ fn second_side(
 }
 
 /// What a request of this number asks, or how it ends at once.
+#[inline(always)]
 fn opening_of(
     alloc: Global,
     options: &Options,
@@ -304,6 +307,7 @@ fn with_second(alloc: Global, opening: Opening) -> Result<Opening, NoMemory>
 }
 
 /// What a text comes to that is asked for as it stands.
+#[inline(always)]
 fn question_of(alloc: Global, text: &[u8], kind: u16, class: u16) -> Result<Opening, NoMemory>
     ensures { IfOk result (OpensText itself text.now kind class) }
 {
@@ -315,6 +319,7 @@ fn question_of(alloc: Global, text: &[u8], kind: u16, class: u16) -> Result<Open
 }
 
 /// What a name comes to that is asked for alone.
+#[inline(always)]
 fn opening_for(alloc: Global, name: Name, kind: u16, class: u16) -> Opening
     ensures { OpensName (name ∷ []) name kind class result }
 {

@@ -57,6 +57,7 @@ impl Tally {
     }
 
     /// That of one request.
+    #[inline(always)]
     pub fn of_row<T: Token>(row: &Row<T>) -> Tally
         ensures { result ≡ tally_of row.now }
     {
@@ -90,6 +91,7 @@ impl Tally {
     }
 
     /// The same where a part of it has changed: from this tally to that one.
+    #[inline(always)]
     pub fn moved(self, before: Tally, behind: Tally) -> Tally
         ensures { HasMoved self before behind result }
     {
@@ -110,6 +112,7 @@ fn moved(count: u64, before: u64, behind: u64) -> u64
 
 /// The tally of the request at this index, where the list is as long as it was, and else that of none: the request has
 /// left it.
+#[inline(always)]
 pub fn tally_left<T: Token>(rows: &VecDeque<Held<T>>, index: usize, len: usize) -> Tally
     requires { index < len }
     ensures { IsTallyLeft index len rows.now.items result }

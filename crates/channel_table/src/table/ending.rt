@@ -97,6 +97,7 @@ fn ended<T: Token>(alloc: Global, row: Row<T>, status: Status) -> Ticket<T>
 /// Ends the attempts of the row at this index that an entry concerns, which meant this and came with this reply or
 /// none, where a leg may spend so many attempts, and this is then the answer of its current candidate, if it has one.
 /// It takes no memory.
+#[inline(always)]
 pub fn end_row<T: Token>(
     alloc: Global,
     options: &Options,

@@ -108,6 +108,7 @@ fn middle_of(low: usize, high: usize) -> usize
 }
 
 /// The first side that waits. Requests of which none waits any longer leave those that wait, where they come first.
+#[inline(always)]
 pub fn first_idle<T: Token>(rows: &VecDeque<Held<T>>, waiting: &mut Waiting) -> Option<Idle>
     requires rising { IsRising (map number_of rows.now.items) }
     requires listed { AllByRecursion (IsListed waiting.old) rows.now.items }
@@ -124,6 +125,7 @@ pub fn first_idle<T: Token>(rows: &VecDeque<Held<T>>, waiting: &mut Waiting) -> 
 }
 
 /// Takes the request at this index out of those that wait, where it comes first and none of its legs waits any longer.
+#[inline(always)]
 pub fn leave_waiting<T: Token>(rows: &VecDeque<Held<T>>, index: usize, waiting: &mut Waiting)
     requires inside { index < deque_len rows.now }
     requires rising { IsRising (map number_of rows.now.items) }
@@ -140,6 +142,7 @@ pub fn leave_waiting<T: Token>(rows: &VecDeque<Held<T>>, index: usize, waiting: 
 }
 
 /// The first side that waits of the request with this number.
+#[inline(always)]
 fn idle_with<T: Token>(rows: &VecDeque<Held<T>>, number: u64) -> Option<Idle>
     requires { IsRising (map number_of rows.now.items) }
     ensures { FindsIdleWith number rows.now.items result }
@@ -177,6 +180,7 @@ fn list_row<T: Token>(row: &Row<T>, waiting: &mut Waiting) -> Result<(), NoMemor
 }
 
 /// Lists the request, if it stays where its current candidate has this answer, if it has one.
+#[inline(always)]
 pub fn list_staying<T: Token>(
     row: &Row<T>,
     answer: &Option<Answer>,

@@ -40,6 +40,7 @@ impl Flown {
     }
 
     /// An attempt of the leg begins, with this identifier, and is due at this moment.
+    #[inline(always)]
     pub fn add(&mut self, leg: Key, id: u16, due: u64) -> Result<(), NoMemory>
         requires idle { map.contains_key self.old.deadlines leg ≡ false }
         ensures ok { OnOk result (self.new ≡ begun_flown leg id due self.old) }
@@ -56,6 +57,7 @@ impl Flown {
     }
 
     /// Forgets the attempt of the side, if it has one. It takes no memory.
+    #[inline(always)]
     fn forget(&mut self, side: &Side)
         ensures { self.new ≡ forgotten side.now self.old }
     {
@@ -66,6 +68,7 @@ impl Flown {
     }
 
     /// Forgets the attempts of the sides of the row for which this is so. It takes no memory.
+    #[inline(always)]
     fn forget_sides<T: Token>(&mut self, row: &Row<T>, first: bool, second: bool)
         ensures { self.new ≡ left_of first second row.now self.old }
     {
@@ -81,6 +84,7 @@ impl Flown {
 
     /// Forgets the attempts of the row that an entry concerns, and all of them where its current candidate then has an
     /// answer. It takes no memory.
+    #[inline(always)]
     pub fn forget_ended<T: Token>(&mut self, row: &Row<T>, concerned: Hits, answer: &Option<Answer>)
         ensures { self.new ≡ ended_of concerned (is_some answer.now) row.now self.old }
     {

@@ -24,6 +24,7 @@ use std::collections::VecDeque;
 /// Ends the attempts of the row at this index that an entry concerns, which meant this and came with this reply or
 /// none, where a leg may spend so many attempts, and this is then the answer of its current candidate, if it has one.
 /// Answers the tally of the rows, which was this one. It takes no memory.
+#[inline(always)]
 pub fn end_found<T: Token>(
     alloc: Global,
     options: &Options,

@@ -28,6 +28,7 @@ pub struct Landing {
 }
 
 /// The side of the row at this index that the message answers.
+#[inline(always)]
 pub fn row_landing<T: Token>(
     alloc: Global,
     row: &Row<T>,
@@ -63,6 +64,7 @@ pub fn id_of(bytes: &[u8]) -> Option<u16>
 }
 
 /// A side of the row at this index that a message answers, which means this.
+#[inline(always)]
 fn landing_of(side: &Side, index: usize, is_second: bool, judged: Judged) -> Landing
     ensures { result ≡ landing_of index is_second judged side.now }
 {

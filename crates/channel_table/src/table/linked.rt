@@ -21,6 +21,7 @@ use std::collections::VecDeque;
 use timeout_queue::Key;
 
 /// An attempt of the leg begins on this server over this link, with this identifier, and is due at this moment.
+#[inline(always)]
 pub fn add_attempt(
     flown: &mut Flown,
     links: &mut Links,
@@ -59,6 +60,7 @@ fn end_side(links: &mut Links, side: &Side)
 }
 
 /// The same of the sides of the row for which this is so. It takes no memory.
+#[inline(always)]
 fn end_sides<T: Token>(links: &mut Links, row: &Row<T>, first: bool, second: bool)
     ensures { (server link : ℕ) → used server link links.new
         ≡ used server link links.old - over_sides first second server link row.now }
@@ -75,6 +77,7 @@ fn end_sides<T: Token>(links: &mut Links, row: &Row<T>, first: bool, second: boo
 
 /// The attempts of the row that an entry concerns are in flight no longer, and none of them where its current candidate
 /// then has an answer. It takes no memory.
+#[inline(always)]
 pub fn end_attempts<T: Token>(
     links: &mut Links,
     row: &Row<T>,

@@ -1,6 +1,6 @@
 //! A new list of servers.
 
-ghost use Rattle.std.specs.Prelude.{◌≡◌, ◌+◌, ◌<◌, ◌≤◌, ◌^◌, ◌++◌, IfOk, OnOk, find, length, map};
+ghost use Rattle.std.specs.Prelude.{◌≡◌, ◌+◌, ◌<◌, ◌≤◌, ◌^◌, ◌++◌, IfOk, OnOk, find, length, map, max};
 ghost use Rattle.std.specs.VecDeque.{deque_len};
 ghost use Rattle.channel_model.specs.Meanings.{SetsServers};
 ghost use Rattle.channel_model.specs.Seen.{Happens};
@@ -164,8 +164,18 @@ fn greatest_of(greatest: u32, servers: &[ServerKey]) -> u32
 {
     match servers {
         [] => greatest,
-        [server, rest @ ..] => greatest_of(greatest.max(server.key), rest),
+        [server, rest @ ..] => {
+            let greater = greater_of(greatest, server.key);
+            greatest_of(greater, rest)
+        }
     }
+}
+
+/// The greater of two keys.
+fn greater_of(a: u32, b: u32) -> u32
+    ensures { result ≡ max a b }
+{
+    if a < b { b } else { a }
 }
 
 /// Makes the list that of the rows: attempts on servers that aren't in it end, and no such server is forced. It takes

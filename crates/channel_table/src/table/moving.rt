@@ -157,6 +157,7 @@ impl<T: Token, J: ChannelJournal> Table<T, J> {
 
 /// The reply that a row keeps, whose current candidate has this answer with it, if it has one: with an answer none is
 /// kept, since the row ends or asks the next name.
+#[inline(always)]
 fn kept_reply(alloc: Global, answer: &Option<Answer>, bytes: &[u8]) -> Result<Bytes, NoMemory>
     ensures { IfOk result (λ reply. answer.now ≡ None → reply ≡ bytes.now) }
 {
@@ -177,6 +178,7 @@ fn server_of(leg: &Leg) -> u32
 }
 
 /// Counts the end of an attempt on this server, which meant this.
+#[inline(always)]
 fn count_end(servers: &mut Servers, server: u32, judged: Judged)
     requires there { IsTrue (list_any (λ item. item.server == server) servers.old) }
     ensures { servers.new ≡ recounted server (recount_by judged) servers.old }
@@ -203,6 +205,7 @@ fn most_attempts(options: &Options, list: &KeyList) -> u32
 }
 
 /// Room for one entry more, beside those that these rows and tickets may need.
+#[inline(always)]
 pub fn make_room<J: ChannelJournal>(
     journal: &mut J,
     rows: usize,

@@ -104,6 +104,7 @@ impl<T: Token> Rows<T> {
     }
 
     /// Puts a request behind the others, or hands it back where there is no memory.
+    #[inline(always)]
     pub fn push(&mut self, row: Row<T>) -> Result<(), Row<T>>
         requires newer { AllByRecursion (λ n. n < row.number) (map number_of self.old) }
         requires idle { AllByRecursion (λ side. is_flying side ≡ false) (sides row) }
@@ -125,6 +126,7 @@ impl<T: Token> Rows<T> {
     }
 
     /// The first side that waits.
+    #[inline(always)]
     pub fn find_idle(&mut self) -> Option<Idle>
         ensures found { FindsIdle self.old result }
         ensures same { self.new ≡ self.old }
@@ -143,6 +145,7 @@ impl<T: Token> Rows<T> {
     }
 
     /// The first identifier from the word upwards that no attempt has.
+    #[inline(always)]
     pub fn free_id(&self, word: u16) -> Option<u16>
         ensures { IsFree self.now word result }
     {
@@ -158,6 +161,7 @@ impl<T: Token> Rows<T> {
     }
 
     /// Begins an attempt of this side of the row at this index, which is given so long.
+    #[inline(always)]
     pub fn begin(
         &mut self,
         index: usize,
@@ -199,6 +203,7 @@ impl<T: Token> Rows<T> {
 
     /// The side whose attempt the message from this server over this link answers: one of the only request that has an
     /// attempt with the message's identifier.
+    #[inline(always)]
     pub fn find_landing(
         &self,
         alloc: Global,
@@ -325,6 +330,7 @@ impl<T: Token> Rows<T> {
     /// Ends the attempts of the row at this index that an entry concerns, which meant this and came with this reply or
     /// none, where a leg may spend so many attempts, and this is then the answer of its current candidate, if it has
     /// one.
+    #[inline(always)]
     pub fn end_row(
         &mut self,
         alloc: Global,

@@ -107,6 +107,7 @@ fn starts_with(starts: u64, begun: bool) -> u64
 }
 
 /// The first side that waits.
+#[inline(always)]
 pub fn find_idle<T: Token>(rows: &VecDeque<Held<T>>) -> Option<Idle>
     ensures { FindsIdle rows.now.items result }
 {
@@ -119,6 +120,7 @@ pub fn find_idle<T: Token>(rows: &VecDeque<Held<T>>) -> Option<Idle>
 }
 
 /// The first side of the row at this index that waits.
+#[inline(always)]
 pub fn idle_side<T: Token>(row: &Row<T>, index: usize) -> Option<Idle>
     ensures { FindsIdleSide index row.now result }
 {
@@ -132,6 +134,7 @@ pub fn idle_side<T: Token>(row: &Row<T>, index: usize) -> Option<Idle>
 }
 
 /// A side of the row at this index that waits.
+#[inline(always)]
 fn idle_of(side: &Side, index: usize, is_second: bool) -> Idle
     ensures { result ≡ idle_of index is_second side.now }
 {
@@ -230,6 +233,7 @@ fn address_of(list: &[ServerKey], key: u32) -> ServerAddr
 }
 
 /// The bytes of a query for a question, its letters in the case of these bits if there are some.
+#[inline(always)]
 fn message_for(
     alloc: Global,
     options: &Options,
@@ -262,6 +266,7 @@ fn message_for(
 }
 
 /// Begins an attempt of this side of the row at this index, which is given so long.
+#[inline(always)]
 pub fn begin<T: Token>(
     rows: &mut VecDeque<Held<T>>,
     index: usize,

@@ -33,6 +33,7 @@ impl<T: Token, J: ChannelJournal> Table<T, J> {
 }
 
 /// Takes the first item of a deque, which has some. It moves no other one.
+#[inline(always)]
 pub fn pop_first<X>(deque: &mut VecDeque<X>) -> X
     requires { 0 < deque_len deque.old }
     ensures items { deque.old.items ≡ result ∷ deque.new.items }
