@@ -21,6 +21,7 @@ use Rattle.event_runner.proofs.TrailLemmas.{goes_of, trail_none, trail_of, trail
 use Rattle.event_runner.specs.Goes.{AreMadeInTurns, is_made_in_turn}
 use Rattle.event_runner.specs.UnderWay.{RunsSince, rested}
 use Rattle.channel_session.specs.Advancing.{Advances, AreOfSession, ComesToRest, IsCutOff, LogGrows, is_of_session, taken_in}
+use Rattle.channel_session.specs.Beginning.{BegunSince}
 use Rattle.channel_session.specs.Sitting.{Moment, StandsBehind, longest_pause}
 
 -- what a turn made, a session made
@@ -151,6 +152,9 @@ rests_then m n a b c x y =
           let same : (turns + m) + n ≡ turns + (m + n) = omega arith in
           subst (λ k. RunsSince longest_pause k asides rested c.known c.sitting.running began c.log) same
           (y.rests began (turns + m) asides (x.stands began turns asides here));
+      begun = λ began turns asides here.
+          let same : (turns + m) + n ≡ turns + (m + n) = omega arith in
+          subst (λ k. BegunSince longest_pause k c.known began c.log) same (y.begun began (turns + m) asides (x.stands began turns asides here));
     }
 
 -- one part, and then want of memory, with more turns allowed

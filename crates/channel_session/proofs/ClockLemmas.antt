@@ -1,6 +1,6 @@
 -- A reading of the clock that is no turn's, where a run stands.
 use Rattle.std.proofs.Common.{◌≡◌, ◌∙◌, ℕ, ◌+◌, Bool, true, false, List, [], ◌∷◌, ◌++◌, length, refl, ap, sym, subst, arith}
-use Rattle.std.specs.Prelude.{Err, None, Ok, Option, Result, Some, is_none, flat_map}
+use Rattle.std.specs.Prelude.{Err, None, Ok, Option, Result, Some, is_none, flat_map, ⊤}
 use Rattle.std.proofs.lemmas.List.{append-nil, append_assoc, length-append, map-append}
 use Rattle.std.proofs.lemmas.List.Sums.{sum_by-append, sum_by-cons}
 use Rattle.item_list.specs.declared.no_memory.NoMemory.{NoMemory}
@@ -20,6 +20,7 @@ use Rattle.event_runner.proofs.UnderWayLemmas.{Facts}
 use Rattle.event_runner.specs.Running.{Running}
 use Rattle.event_runner.specs.State.{IsTurnOwner}
 use Rattle.event_runner.specs.UnderWay.{IsUnderWay, Reach, has_come, rested, turned}
+use Rattle.channel_session.proofs.BegunLemmas.{begun_on}
 use Rattle.channel_session.specs.Sitting.{IsCount, ReadsClock, Sitting, longest_pause, reach_of}
 
 -- the turn with one reading more behind it
@@ -139,5 +140,6 @@ reads_clock (Ok reading) sitting old new logs = (
         subst (λ ds. IsUnderWay longest_pause turns (asides + 1) (reach_of sitting.behind_turn) known sitting.running (cs ++ ds)) (sym is)
         (way_read turns asides known sitting.running cs reading sitting.behind_turn here.count owner (way owner)))
         began old new here.runs (told_by (λ calls. calls ≡ Now reading ∷ []) (Now reading ∷ []) refl old new logs);
+    begun = begun_on longest_pause turns known began old new (told_by (λ calls. ⊤) (Now reading ∷ []) tt old new logs) here.begun;
   },
 )

@@ -1,5 +1,9 @@
 pub mod AdvanceLemmas
+pub mod BegunLemmas
+pub mod AloneLemmas
 pub mod ClockLemmas
 pub mod LeftLemmas
 pub mod PartLemmas
+pub mod StandLemmas
 pub mod StepLemmas
+pub mod Theorems

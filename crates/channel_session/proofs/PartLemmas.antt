@@ -32,9 +32,11 @@ use Rattle.event_runner.specs.State.{IsTurnOwner}
 use Rattle.event_runner.specs.Turning.{IsCutShort, MakesTurn}
 use Rattle.event_runner.specs.UnderWay.{IsUnderWay, Reach, RunsSince, rested, turned}
 use Rattle.channel_session.specs.Advancing.{Advances, ComesToRest, IsCutOff, LogGrows, is_of_session}
+use Rattle.channel_session.specs.Beginning.{BegunSince}
 use Rattle.channel_session.specs.Left.{pending_of, ready_of}
 use Rattle.channel_session.specs.Sitting.{IsCount, Moment, Sitting, longest_pause, moment_of, reach_of}
 use Rattle.channel_session.specs.Stepping.{Rests, Turns, WaitsOnPending}
+use Rattle.channel_session.proofs.BegunLemmas.{begun_behind, begun_on, begun_turned}
 use Rattle.channel_session.proofs.AdvanceLemmas.{Moves, advances_none, as_many, grows_by, grows_none, grows_same, grows_then, moves_then, rest_moves, turns_are, turns_take}
 
 abbrev pub sitting_of : Running → Bool → ℕ → Sitting
@@ -67,6 +69,7 @@ advances_moved taken old new sitting log moved none = record {
     reading = here.reading;
     runs = runs_behind longest_pause turns asides began log (reach_of sitting.behind_turn) old new sitting.running moved.goes_on none
         (own_may sitting.behind_turn turns old.seat moved.goes_on.since here.count) here.runs;
+    begun = begun_behind longest_pause turns old new moved.goes_on began log here.begun;
   });
 }
 
@@ -143,6 +146,7 @@ rests_looked m a old new sitting after log same looked x =
           subst (λ running. RunsSince longest_pause (turns + m) asides rested new running began log) same
           (runs_behind longest_pause (turns + m) asides began log rested old new sitting.running looked.goes_on (ap has_no_turn (looked_own old new looked))
           (looked_stands (turns + m) rested old new looked) (x.rests began turns asides here));
+      begun = λ began turns asides here. begun_behind longest_pause (turns + m) old new looked.goes_on began log (x.begun began turns asides here);
     }
 
 -- one look and then another
@@ -183,6 +187,9 @@ turned_then answer from old new sitting after log log_new goes read some x =
             reading = sym read;
             runs = runs_turned longest_pause (turns + 0) asides began log old new sitting.running after log_new answer goes read
                 (runs_following longest_pause (turns + 0) asides began log old sitting.running some (x.rests began turns asides here));
+            begun = begun_turned longest_pause (turns + 0) asides old new sitting.running after began log log_new answer goes some
+                (runs_following longest_pause (turns + 0) asides began log old sitting.running some (x.rests began turns asides here))
+                (x.begun began turns asides here);
           });
     }
 
@@ -217,6 +224,7 @@ rests_at_once known sitting after log none same = subst (λ s. Rests (Ok Skipped
         let same : turns ≡ turns + 0 = omega arith in
         subst (λ k. RunsSince longest_pause k asides rested known sitting.running began log) same
         (subst (λ behind. RunsSince longest_pause turns asides (reach_of behind) known sitting.running began log) none stands.runs);
+    begun = λ began turns asides stands. let same : turns ≡ turns + 0 = omega arith in subst (λ k. BegunSince longest_pause k known began log) same stands.begun;
   },
   here,
   record { goes_on = here.goes_on; own = refl; names = refl },
@@ -245,6 +253,10 @@ module _ (old new : Known) (running after : Running) (read : ℕ) (broken : Bool
         let same : turns ≡ turns + 0 = omega arith in
         subst (λ k. RunsSince longest_pause k asides rested new after began log_new) same
         (runs_paused longest_pause turns asides began log old new running after broken log_new answer here.count pauses kept (runs_delivered longest_pause turns asides began log old running none here.runs));
+    begun = λ began turns asides here.
+        let same : turns ≡ turns + 0 = omega arith in
+        subst (λ k. BegunSince longest_pause k new began log_new) same
+        (begun_on longest_pause turns new began log log_new grows (begun_behind longest_pause turns old new moved.goes_on began log here.begun));
   }
 
   -- a pause that was skipped leaves the run right behind its turn
@@ -262,6 +274,7 @@ module _ (old new : Known) (running after : Running) (read : ℕ) (broken : Bool
           (told_as (λ calls. IsTurnOwner new → IsUnderWay longest_pause turns asides turned new running calls) (λ calls. IsTurnOwner new → IsUnderWay longest_pause turns asides turned new (record running { broken = broken }) calls)
           (λ calls way owner. way_broken longest_pause turns asides turned new running broken calls (way owner)) began log
           (runs_behind longest_pause turns asides began log turned old new running looked.goes_on (ap has_no_turn (looked_own old new looked)) (looked_stands turns turned old new looked) here.runs)));
+      begun = subst (λ l. BegunSince longest_pause turns new began l) (sym no_call) (begun_behind longest_pause turns old new looked.goes_on began log here.begun);
     });
   }
 

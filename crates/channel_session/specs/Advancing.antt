@@ -9,6 +9,7 @@ use Rattle.channel_model.specs.Course.{is_of_turn}
 use Rattle.channel_model.specs.Journal.{own_entries}
 use Rattle.channel_model.specs.Known.{GoesOn}
 use Rattle.event_runner.specs.UnderWay.{RanSince, RunsSince, rested}
+use Rattle.channel_session.specs.Beginning.{BegunSince}
 use Rattle.channel_session.specs.Sitting.{Moment, StandsBehind, longest_pause}
 
 -- a turn or a taking made the entry, and no callback commanded it
@@ -35,7 +36,7 @@ pub record Advances (made : ℕ) (taken : List ℕ) (old new : Moment) : Type 0 
   pub grows : LogGrows old.log new.log
   pub stands : (began : Option (List WorldCall)) (turns asides : ℕ) → StandsBehind turns asides began old → StandsBehind (turns + made) asides began new
 
--- the desk went on without taking any request, and a run that stood at the one moment made so many turns more, and then waited, or had no reason to: where it waited, only a turn carries it on, before any entry of the desk's
+-- the desk went on without taking any request, and a run that stood at the one moment made so many turns more, and then waited, or had no reason to: where it waited, only a turn carries it on, before any entry of the desk's; and the first turn, if there is one, began where a request was pending
 pub record ComesToRest (made : ℕ) (old new : Moment) : Type 0 where
   pub goes_on : GoesOn old.known new.known
   pub own : AreOfSession old.known.seat goes_on.since
@@ -43,6 +44,7 @@ pub record ComesToRest (made : ℕ) (old new : Moment) : Type 0 where
   pub grows : LogGrows old.log new.log
   pub rests : (began : Option (List WorldCall)) (turns asides : ℕ) → StandsBehind turns asides began old →
       RunsSince longest_pause (turns + made) asides rested new.known new.sitting.running began new.log
+  pub begun : (began : Option (List WorldCall)) (turns asides : ℕ) → StandsBehind turns asides began old → BegunSince longest_pause (turns + made) new.known began new.log
 
 -- the desk went on without taking any request, and journal and calls may have been cut short, at the latest in so many turns more
 pub record IsCutOff (most : ℕ) (old new : Moment) : Type 0 where

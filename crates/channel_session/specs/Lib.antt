@@ -1,4 +1,5 @@
 pub mod Advancing
+pub mod Beginning
 pub mod Left
 pub mod Progressing
 pub mod Sitting

@@ -6,6 +6,7 @@ use Rattle.net_world.specs.declared.log.WorldCall.TheVariants.{Now}
 use Rattle.channel_model.specs.Known.{Known}
 use Rattle.event_runner.specs.Running.{Running}
 use Rattle.event_runner.specs.UnderWay.{Reach, RunsSince, rested, turned}
+use Rattle.channel_session.specs.Beginning.{BegunSince}
 
 -- a session: its runner, whether a turn was made since it last waited, and the last turn's reading of the clock, 0 before the first
 pub record Sitting : Type 0 where
@@ -36,11 +37,12 @@ abbrev pub reach_of : Bool → Reach
 reach_of true = turned
 reach_of false = rested
 
--- the run that began with this log stands here right behind so many turns, or before the first: journal and calls are a course of them so far, with so many readings of the clock that are no turn's
+-- the run that began with this log stands here right behind so many turns, or before the first: journal and calls are a course of them so far, with so many readings of the clock that are no turn's; and the first turn, if there is one, began where a request was pending
 pub record StandsBehind (turns asides : ℕ) (began : Option (List WorldCall)) (moment : Moment) : Type 0 where
   pub count : IsCount moment.sitting.behind_turn turns
   pub reading : moment.sitting.reading ≡ moment.sitting.running.reading
   pub runs : RunsSince longest_pause turns asides (reach_of moment.sitting.behind_turn) moment.known moment.sitting.running began moment.log
+  pub begun : BegunSince longest_pause turns moment.known began moment.log
 
 -- the clock was read where the run stands, and that reading is no turn's; or memory was wanting, and it wasn't
 abbrev pub ReadsClock : Result ℕ NoMemory → Sitting → Option (List WorldCall) → Option (List WorldCall) → Type 0

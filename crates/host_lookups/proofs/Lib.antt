@@ -1,3 +1,6 @@
 mod AnswerLemmas
 mod ExtendLemmas
 mod ManyLemmas
+mod StallLemmas
+mod StandingLemmas
+mod GoingLemmas

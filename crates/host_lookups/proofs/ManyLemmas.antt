@@ -1,16 +1,19 @@
 -- The entries by which hosts are asked for, and what answers are behind them.
-use Rattle.std.proofs.Common.{ap, arith, get_or, length-append, subst, sym, take, ◌<◌, ◌∙◌}
-use Rattle.std.proofs.lemmas.List.{length-map, length-take-le, map-append, take_more}
+use Rattle.std.proofs.Common.{ap, arith, refl, get_or, length-append, subst, sym, take, ◌<◌, ◌∙◌}
+use Rattle.std.proofs.lemmas.List.{append-nil, length-map, length-take-le, map-append, take_more}
 use Rattle.std.specs.Prelude.{List, [], length, map, ℕ, ◌+◌, ◌++◌, ◌∷◌, ◌≡◌}
 use Rattle.chan_types.specs.Plans.{Plan}
 use Rattle.chan_types.specs.declared.answer.Answer.{Answer}
 use Rattle.chan_types.specs.declared.journal.Entry.{Entry}
 use Rattle.chan_types.specs.declared.journal.What.TheVariants.{Accept}
+use Rattle.channel_model.specs.Completion.{pending, ready, taken}
 use Rattle.channel_model.specs.Journal.{Past, accepted, followed_by, past_of}
-use Rattle.channel_table.specs.Calling.{Owned}
+use Rattle.channel_model.specs.Setting.{Setting}
+use Rattle.channel_session.specs.Left.{IsOver}
+use Rattle.channel_table.specs.Calling.{Owned, known_by_owner}
 use Rattle.host_lookups.specs.Answered.{addresses_of, asked}
 use Rattle.host_lookups.specs.Extending.{AreFates, Extends}
-use Rattle.host_lookups.specs.Many.{AreAnswered, asked_from, script_at}
+use Rattle.host_lookups.specs.Many.{AreAllAnswered, AreAnswered, asked_from, script_at}
 
 -- one host more, at the end
 asked_more : (index count : ℕ) (hosts : List (List ℕ)) (host : List ℕ) →
@@ -57,3 +60,29 @@ are_answered text names answers a b c one asks more fates =
       subst (λ at. AreFates at (asked_from 0 (length hosts) hosts ++ more.since) answers) one.setting
           (subst (λ journal. AreFates b.setting journal answers) (more.seen ∙ ap (λ es. es ++ more.since) first) fates),
     )
+
+-- and where nothing is pending or ready any more, they are all
+pub are_all_answered : {A : Type 0} (text : A → List ℕ) (names : List A) (answers : List Answer) (a b c : Owned) → Extends a b → b.seen ≡ asked_from 0 (length names) (map text names) → Extends b c →
+    AreFates b.setting c.seen answers → IsOver (known_by_owner c) → AreAllAnswered a.setting (map text names) answers
+are_all_answered text names answers a b c one asks more fates over =
+    let hosts : List (List ℕ) = map text names in
+    let journal : List Entry = asked_from 0 (length hosts) hosts ++ more.since in
+    let first : b.seen ≡ asked_from 0 (length hosts) hosts = asks ∙ ap (λ n. asked_from 0 n hosts) (sym (length-map names text)) in
+    let seen : c.seen ≡ journal = more.seen ∙ ap (λ es. es ++ more.since) first in
+    let set : c.setting ≡ a.setting = more.setting ∙ one.setting in
+    let still : (left : Setting → Past → List ℕ) → left c.setting (past_of c.seen) ≡ [] → left a.setting (past_of journal) ≡ [] =
+    λ left none. ap (λ es. left a.setting (past_of es)) (sym seen) ∙ ap (λ at. left at (past_of c.seen)) (sym set) ∙ none in (
+      more.since,
+      subst (λ at. AreFates at journal answers) one.setting (subst (λ es. AreFates b.setting es answers) seen fates),
+      still pending over.0,
+      still ready over.1,
+    )
+
+-- nothing was taken where hosts were asked for
+taken_asked : (index count : ℕ) (past : Past) (hosts : List (List ℕ)) → taken (followed_by past (asked_from index count hosts)) ≡ taken past
+taken_asked index count past [] = refl
+taken_asked index count past (host ∷ hosts) =
+    taken_asked (index + 1) count (Accept (index + 1) (addresses_of host) (script_at index count) ∷ past) hosts ∙ append-nil (taken past)
+
+pub none_taken : (count : ℕ) (hosts : List (List ℕ)) (journal : List Entry) → journal ≡ asked_from 0 count hosts → taken (past_of journal) ≡ []
+none_taken count hosts journal is = ap (λ es. taken (past_of es)) is ∙ taken_asked 0 count [] hosts

@@ -1,7 +1,7 @@
 //! Telling callbacks their answers, and performing what they command.
 
 ghost use Rattle.std.specs.Prelude.{◌≡◌, []};
-ghost use Rattle.host_lookups.specs.Extending.{Extends};
+ghost use Rattle.host_lookups.specs.Extending.{Extends, StandsStill, TakesNone};
 
 use chan_types::{Call, Command, Ticket};
 use channel_model::Desk;
@@ -17,6 +17,8 @@ pub fn deliver(
     requires idle { hand.old.commands ≡ [] }
     ensures told { result ≡ ticket.call }
     ensures extends { Extends channel.old channel.new }
+    ensures takes { TakesNone channel.old channel.new }
+    ensures stands { StandsStill channel.old channel.new }
     ensures idle { hand.new.commands ≡ [] }
 {
     let (callback, call) = ticket.spend();
@@ -31,7 +33,9 @@ pub fn deliver(
 
 /// Performs a command of a callback. What it asks has a callback with a script alone, which is told if it is refused.
 fn perform(channel: &mut Alone<Callback<Scripted>>, command: Command)
-    ensures { Extends channel.old channel.new }
+    ensures extends { Extends channel.old channel.new }
+    ensures takes { TakesNone channel.old channel.new }
+    ensures stands { StandsStill channel.old channel.new }
 {
     match command {
         Command::Ask(spec, script) => {

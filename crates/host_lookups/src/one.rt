@@ -1,7 +1,11 @@
 //! One host: one request of a channel, from its beginning to its answer.
 
-ghost use Rattle.std.specs.Prelude.{◌≡◌, ◌≤◌, IfOk, IfSome};
-ghost use Rattle.host_lookups.specs.Answered.{IsAnswered, IsUnused, addresses_of, setting_with};
+ghost use Rattle.std.specs.Prelude.{◌≡◌, ◌≤◌, ◌⊎◌, IfOk, IfSome, List, None, Option};
+ghost use Rattle.net_world.specs.Cause.{Rose};
+ghost use Rattle.net_world.specs.declared.log.WorldCall.{WorldCall};
+ghost use Rattle.channel_session.specs.Sitting.{StandsBehind, moment_of};
+ghost use Rattle.channel_table.specs.Calling.{known_by_owner};
+ghost use Rattle.host_lookups.specs.Answered.{IsAnswered, IsStalled, IsUnused, addresses_of, setting_with};
 
 use crate::request::request_for;
 use chan_types::{Answer, Quiet};
@@ -28,6 +32,8 @@ pub fn look_up<W: World>(
 ) -> Result<Option<Answer>, NoMemory>
     ensures answer { IfOk result (λ found. IfSome found
         (IsAnswered (setting_with options hosts) (addresses_of host.now))) }
+    ensures none { IfOk result (λ found. found ≡ None → Rose (W.wait_faults world.old) (W.wait_faults world.new)
+        ⊎ IsStalled (setting_with options hosts) (addresses_of host.now) TURNS (W.log world.old) (W.log world.new)) }
     ensures waits { W.wait_faults world.old ≤ W.wait_faults world.new }
     ensures origin { W.origin world.new ≡ W.origin world.old }
 {
@@ -48,6 +54,10 @@ fn ask<W: World>(
 ) -> Result<Option<Answer>, NoMemory>
     requires new { IsUnused channel.old }
     ensures answer { IfOk result (λ found. IfSome found (IsAnswered channel.old.setting (addresses_of host.now))) }
+    ensures none { IfOk result (λ found. found ≡ None → Rose (W.wait_faults world.old) (W.wait_faults world.new)
+        ⊎ ((began : Option (List WorldCall)) →
+        StandsBehind 0 0 began (moment_of (known_by_owner channel.old) session.old (W.log world.old))
+        → IsStalled channel.old.setting (addresses_of host.now) TURNS began (W.log world.new))) }
     ensures waits { W.wait_faults world.old ≤ W.wait_faults world.new }
     ensures origin { W.origin world.new ≡ W.origin world.old }
 {
@@ -58,6 +68,10 @@ fn ask<W: World>(
     }
     match session.next(channel, world, TURNS)? {
         Progress::Completed(ticket) => Ok(Some(ticket.answer().copy(alloc)?)),
-        _ => Ok(None),
+        Progress::WaitFault => Ok(None),
+        Progress::Stalled => Ok(None),
+        // It never comes to these: the request is pending until it completes, and nobody else uses the channel.
+        Progress::Over => Ok(None),
+        Progress::Disturbed => Ok(None),
     }
 }

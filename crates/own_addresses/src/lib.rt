@@ -8,6 +8,3 @@ mod machine;
 mod telling;
 
 pub use machine::own_addresses;
-
-#[cfg(test)]
-mod tests;

@@ -27,6 +27,8 @@ struct Sending {
 #[derive(Drop)]
 pub(crate) struct Asked {
     sendings: Vec<Sending>,
+    /// Behind the query that had a reply last: mostly the next reply is of the one there.
+    next: usize,
     /// How many queries have had no reply.
     unanswered: u64,
     /// It served more queries than have a place here, since no other socket could be opened: each identifier is open.
@@ -40,6 +42,7 @@ impl Asked {
     pub(crate) fn make(alloc: Global) -> Result<Asked, AllocError> {
         Ok(Asked {
             sendings: Vec::with_capacity(alloc, QUERIES_MOST)?,
+            next: 0,
             unanswered: 0,
             is_beyond: false,
             is_spent: false,
@@ -81,15 +84,20 @@ impl Asked {
         self.is_beyond || self.raise(id, REPLIES_MOST - 1)
     }
 
-    /// Counts a reply of a query with this identifier that has had at most so many, if there is one.
+    /// Counts a reply of a query with this identifier that has had at most so many, if there is one. The search begins
+    /// behind the last one that was found. Of queries with one identifier it doesn't matter which is found.
     fn raise(&mut self, id: u16, replies: u8) -> bool {
-        for sending in self.sendings.iter_mut() {
-            if sending.id == id && sending.replies <= replies {
-                sending.replies = sending.replies.saturating_add(1);
-                return true;
-            }
-        }
-        false
+        let from = self.next.min(self.sendings.len());
+        let (early, late) = self.sendings.as_mut_slice().split_at_mut(from);
+        let found = match raise_in(late, id, replies) {
+            Some(index) => from.saturating_add(index),
+            None => match raise_in(early, id, replies) {
+                Some(index) => index,
+                None => return false,
+            },
+        };
+        self.next = found.saturating_add(1);
+        true
     }
 
     /// Whether each query has had a reply.
@@ -115,4 +123,16 @@ impl Asked {
             || served >= QUERIES_MOST
             || served >= QUERIES_FEW && self.is_answered()
     }
+}
+
+/// Counts a reply of the first of these queries with this identifier that has had at most so many, and answers where it is.
+fn raise_in(sendings: &mut [Sending], id: u16, replies: u8) -> Option<usize> {
+    for index in 0..sendings.len() {
+        let sending = sendings[index];
+        if sending.id == id && sending.replies <= replies {
+            sendings[index].replies = sending.replies.saturating_add(1);
+            return Some(index);
+        }
+    }
+    None
 }

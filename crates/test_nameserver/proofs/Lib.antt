@@ -3,6 +3,7 @@ mod IndexLemmas
 mod LineLemmas
 mod LoadLemmas
 mod AnswerLemmas
+mod ReadLemmas
 mod ReplyLemmas
 mod HearingLemmas
 mod QuestionLemmas

@@ -4,6 +4,7 @@ pub mod Words
 pub mod Lines
 pub mod Load
 pub mod Query
+pub mod Reading
 pub mod Answers
 pub mod Reply
 pub mod Target

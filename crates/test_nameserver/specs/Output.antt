@@ -1,6 +1,9 @@
 -- What a run of the server's program puts.
-use Rattle.std.specs.Prelude.{◌≡◌, ◌≢◌, ℕ, ◌==◌, if◌then◌else◌, List, [], ◌∷◌, ◌++◌, codes, Option, option_map}
+use Rattle.std.specs.Prelude.{◌≡◌, ◌≢◌, ◌⊎◌, ℕ, ◌==◌, if◌then◌else◌, List, [], ◌∷◌, ◌++◌, codes, Option, option_map}
 use mathlib.Core.List.{IsPrefix}
+use Rattle.net_world.specs.declared.answers.PutEnd.{PutEnd}
+use Rattle.net_world.specs.declared.answers.PutEnd.TheVariants.{Done, Failed as NotPut}
+use Rattle.net_world.specs.declared.put_call.PutCall.{PutCall}
 use Rattle.test_nameserver.specs.Statuses.{status_usage, status_file_fault, status_sink_fault, status_out_of_memory, status_socket_fault, status_bad_zone}
 
 -- a line of the program's own
@@ -29,3 +32,20 @@ pub record IsOutputOf (HasCause : ℕ → Type 0) (status : ℕ) (old new : Opti
   pub whole : status ≢ status_sink_fault → status ≢ status_out_of_memory → GrowsBy old new (text_for status)
   pub part : (told : ℕ) × HasCause told × GrowsByPart old new (text_for told)
   pub memory : status ≡ status_out_of_memory → new ≡ old
+
+-- puts that are told go on with exactly one: of this text, which came to this end
+abbrev pub PutsOnce : List ℕ → PutEnd → Option (List PutCall) → Option (List PutCall) → Type 0
+PutsOnce text end old new = new ≡ option_map (λ calls. calls ++ record { text = text; end = end } ∷ []) old
+
+-- this text was put, in one put, and the exit status is this; or that one put failed, and it is 4; or memory was wanting, nothing was put, and it is 5
+abbrev pub PutsText : List ℕ → ℕ → ℕ → Option (List PutCall) → Option (List PutCall) → Type 0
+PutsText text wanted status old new =
+    ((status ≡ wanted) × PutsOnce text Done old new)
+    ⊎ ((status ≡ status_sink_fault) × PutsOnce text NotPut old new)
+    ⊎ ((status ≡ status_out_of_memory) × (new ≡ old))
+
+-- a run that came to this status put its text so; where it has none it put nothing, not even an empty text, and the exit status is that one
+abbrev pub PutsTextOf : ℕ → ℕ → Option (List PutCall) → Option (List PutCall) → Type 0
+PutsTextOf told status old new =
+    ((text_for told ≡ []) × (status ≡ told) × (new ≡ old))
+    ⊎ ((text_for told ≢ []) × PutsText (text_for told) told status old new)

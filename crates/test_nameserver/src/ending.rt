@@ -3,7 +3,7 @@
 ghost use Rattle.std.specs.Prelude.{◌≡◌, ◌≢◌, ◌⊎◌, [], IfSome, MatchOption};
 ghost use Rattle.net_world.specs.Cause.{Rose};
 ghost use Rattle.test_nameserver.specs.Ending.{number_of};
-ghost use Rattle.test_nameserver.specs.Output.{GrowsBy, GrowsByPart, text_for};
+ghost use Rattle.test_nameserver.specs.Output.{GrowsBy, GrowsByPart, PutsText, PutsTextOf, text_for};
 
 use item_list::NoMemory;
 use net_world::{PutEnd, Sink};
@@ -59,6 +59,7 @@ impl End {
     fn text(self) -> Option<&'static str>
         ensures text { MatchOption result (text_for (number_of self) ≡ [])
             (λ text. text.now ≡ text_for (number_of self)) }
+        ensures some { IfSome result (λ _. text_for (number_of self) ≢ []) }
         ensures memory { IfSome result (λ _. number_of self ≢ OUT_OF_MEMORY) }
     {
         match self {
@@ -80,6 +81,7 @@ impl End {
             (text_for (number_of self)) }
         ensures memory { result ≡ OUT_OF_MEMORY → K.bytes sink.new ≡ K.bytes sink.old }
         ensures sink_fault { result ≡ SINK_FAULT → Rose (K.faults sink.old) (K.faults sink.new) }
+        ensures puts { PutsTextOf (number_of self) result (K.puts sink.old) (K.puts sink.new) }
     {
         match self.text() {
             Some(text) => put(sink, text.as_bytes(), self.number()),
@@ -98,6 +100,7 @@ fn put<K: Sink>(sink: &mut K, text: &[u8], status: u8) -> u8
         → (status ≡ OUT_OF_MEMORY) ⊎ (K.bytes sink.new ≡ K.bytes sink.old) }
     ensures sink_fault { result ≡ SINK_FAULT
         → (status ≡ SINK_FAULT) ⊎ Rose (K.faults sink.old) (K.faults sink.new) }
+    ensures puts { PutsText text.now status result (K.puts sink.old) (K.puts sink.new) }
 {
     match sink.put(text) {
         Ok(PutEnd::Done) => status,

@@ -1,11 +1,12 @@
 //! The whole run of the server's program.
 
-ghost use Rattle.std.specs.Prelude.{◌≡◌, map};
+ghost use Rattle.std.specs.Prelude.{◌≡◌, map, ℕ};
 ghost use Rattle.test_nameserver.specs.Ending.{number_of};
 ghost use Rattle.test_nameserver.specs.Headline.{HasExitCause, Refuses};
 ghost use Rattle.test_nameserver.specs.Lines.{zone_of};
 ghost use Rattle.test_nameserver.specs.Order.{AreRefused, ForWords, order_seen};
-ghost use Rattle.test_nameserver.specs.Output.{IsOutputOf};
+ghost use Rattle.test_nameserver.specs.Output.{IsOutputOf, PutsTextOf};
+ghost use Rattle.test_nameserver.specs.Reading.{ReadsOnce, ReadsZoneFile};
 ghost use Rattle.test_nameserver.specs.Service.{GoesOnWith, IsServiceOf};
 ghost use Rattle.test_nameserver.specs.Turns.{HasCauseOf, Opens, ReadsText};
 
@@ -34,7 +35,7 @@ pub fn run<F: Files, K: Sink, L: Listener>(
     ensures refused { AreRefused (map (λ word. word.now) words.now)
         → Refuses result files.old files.new listener.old listener.new (K.bytes sink.old) (K.bytes sink.new) }
 
-    // The exit status has its cause, and the output is that of the status; files stay as they are.
+    // The exit status has its cause, and the output is that of the status, put at once; files stay as they are.
     ensures status { HasExitCause (map (λ word. word.now) words.now) result (F.files files.old)
         (F.faults files.old) (F.faults files.new) (K.faults sink.old) (K.faults sink.new)
         (L.faults listener.old) (L.faults listener.new) }
@@ -42,6 +43,14 @@ pub fn run<F: Files, K: Sink, L: Listener>(
         (F.files files.old) (F.faults files.old) (F.faults files.new) (K.faults sink.old)
         (K.faults sink.new) (L.faults listener.old) (L.faults listener.new)) result (K.bytes sink.old)
         (K.bytes sink.new) }
+    ensures puts { (told : ℕ) × HasExitCause (map (λ word. word.now) words.now) told (F.files files.old)
+        (F.faults files.old) (F.faults files.new) (K.faults sink.old) (K.faults sink.new)
+        (L.faults listener.old) (L.faults listener.new)
+        × PutsTextOf told result (K.puts sink.old) (K.puts sink.new) }
+
+    // The zone's file is read once, and no other one.
+    ensures reads { ForWords (map (λ word. word.now) words.now)
+        (λ order. ReadsOnce order.path result (F.reads files.old) (F.reads files.new)) }
     ensures files { F.files files.new ≡ F.files files.old }
 
     // Where the listener tells its log, this run listened, took messages and answered them, and nothing else.
@@ -64,6 +73,7 @@ fn carry_out<F: Files, L: Listener>(
 ) -> End
     ensures cause { HasCauseOf (order_seen order.now) result (F.files files.old)
         (F.faults files.old) (F.faults files.new) (L.faults listener.old) (L.faults listener.new) }
+    ensures reads { ReadsOnce order.now.path.now (number_of result) (F.reads files.old) (F.reads files.new) }
     ensures files { F.files files.new ≡ F.files files.old }
     ensures service { GoesOnWith (IsServiceOf (F.files files.old) (order_seen order.now) (number_of result))
         (L.log listener.old) (L.log listener.new) }
@@ -77,6 +87,7 @@ fn carry_out<F: Files, L: Listener>(
 /// The zone of the file of this path, or how the run ends without one.
 fn open_zone<F: Files>(alloc: Global, path: &str, files: &mut F) -> Result<Zone, End>
     ensures opens { Opens (F.files files.old) path.now (F.faults files.old) (F.faults files.new) result }
+    ensures reads { ReadsZoneFile path.now result (F.reads files.old) (F.reads files.new) }
     ensures files { F.files files.new ≡ F.files files.old }
 {
     match files.read(path, ZONE_MOST) {
