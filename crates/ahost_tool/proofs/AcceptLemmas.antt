@@ -25,7 +25,7 @@ use Rattle.channel_model.specs.declared.answers.Refused.{Refused}
 use Rattle.channel_table.specs.Calling.{Owned, known_by_owner}
 use Rattle.completion_ticket.specs.States.{CallbackState, token_name}
 use Rattle.ahost_tool.specs.Asked.{askings}
-use Rattle.ahost_tool.specs.Delivering.{plan_of}
+use Rattle.ticket_delivery.specs.Performing.{plan_of}
 use Rattle.ahost_tool.specs.Places.{PlacesState}
 use Rattle.ahost_tool.specs.Returning.{AsksWith, GivesBack, body_name}
 use Rattle.ahost_tool.specs.Session.{AcceptsAll, is_asking}

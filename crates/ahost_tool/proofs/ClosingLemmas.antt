@@ -1,13 +1,13 @@
 -- The closing of a channel: its Destroy, unless a callback has destroyed it, and the deliveries behind that.
 use Rattle.std.proofs.Common.{◌≡◌, ◌∙◌, ◌+◌, ◌||◌, Bool, true, false, not, cond, List, [], ◌∷◌, ◌++◌, refl, sym, ap, subst, inl, inr, arith}
-use Rattle.std.specs.Prelude.{None, Some, count_by, filter, is_none, ◌⊎◌}
+use Rattle.std.specs.Prelude.{Some, count_by, ◌⊎◌}
 use Rattle.std.proofs.lemmas.List.{append-nil}
 use Rattle.std.proofs.lemmas.List.Sums.{sum_by-cons}
 use Rattle.chan_types.specs.declared.journal.Entry.{Entry}
 use Rattle.chan_types.specs.declared.journal.What.{What}
 use Rattle.chan_types.specs.declared.journal.What.TheVariants.{Accept, Arrive, Cancel, Destroy, Expire, Fault, Servers, Start, Take}
-use Rattle.channel_model.specs.Completion.{completed_by, pending, ready}
-use Rattle.channel_model.specs.Journal.{Past, accepted_by, followed_by, is_destroy, is_destroyed, past_of}
+use Rattle.channel_model.specs.Completion.{ready}
+use Rattle.channel_model.specs.Journal.{Past, followed_by, is_destroy, is_destroyed, past_of}
 use Rattle.channel_model.specs.Known.{Calls}
 use Rattle.channel_model.specs.Lawful.{IsAllowed, IsLawful, IsLawfulPast}
 use Rattle.channel_model.specs.Meanings.{Destroys}
@@ -15,13 +15,13 @@ use Rattle.channel_model.specs.Names.{NamesBecome}
 use Rattle.event_runner.proofs.PauseLemmas.{names_same}
 use Rattle.channel_model.specs.Seen.{entries_of}
 use Rattle.channel_model.specs.Setting.{Setting}
-use Rattle.channel_model.proofs.Theorems.{followed_by-append, past_of-push, pending-behind}
+use Rattle.channel_model.proofs.Theorems.{followed_by-append, past_of-push}
 use Rattle.channel_table.specs.Calling.{Owned, known_by_owner}
-use Rattle.owner_laws.proofs.Destroyed.{pending_destroyed}
+use Rattle.ticket_delivery.proofs.Theorems.{destroyed_later, destroyed_pending}
 use Rattle.ahost_tool.specs.Closing.{Closes}
 use Rattle.ahost_tool.specs.Delivering.{DeliversAll, IsIdle}
 use Rattle.ahost_tool.specs.declared.caller.Caller.{Caller}
-use Rattle.ahost_tool.proofs.ListLemmas.{denies, or_right}
+use Rattle.ahost_tool.proofs.ListLemmas.{denies}
 use Rattle.ahost_tool.proofs.MoveLemmas.{quiet_all}
 use Rattle.owner_laws.proofs.Owner.{owned_same, owner_called}
 
@@ -29,29 +29,7 @@ use Rattle.owner_laws.proofs.Owner.{owned_same, owner_called}
 abbrev pub closing : Entry
 closing = record { seat = 0; by = 0; what = Destroy }
 
--- an entry that accepts nothing leaves nothing pending where nothing was
-stays : (setting : Setting) (what : What) (past : Past) → accepted_by what ≡ None → pending setting past ≡ [] → pending setting (what ∷ past) ≡ []
-stays setting what past none empty = pending-behind setting what past none ∙ ap (filter (λ number. is_none (completed_by setting number what past))) empty
-
--- nothing is pending in a channel that is destroyed
-pub destroyed_pending : (setting : Setting) (past : Past) → IsLawfulPast setting past → is_destroyed past ≡ true → pending setting past ≡ []
-destroyed_pending setting [] lawful is = refl
-destroyed_pending setting (Accept number spec script ∷ past) lawful is = absurd (let h : true ≡ false = sym is ∙ lawful.0.0 in cc)
-destroyed_pending setting (Destroy ∷ past) lawful is = pending_destroyed setting past
-destroyed_pending setting (Cancel ∷ past) lawful is = stays setting Cancel past refl (destroyed_pending setting past lawful.1 is)
-destroyed_pending setting (Take number ∷ past) lawful is = stays setting (Take number) past refl (destroyed_pending setting past lawful.1 is)
-destroyed_pending setting (Start number leg server link id mix moment ∷ past) lawful is = stays setting (Start number leg server link id mix moment) past refl (destroyed_pending setting past lawful.1 is)
-destroyed_pending setting (Arrive server link bytes ∷ past) lawful is = stays setting (Arrive server link bytes) past refl (destroyed_pending setting past lawful.1 is)
-destroyed_pending setting (Expire number leg moment ∷ past) lawful is = stays setting (Expire number leg moment) past refl (destroyed_pending setting past lawful.1 is)
-destroyed_pending setting (Fault server link moment ∷ past) lawful is = stays setting (Fault server link moment) past refl (destroyed_pending setting past lawful.1 is)
-destroyed_pending setting (Servers list ∷ past) lawful is = stays setting (Servers list) past refl (destroyed_pending setting past lawful.1 is)
-
--- a Destroy that stands in the past stays there
-pub destroyed_stays : (past : Past) (es : List Entry) → is_destroyed past ≡ true → is_destroyed (followed_by past es) ≡ true
-destroyed_stays past [] h = h
-destroyed_stays past (e ∷ es) h = destroyed_stays (e.what ∷ past) es (or_right (is_destroy e.what) (is_destroyed past) h)
-
--- there is at most one
+-- there is at most one Destroy
 pub destroyed_once : (setting : Setting) (past : Past) → IsLawfulPast setting past → count_by is_destroy past ≡ cond (is_destroyed past) 1 0
 destroyed_once setting [] lawful = refl
 destroyed_once setting (what ∷ past) lawful = by what lawful.0 (sum_by-cons (λ w. cond (is_destroy w) 1 0) what past) (destroyed_once setting past lawful.1)
@@ -122,6 +100,6 @@ closes is_first a d b idle voiced delivers none =
       destroyed = d;
       destroys = call;
       delivered = delivers;
-      none_pending = destroyed_pending b.alone.setting (past_of b.alone.seen) lawful.allowed (ap is_destroyed past_is ∙ destroyed_stays (past_of d.seen) q.0.since (destroy_destroys is_first a.alone d call));
+      none_pending = destroyed_pending b.alone.setting (past_of b.alone.seen) lawful.allowed (ap is_destroyed past_is ∙ destroyed_later (past_of d.seen) q.0.since (destroy_destroys is_first a.alone d call));
       none_ready = none;
     }

@@ -12,18 +12,15 @@ use Rattle.chan_types.specs.Plans.{Plan}
 use Rattle.chan_types.specs.declared.answer.Answer.{Answer}
 use Rattle.chan_types.specs.declared.command.Command.{Command}
 use Rattle.chan_types.specs.declared.journal.Entry.{Entry}
-use Rattle.chan_types.specs.declared.journal.What.{What}
-use Rattle.chan_types.specs.declared.journal.What.TheVariants.{Accept, Arrive, Cancel, Destroy, Expire, Fault, Servers, Start, Take}
+use Rattle.chan_types.specs.declared.journal.What.TheVariants.{Take}
 use Rattle.chan_types.specs.declared.orders.Orders.{Orders}
 use Rattle.channel_model.specs.Commands.{AllBecame, ArePerformed, IsPerformed, ObeysOrders, Outcome, Performance, commands_for, is_before_next, is_lost, is_one_of, is_other_work, is_own_take, left, lost, passed, position_behind, position_of, positions_from, positions_left}
 use Rattle.channel_model.specs.Completion.{occurrences, taken, taken_by}
 use Rattle.channel_model.specs.Journal.{Past, followed_by, past_of}
 use Rattle.channel_model.specs.Setting.{Setting}
-use Rattle.channel_table.specs.Commanded.{IsOfCommand}
-use Rattle.ahost_tool.specs.Performing.{IsCommanded}
-use Rattle.ahost_tool.proofs.ListLemmas.{all_pass, all_positions, any_front, any_last, apart_by, each_differs, each_of, each_passes, no_positions, or_other, or_right, positions-append, positions_below}
+use Rattle.ticket_delivery.proofs.Theorems.{IsCommanded, behind_end, command_takes, earlier, positions-append}
+use Rattle.ahost_tool.proofs.ListLemmas.{all_pass, all_positions, any_front, any_last, apart_by, each_differs, each_of, each_passes, no_positions, or_other, or_right, positions_below}
 use Rattle.ahost_tool.proofs.ObeyLemmas.{IsDone, are_performed_longer, before_none, commands_of_done, done_later, past_on, spares, takes_it}
-use Rattle.ahost_tool.proofs.PerformLemmas.{behind_end, earlier}
 
 -- the entry by which a request is taken
 abbrev pub take_entry : ℕ → Entry
@@ -31,19 +28,7 @@ take_entry number = record { seat = 0; by = 0; what = Take number }
 
 -- ---- what is commanded
 
--- what a command leaves takes nothing
-pub command_takes : (what : What) → IsOfCommand what → taken_by what ≡ None
-command_takes (Accept number spec script) of_command = refl
-command_takes Cancel of_command = refl
-command_takes Destroy of_command = refl
-command_takes (Take number) of_command = absurd of_command
-command_takes (Start number leg server link id mix moment) of_command = absurd of_command
-command_takes (Arrive server link bytes) of_command = absurd of_command
-command_takes (Expire number leg moment) of_command = absurd of_command
-command_takes (Fault server link moment) of_command = absurd of_command
-command_takes (Servers list) of_command = absurd of_command
-
--- so it takes none of the requests
+-- what takes nothing takes none of the requests
 untakes : (request : ℕ) (e : Entry) → taken_by e.what ≡ None → not (takes_it request e) ≡ true
 untakes request e none = ap (λ found. not (option_map_or (λ number. number == request) found false)) none
 

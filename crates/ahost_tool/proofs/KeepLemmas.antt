@@ -13,7 +13,6 @@ use Rattle.chan_types.specs.declared.journal.What.TheVariants.{Destroy, Take}
 use Rattle.chan_types.specs.declared.refusal.Refusal.{Refusal}
 use Rattle.chan_types.specs.declared.ticket.Ticket.{Ticket}
 use Rattle.channel_model.proofs.Theorems.{occurrences-append}
-use Rattle.channel_model.specs.Commands.{accepted_for}
 use Rattle.channel_model.specs.Completion.{occurrences, taken, taken_by}
 use Rattle.channel_model.specs.Journal.{past_of}
 use Rattle.channel_model.specs.Known.{Calls, GoesOn}
@@ -21,26 +20,27 @@ use Rattle.channel_model.specs.Lawful.{IsLawful}
 use Rattle.channel_model.specs.Meanings.{Destroys, Takes}
 use Rattle.channel_model.specs.Names.{Names, NamesBecome, NamesStay}
 use Rattle.channel_table.specs.Calling.{Owned, known_by_owner}
-use Rattle.completion_ticket.specs.States.{CallbackState, CalledState, called_with, token_name}
+use Rattle.completion_ticket.specs.States.{CallbackState, CalledState, token_name}
 use Rattle.event_runner.specs.Goes.{AreMadeInTurns}
 use Rattle.ahost_tool.specs.Closing.{Closes}
-use Rattle.ahost_tool.specs.Delivering.{DeliversOne, DeliversSome, IsIdle, Spends, plan_of}
+use Rattle.ahost_tool.specs.Delivering.{DeliversOne, DeliversSome, IsIdle, Spends}
 use Rattle.ahost_tool.specs.Kinds.{is_ruled}
-use Rattle.ahost_tool.specs.Performing.{IsCommanded}
 use Rattle.ahost_tool.specs.Places.{PlacesState}
-use Rattle.ahost_tool.specs.Returning.{ArePlaced, ArePlacedFrom, AreBack, AreUnasked, HaveAsked, IsLeftOf, KeepsPlaces, PutsBack, numbers_asked}
+use Rattle.ahost_tool.specs.Returning.{ArePlacedFrom, AreBack, AreUnasked, HaveAsked, IsLeftOf, KeepsPlaces, PutsBack, numbers_asked}
 use Rattle.ahost_tool.specs.Session.{CountsPending, HasObeyed, IsKept, SetsLater, servers_entry}
 use Rattle.ahost_tool.specs.declared.caller.Caller.{Caller}
 use Rattle.ahost_tool.proofs.ClosingLemmas.{closes_lawful, destroy_is}
-use Rattle.ahost_tool.proofs.DeliveryLemmas.{command_takes, commanded_taken, take_entry}
+use Rattle.ahost_tool.proofs.DeliveryLemmas.{commanded_taken, take_entry}
 use Rattle.ahost_tool.proofs.KeptLemmas.{kept_more}
 use Rattle.ahost_tool.proofs.ListLemmas.{all_pass, apart_by, each_passes}
-use Rattle.ahost_tool.proofs.MoveLemmas.{Moves, commanded_asks, moves_idle, moves_kept, moves_trans, moves_turn, one_lawful, one_names, one_numbered, one_seen, one_untaken, quiet_some, same_none, turn_plain}
+use Rattle.ahost_tool.proofs.MoveLemmas.{Moves, commanded_asks, moves_kept, moves_trans, moves_turn, one_commanded, one_lawful, one_names, one_numbered, one_seen, one_untaken, quiet_some, same_none, turn_plain}
 use Rattle.ahost_tool.proofs.ObeyLemmas.{is_plain, past_on, takes_it}
 use Rattle.ahost_tool.proofs.PlaceLemmas.{all_back, numbers_none, numbers_parts, placed_more, places_put, still_accepted, still_named}
 use Rattle.ahost_tool.proofs.PromiseLemmas.{Ends, ends_are, ends_asked, ends_of}
 use Rattle.ahost_tool.proofs.ThenLemmas.{moves_set}
 use Rattle.owner_laws.proofs.Owner.{owner_called}
+use Rattle.ticket_delivery.proofs.Theorems.{IsCommanded, command_takes}
+use Rattle.ticket_delivery.specs.Performing.{plan_of}
 
 -- plain entries take nothing
 plain_untaken : (es : List Entry) → list_all is_plain es ≡ true → list_all (λ e. not (is_some (taken_by e.what))) es ≡ true
@@ -99,25 +99,26 @@ module _ {B : Type 0} (name : B → ℕ) (told : B → Option ℕ) where
         let s : Spends ticket called (record a { alone = took }) b = d.4 in
         let number : ℕ = ticket.call.number in
         let since : List Entry = take_entry number ∷ s.performed.since in
+        let commanded : AllByRecursion (IsCommanded number) s.performed.since = one_commanded called a b idle ticket took call s in
         let seen : b.alone.seen ≡ a.alone.seen ++ since = one_seen called a b idle ticket took call s in
         let names : NamesStay since (Some a.alone.names) (Some b.alone.names) = one_names called a b idle ticket took call s in
         let lawful : IsLawful b.alone.setting b.alone.seen = one_lawful called a b idle ticket took call s in
         let numbered : number ≢ 0 = one_numbered called a b idle ticket took call s in
         let taken_is : taken (past_of b.alone.seen) ≡ taken (past_of a.alone.seen) ++ number ∷ [] =
-        ap taken (ap past_of seen ∙ past_on a.alone.seen since) ∙ commanded_taken number (Take number ∷ past_of a.alone.seen) s.performed.since s.performed.commanded in
+        ap taken (ap past_of seen ∙ past_on a.alone.seen since) ∙ commanded_taken number (Take number ∷ past_of a.alone.seen) s.performed.since commanded in
         let some : 1 ≤ called.number = omega (arith, some_number number numbered, ap (λ (c : CalledState). c.number) s.is_called) in
         let back_is : places.back ≡ slice_set a.places.back (number - 1) puts.left =
         puts.back some ∙ ap (λ (c : CalledState). slice_set b.places.back (c.number - 1) puts.left) s.is_called ∙ ap (λ (p : PlacesState B). slice_set p.back (number - 1) puts.left) s.places in
         record {
           numbered = ap numbers_asked seen ∙ numbers_parts a.alone.seen since
-              ∙ ap (λ ns. numbers_asked a.alone.seen ++ ns) (numbers_none since (commanded_asks number numbered s.performed.since s.performed.commanded)) ∙ append-nil (numbers_asked a.alone.seen) ∙ are.numbered;
+              ∙ ap (λ ns. numbers_asked a.alone.seen ++ ns) (numbers_none since (commanded_asks number numbered s.performed.since commanded)) ∙ append-nil (numbers_asked a.alone.seen) ∙ are.numbered;
           few = omega (arith, are.few, still_accepted a.alone b.alone since seen names b.alone.setting lawful);
           placed = subst (ArePlacedFrom name told b.alone.names (taken (past_of b.alone.seen)) 1 bodies) (sym back_is)
               (places_put name told a.alone.names b.alone.names (taken (past_of a.alone.seen)) (taken (past_of b.alone.seen)) number (length bodies) ticket.token puts.left named
               (subst (λ c. IsLeftOf name told c puts.left) s.is_called puts.is_left) (one_untaken called a b idle ticket took call s)
               (omega (arith, ap (occurrences number) taken_is, occurrences-append number (taken (past_of a.alone.seen)) (number ∷ []), itself number))
               (λ other differs high. (
-                still_named a.alone b.alone since seen names b.alone.setting lawful other (omega (arith, high, are.few)) (others_untaken number other (λ same. differs (sym same)) s.performed.since s.performed.commanded),
+                still_named a.alone b.alone since seen names b.alone.setting lawful other (omega (arith, high, are.few)) (others_untaken number other (λ same. differs (sym same)) s.performed.since commanded),
                 ap (occurrences other) taken_is ∙ occurrences-append other (taken (past_of a.alone.seen)) (number ∷ []) ∙ none_more other number (λ same. differs (sym same)) (taken (past_of a.alone.seen)),
               ))
               1 (number - 1) bodies a.places.back (omega (arith, some_number number numbered)) (omega arith) are.placed);

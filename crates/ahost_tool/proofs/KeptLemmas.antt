@@ -17,11 +17,11 @@ use Rattle.channel_model.specs.Journal.{is_destroy, past_of, script_of}
 use Rattle.channel_model.specs.Lawful.{IsLawful}
 use Rattle.channel_model.specs.Setting.{Setting}
 use Rattle.ahost_tool.specs.Kinds.{is_cancel, is_of_session, is_ruled}
-use Rattle.ahost_tool.specs.Performing.{IsCommanded}
+use Rattle.ticket_delivery.proofs.Theorems.{IsCommanded, fate_behind}
 use Rattle.ahost_tool.specs.Session.{HasObeyed}
 use Rattle.ahost_tool.proofs.DeliveryLemmas.{commanded_taken, obeyed_one, take_entry}
 use Rattle.ahost_tool.proofs.ListLemmas.{all_pass, each_of, each_passes}
-use Rattle.ahost_tool.proofs.ObeyLemmas.{IsDone, done_of, fate_later, is_plain, obeyed_more, past_on, plain_taken}
+use Rattle.ahost_tool.proofs.ObeyLemmas.{IsDone, done_of, is_plain, obeyed_more, past_on, plain_taken}
 
 -- what a request's callback commanded is a session's
 pub commanded_of_session : (request : ℕ) → request ≢ 0 → (e : Entry) → IsCommanded request e → is_of_session e ≡ true
@@ -36,7 +36,7 @@ pub fates_on : (setting : Setting) (journal es : List Entry) (calls : List Answe
     AllByRecursion (λ answer. fate setting answer.number (past_of (journal ++ es)) ≡ Some answer) calls
 fates_on setting journal es [] fates = tt
 fates_on setting journal es (a ∷ calls) fates =
-    (ap (fate setting a.number) (past_on journal es) ∙ fate_later setting a.number (past_of journal) es a fates.0, fates_on setting journal es calls fates.1)
+    (ap (fate setting a.number) (past_on journal es) ∙ fate_behind setting a.number (past_of journal) es a fates.0, fates_on setting journal es calls fates.1)
 
 -- each request whose callback was called is done
 dones_called : (setting : Setting) (journal : List Entry) → IsLawful setting journal → (calls : List Answer) → AllByRecursion (λ answer. fate setting answer.number (past_of journal) ≡ Some answer) calls →
@@ -85,7 +85,7 @@ module _ (setting : Setting) (journal : List Entry) (orders : Orders) (calls : L
             ∙ sym (ap taken (past_on journal (take_entry request ∷ since)) ∙ commanded_taken request (What.Take request ∷ past_of journal) since commanded);
         fates = each_of (λ a. fate setting a.number (past_of (journal ++ take_entry request ∷ since)) ≡ Some a) calls (answer ∷ [])
             (fates_on setting journal (take_entry request ∷ since) calls k.fates)
-            (ap (fate setting request) (past_on journal (take_entry request ∷ since)) ∙ fate_later setting request (past_of journal) (take_entry request ∷ since) answer fated, tt);
+            (ap (fate setting request) (past_on journal (take_entry request ∷ since)) ∙ fate_behind setting request (past_of journal) (take_entry request ∷ since) answer fated, tt);
       }
     where
       -- a count that stops at a limit

@@ -1,6 +1,4 @@
 pub mod ListLemmas
-pub mod PerformLemmas
-pub mod WeightLemmas
 pub mod ObeyLemmas
 pub mod DeliveryLemmas
 pub mod KeptLemmas

@@ -131,17 +131,6 @@ each_differs n (x ∷ xs) none = by (x == n) refl none (each_differs n xs)
 
 -- ---- positions
 
-pub positions-append : (test : Entry → Bool) (from : ℕ) (xs ys : List Entry) → positions_from test from (xs ++ ys) ≡ positions_from test from xs ++ positions_from test (from + length xs) ys
-positions-append test from [] ys = ap (λ n. positions_from test n ys) (omega arith)
-positions-append test from (x ∷ xs) ys =
-    let at : positions_from test ((from + 1) + length xs) ys ≡ positions_from test (from + length (x ∷ xs)) ys = ap (λ n. positions_from test n ys) (omega arith) in
-    by (test x) (positions-append test (from + 1) xs ys ∙ ap (λ l. positions_from test (from + 1) xs ++ l) at)
-  where
-    by : (b : Bool) → positions_from test (from + 1) (xs ++ ys) ≡ positions_from test (from + 1) xs ++ positions_from test (from + length (x ∷ xs)) ys →
-        cond b (from ∷ []) [] ++ positions_from test (from + 1) (xs ++ ys) ≡ (cond b (from ∷ []) [] ++ positions_from test (from + 1) xs) ++ positions_from test (from + length (x ∷ xs)) ys
-    by true rest = ap (λ l. from ∷ l) rest
-    by false rest = rest
-
 -- no entry passes
 pub no_positions : (test : Entry → Bool) (from : ℕ) (xs : List Entry) → list_all (λ e. not (test e)) xs ≡ true → positions_from test from xs ≡ []
 no_positions test from [] none = refl

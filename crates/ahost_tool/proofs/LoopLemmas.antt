@@ -1,5 +1,5 @@
 -- Turns of a session with what stands between them, one behind the other, and how they come to their end.
-use Rattle.std.proofs.Common.{◌≡◌, ◌≢◌, ◌∙◌, ℕ, ◌+◌, ◌-◌, ◌≤◌, List, [], ◌∷◌, ◌++◌, Bool, true, false, length, refl, ap, sym, subst, inl, inr, ⊎_elim, arith}
+use Rattle.std.proofs.Common.{◌≡◌, ◌≢◌, ◌∙◌, ℕ, ◌+◌, ◌-◌, ◌≤◌, List, [], ◌∷◌, Bool, true, false, length, refl, ap, sym, subst, inl, inr, ⊎_elim, arith}
 use Rattle.std.specs.Prelude.{Err, Ok, None, Option, Some, Result, is_err, min, ◌^◌, ◌⊎◌, ⊤}
 use Rattle.std.proofs.lemmas.Bool.{and_from}
 use Rattle.std.proofs.lemmas.List.Folds.{list_all-append}
@@ -10,7 +10,7 @@ use Rattle.net_world.specs.declared.answers.Waited.TheVariants.{Failed as NotWai
 use Rattle.net_world.specs.declared.log.WorldCall.{WorldCall}
 use Rattle.channel_model.proofs.Theorems.{so_far_reads}
 use Rattle.channel_model.specs.Completion.{pending, ready}
-use Rattle.channel_model.specs.Course.{IsCourse, has_no_turn}
+use Rattle.channel_model.specs.Course.{has_no_turn}
 use Rattle.channel_model.specs.Endings.{IsStalledBehind}
 use Rattle.channel_model.specs.Journal.{followed_by, past_of}
 use Rattle.channel_progress.specs.Prompted.{unprompted_in}

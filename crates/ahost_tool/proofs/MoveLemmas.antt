@@ -7,6 +7,7 @@ use Rattle.std.proofs.lemmas.List.Folds.{list_all-append}
 use Rattle.std.specs.List.{AllByRecursion, cons_option, list_all}
 use Rattle.std.specs.Prelude.{option_map}
 use Rattle.chan_types.specs.Gives.{gives}
+use Rattle.chan_types.specs.declared.command.Command.{Command}
 use Rattle.chan_types.specs.declared.journal.Entry.{Entry}
 use Rattle.chan_types.specs.declared.journal.What.{What}
 use Rattle.chan_types.specs.declared.journal.What.TheVariants.{Accept, Arrive, Cancel, Destroy, Expire, Fault, Servers, Start, Take}
@@ -26,20 +27,20 @@ use Rattle.channel_table.specs.Calling.{Owned, known_by_owner}
 use Rattle.completion_ticket.specs.States.{CallbackState, CalledState}
 use Rattle.event_runner.proofs.PauseLemmas.{names_same}
 use Rattle.event_runner.specs.Goes.{AreMadeInTurns, is_made_in_turn}
-use Rattle.ahost_tool.specs.Delivering.{DeliversAll, DeliversOne, DeliversSome, IsIdle, Spends, plan_of}
+use Rattle.ahost_tool.specs.Delivering.{DeliversAll, DeliversOne, DeliversSome, IsIdle, Spends}
 use Rattle.ahost_tool.specs.Places.{PlacesState}
 use Rattle.ahost_tool.specs.Kinds.{has_servers, is_cancel, is_of_session, is_ruled, is_servers}
 use Rattle.channel_table.specs.Commanded.{IsOfCommand}
-use Rattle.ahost_tool.specs.Performing.{IsCommanded}
 use Rattle.ahost_tool.specs.Session.{HasObeyed, IsKept}
-use Rattle.ahost_tool.specs.Weight.{weight}
 use Rattle.ahost_tool.specs.declared.caller.Caller.{Caller}
-use Rattle.ahost_tool.proofs.DeliveryLemmas.{command_takes, take_entry}
+use Rattle.ahost_tool.proofs.DeliveryLemmas.{take_entry}
 use Rattle.ahost_tool.proofs.KeptLemmas.{commanded_of_session, kept_more, kept_one}
 use Rattle.ahost_tool.proofs.ListLemmas.{all_pass, any_of, denies, each_follows, each_passes, first_passes, none_any}
 use Rattle.ahost_tool.proofs.ObeyLemmas.{done_of, is_plain}
 use Rattle.owner_laws.proofs.Owner.{owned_same, owner_called, owner_went_on, seen_by}
-use Rattle.ahost_tool.proofs.WeightLemmas.{entries_weigh, gives_less, take_weighs}
+use Rattle.ticket_delivery.proofs.Theorems.{IsCommanded, all_commanded, all_entries, all_handed_on, command_takes, entries_weigh, gives_less, take_weighs}
+use Rattle.ticket_delivery.specs.Performing.{plan_of}
+use Rattle.ticket_delivery.specs.Weight.{weight}
 
 -- a part of a session: the journal went on with entries of the one seat, none of which accepts a request on nobody's command
 pub record Moves {B : Type 0} (old new : Caller B) : Type 0 where
@@ -298,17 +299,21 @@ module _ {B : Type 0} (called : CalledState) (a b : Caller B) (idle : IsIdle a) 
   abbrev commanded_since : List Entry
   commanded_since = s.performed.since
 
+  abbrev commands : List Command
+  commands = gives ticket.token.plan ticket.call a.hand.orders
+
   abbrev whole : List Entry
   whole = a.alone.seen ++ take_entry request ∷ commanded_since
 
-  behind_seen : s.behind.seen ≡ whole
-  behind_seen = s.performed.seen ∙ ap (λ l. l ++ commanded_since) took_seen ∙ append_assoc a.alone.seen (take_entry request ∷ []) commanded_since
+  -- what its callback commanded
+  pub one_commanded : AllByRecursion (IsCommanded request) commanded_since
+  one_commanded = all_commanded commands request took b.alone s.count s.performed
 
   pub one_seen : b.alone.seen ≡ whole
-  one_seen = ap (λ o. o.seen) s.channel ∙ behind_seen
+  one_seen = s.performed.seen ∙ ap (λ l. l ++ commanded_since) took_seen ∙ append_assoc a.alone.seen (take_entry request ∷ []) commanded_since
 
   b_setting : b.alone.setting ≡ a.alone.setting
-  b_setting = ap (λ o. o.setting) s.channel ∙ s.performed.setting ∙ call.desk.setting
+  b_setting = s.performed.setting ∙ call.desk.setting
 
   lawful_before : IsLawfulPast a.alone.setting (past_of a.alone.seen)
   lawful_before =
@@ -331,11 +336,10 @@ module _ {B : Type 0} (called : CalledState) (a b : Caller B) (idle : IsIdle a) 
   one_names =
       let taken_names : NamesStay (take_entry request ∷ []) (Some a.alone.names) (Some took.names) =
       subst (λ o. NamesStay (entries_of 0 0 o) (Some a.alone.names) (Some took.names)) happens.meant.0 (names_stay_behind 0 0 call.added [] (Some a.alone.names) (Some took.names) call.names) in
-      subst (λ o. NamesStay (take_entry request ∷ commanded_since) (Some a.alone.names) (Some o.names)) (sym s.channel)
-      (names_stay_trans (take_entry request ∷ []) commanded_since (Some a.alone.names) (Some took.names) (Some s.behind.names) taken_names s.performed.names)
+      names_stay_trans (take_entry request ∷ []) commanded_since (Some a.alone.names) (Some took.names) (Some b.alone.names) taken_names s.performed.names
 
   pub one_lawful : IsLawful b.alone.setting b.alone.seen
-  one_lawful = subst (λ o. IsLawful o.setting o.seen) (sym s.channel) (s.performed.lawful call.lawful)
+  one_lawful = s.performed.lawful call.lawful
 
   -- the delivery of a request
   pub moves_one : Moves a b
@@ -343,10 +347,10 @@ module _ {B : Type 0} (called : CalledState) (a b : Caller B) (idle : IsIdle a) 
     since = take_entry request ∷ commanded_since;
     seen = one_seen;
     setting = b_setting;
-    voice = ap (λ o. o.voice) s.channel ∙ sym idle.own_voice;
+    voice = s.voice ∙ call.desk.voice;
     hand = s.hand;
-    asked_none = commanded_asks request one_numbered commanded_since s.performed.commanded;
-    of_session = each_passes (IsCommanded request) is_of_session (commanded_of_session request one_numbered) commanded_since s.performed.commanded;
+    asked_none = commanded_asks request one_numbered commanded_since one_commanded;
+    of_session = each_passes (IsCommanded request) is_of_session (commanded_of_session request one_numbered) commanded_since one_commanded;
     lawful = λ was. one_lawful;
     names = one_names;
     kept = λ was.
@@ -356,22 +360,22 @@ module _ {B : Type 0} (called : CalledState) (a b : Caller B) (idle : IsIdle a) 
         (subst (λ cs. HasObeyed a.alone.setting whole a.hand.orders cs b.lost) (sym s.calls)
         (kept_one a.alone.setting a.alone.seen a.hand.orders a.calls a.lost was commanded_since ticket.call ticket.token.plan s.performed.outcomes b.lost
         (subst (IsLawful a.alone.setting) one_seen (subst (λ k. IsLawful k b.alone.seen) b_setting one_lawful))
-        happens.meant.2 happens.meant.3 one_untaken s.performed.commanded
-        (subst (λ n. AllBecame a.alone.setting whole n (gives ticket.token.plan ticket.call a.hand.orders) s.performed.outcomes) one_longer
-        (subst (λ j. AllBecame a.alone.setting j (length took.seen) (gives ticket.token.plan ticket.call a.hand.orders) s.performed.outcomes) behind_seen
-        (subst (λ k. AllBecame k s.behind.seen (length took.seen) (gives ticket.token.plan ticket.call a.hand.orders) s.performed.outcomes) call.desk.setting s.performed.became)))
-        (ap (λ n. positions_from (λ (entry : Entry). true) n commanded_since) (sym one_longer) ∙ s.performed.entries_are)
-        s.performed.lost))));
+        happens.meant.2 happens.meant.3 one_untaken one_commanded
+        (subst (λ n. AllBecame a.alone.setting whole n commands s.performed.outcomes) one_longer
+        (subst (λ j. AllBecame a.alone.setting j (length took.seen) commands s.performed.outcomes) one_seen
+        (subst (λ k. AllBecame k b.alone.seen (length took.seen) commands s.performed.outcomes) call.desk.setting s.performed.became)))
+        (ap (λ n. positions_from (λ (entry : Entry). true) n commanded_since) (sym one_longer) ∙ all_entries commands request took b.alone s.count s.performed)
+        (omega (arith, s.lost, s.performed.lost))))));
   }
 
   pub one_quiet : has_no_turn moves_one.since ≡ true
   unfolding moves_one
-  one_quiet = each_passes (IsCommanded request) (λ e. not (is_of_turn e)) (λ e c. (command_is e.what c.2).0) commanded_since s.performed.commanded
+  one_quiet = each_passes (IsCommanded request) (λ e. not (is_of_turn e)) (λ e c. (command_is e.what c.2).0) commanded_since one_commanded
 
   pub one_unset : has_servers moves_one.since ≡ false
   unfolding moves_one
   one_unset = none_any (λ e. not (is_servers e.what)) (λ e. is_servers e.what) (λ e h. denies (is_servers e.what) h) commanded_since
-      (each_passes (IsCommanded request) (λ e. not (is_servers e.what)) (λ e c. ap not (command_is e.what c.2).1) commanded_since s.performed.commanded)
+      (each_passes (IsCommanded request) (λ e. not (is_servers e.what)) (λ e c. ap not (command_is e.what c.2).1) commanded_since one_commanded)
 
   -- takes weight away
   pub one_weighs : weight (past_of b.alone.seen) < weight (past_of a.alone.seen)
@@ -380,8 +384,8 @@ module _ {B : Type 0} (called : CalledState) (a b : Caller B) (idle : IsIdle a) 
       omega (
         arith,
         ap weight past_is,
-        entries_weigh (Take request ∷ past_of a.alone.seen) commanded_since (each_follows (IsCommanded request) (λ e. taken_by e.what ≡ None) (λ e c. command_takes e.what c.2) commanded_since s.performed.commanded),
-        s.performed.handed_on,
+        entries_weigh (Take request ∷ past_of a.alone.seen) commanded_since (each_follows (IsCommanded request) (λ e. taken_by e.what ≡ None) (λ e c. command_takes e.what c.2) commanded_since one_commanded),
+        all_handed_on commands request took b.alone s.count s.performed,
         gives_less ticket.token.plan ticket.call a.hand.orders,
         take_weighs (past_of a.alone.seen) request ticket.token.plan one_untaken happens.meant.3,
       )

@@ -11,22 +11,18 @@ use Rattle.chan_types.specs.Plans.{Plan}
 use Rattle.chan_types.specs.declared.answer.Answer.{Answer}
 use Rattle.chan_types.specs.declared.journal.Entry.{Entry}
 use Rattle.chan_types.specs.declared.orders.Orders.{Orders}
-use Rattle.channel_model.proofs.Theorems.{all_became_longer, fate-one, followed_by-append, requests_numbered, script_of-later, unasked_fate}
+use Rattle.channel_model.proofs.Theorems.{all_became_longer, followed_by-append, requests_numbered, script_of-later, unasked_fate}
 use Rattle.channel_model.specs.Commands.{AllBecame, ArePerformed, IsPerformed, ObeysOrders, Outcome, Performance, commands_for, is_before_next, is_before_other_work, is_one_of, is_other_work, is_own_take, position_of, positions_from}
 use Rattle.channel_model.specs.Completion.{fate, occurrences, requests, taken, taken_by}
 use Rattle.channel_model.specs.Journal.{Accepted, Past, accepted, followed_by, past_of, script_of}
 use Rattle.channel_model.specs.Lawful.{IsLawfulPast}
 use Rattle.channel_model.specs.Setting.{Setting}
-use Rattle.ahost_tool.proofs.ListLemmas.{all_pass, apart_by, each_follows, first_passes, found_if_asked, no_positions, no_zero, or_left, positions-append, positions_above}
+use Rattle.ahost_tool.proofs.ListLemmas.{all_pass, apart_by, each_follows, first_passes, found_if_asked, no_positions, no_zero, or_left, positions_above}
+use Rattle.ticket_delivery.proofs.Theorems.{fate_behind, positions-append}
 
 -- ---- fates and scripts
 
--- behind further entries a fate is the same
-pub fate_later : (setting : Setting) (request : ℕ) (past : Past) (es : List Entry) (answer : Answer) → fate setting request past ≡ Some answer → fate setting request (followed_by past es) ≡ Some answer
-fate_later setting request past [] answer is = is
-fate_later setting request past (e ∷ es) answer is = fate_later setting request (e.what ∷ past) es answer (fate-one setting request answer e.what past is)
-
--- and so is a script
+-- behind further entries a script is the same
 pub script_later : (request : ℕ) (past : Past) (es : List Entry) (script : Plan) → script_of request past ≡ Some script → script_of request (followed_by past es) ≡ Some script
 script_later request past [] script is = is
 script_later request past (e ∷ es) script is = script_later request (e.what ∷ past) es script (script_of-later request e.what past script is)
@@ -66,7 +62,7 @@ module _ (setting : Setting) (past : Past) (lawful : IsLawfulPast setting past) 
 abbrev pub done_later : (setting : Setting) (journal es : List Entry) (request : ℕ) → IsDone setting (past_of journal) request → IsDone setting (past_of (journal ++ es)) request
 done_later setting journal es request d = record {
   answer = d.answer;
-  fated = ap (fate setting request) (past_on journal es) ∙ fate_later setting request (past_of journal) es d.answer d.fated;
+  fated = ap (fate setting request) (past_on journal es) ∙ fate_behind setting request (past_of journal) es d.answer d.fated;
   script = d.script;
   scripted = ap (script_of request) (past_on journal es) ∙ script_later request (past_of journal) es d.script d.scripted;
   numbered = d.numbered;

@@ -1,25 +1,23 @@
 -- The bodies of a run's requests: where they are, by what its journal and its tokens' names do.
-use Rattle.std.proofs.Common.{◌≡◌, ◌≢◌, ◌∙◌, ℕ, suc, zero, ◌+◌, ◌-◌, ◌*◌, ◌≤◌, ◌<◌, ◌==◌, ◌||◌, Bool, true, false, not, cond, List, [], ◌∷◌, ◌++◌, Option, Some, None, is_some, length, refl, sym, ap, subst, inl, inr, arith, eq-eqb, eqb-true, ne_eqb}
+use Rattle.std.proofs.Common.{◌≡◌, ◌≢◌, ◌∙◌, ℕ, suc, zero, ◌+◌, ◌-◌, ◌*◌, ◌≤◌, ◌<◌, ◌==◌, ◌||◌, Bool, true, false, not, cond, List, [], ◌∷◌, ◌++◌, Option, Some, None, is_some, length, refl, sym, ap, subst, inl, inr, arith, eq-eqb, ne_eqb}
 use Rattle.std.proofs.lemmas.Bool.{and_from}
 use Rattle.std.proofs.lemmas.List.{append-nil, append_assoc, length-append}
 use Rattle.std.proofs.lemmas.List.Elements.{filter_map-append}
 use Rattle.std.specs.FinMap as finite
-use Rattle.std.specs.List.{cons_option, list_all, list_any, range_with_len}
+use Rattle.std.specs.List.{cons_option, list_all, range_with_len}
 use Rattle.std.specs.Option.{option_map_or, unwrap_or}
-use Rattle.std.specs.Prelude.{Err, IfSome, IsFalse, Ok, Result, filter_map, is_err, option_map, option_to_list, slice_set, ⊤}
+use Rattle.std.specs.Prelude.{Err, IfSome, Ok, Result, filter_map, is_err, option_map, option_to_list, slice_set}
 use Rattle.item_list.specs.declared.no_memory.NoMemory.{NoMemory as OutOfMemory}
 use Rattle.chan_types.specs.Plans.{Plan}
 use Rattle.chan_types.specs.declared.journal.Entry.{Entry}
 use Rattle.chan_types.specs.declared.journal.What.{What}
 use Rattle.chan_types.specs.declared.journal.What.TheVariants.{Accept, Arrive, Cancel, Destroy, Expire, Fault, Servers, Start, Take}
 use Rattle.chan_types.specs.declared.refusal.Refusal.{Refusal}
-use Rattle.chan_types.specs.declared.refusal.Refusal.TheVariants.{NoMemory}
 use Rattle.chan_types.specs.declared.spec.Spec.{Spec}
-use Rattle.chan_types.specs.declared.ticket.Ticket.{Ticket}
 use Rattle.channel_model.proofs.NameLemmas.{name_kept_by_insert, name_put}
 use Rattle.channel_model.proofs.Theorems.{IsLawfulPast-before, past_of-push, requests_numbered}
 use Rattle.channel_model.specs.Commands.{accepted_for}
-use Rattle.channel_model.specs.Completion.{occurrences, pending, ready, requests, taken, taken_by}
+use Rattle.channel_model.specs.Completion.{occurrences, pending, ready, taken, taken_by}
 use Rattle.channel_model.specs.Journal.{Accepted, Past, accepted, accepted_by, followed_by, is_destroyed, past_of}
 use Rattle.channel_model.specs.Lawful.{IsLawful, IsLawfulPast}
 use Rattle.channel_model.specs.Names.{Names, NamesStay, is_moved, moves}
@@ -27,9 +25,9 @@ use Rattle.channel_model.specs.Setting.{Setting}
 use Rattle.channel_table.specs.Calling.{Owned}
 use Rattle.completion_ticket.specs.States.{CallbackState, CalledState, called_with, token_name}
 use Rattle.ahost_tool.specs.Places.{PlacesState}
-use Rattle.ahost_tool.specs.Returning.{ArePlaced, ArePlacedFrom, AreBack, AreUnasked, AsksWith, GivesBack, HaveAsked, IsLeftOf, IsPlaced, PutsBack, TakesNext, body_name, numbers_asked}
+use Rattle.ahost_tool.specs.Returning.{ArePlaced, ArePlacedFrom, AreBack, AreUnasked, AsksWith, HaveAsked, IsLeftOf, IsPlaced, PutsBack, TakesNext, body_name, numbers_asked}
 use Rattle.ahost_tool.proofs.FinalLemmas.{taken_once_each}
-use Rattle.ahost_tool.proofs.ListLemmas.{denied, denies, first_passes, none_from}
+use Rattle.ahost_tool.proofs.ListLemmas.{denies, first_passes, none_from}
 use Rattle.ahost_tool.proofs.ObeyLemmas.{past_on, takes_it}
 
 -- ---- the requests that the run asked

@@ -40,7 +40,8 @@ use Rattle.ahost_tool.specs.declared.caller.Caller.{Caller}
 use Rattle.run_end.specs.declared.ended.Ended.{Ended}
 use Rattle.run_end.specs.declared.loop_end.LoopEnd.{LoopEnd}
 use Rattle.run_end.specs.declared.loop_end.LoopEnd.TheVariants.{Completed, Stalled, WaitFault}
-use Rattle.ahost_tool.proofs.ClosingLemmas.{closing, destroy_destroys, destroy_is, destroyed_once, destroyed_pending, destroyed_stays, destroys_counted}
+use Rattle.ahost_tool.proofs.ClosingLemmas.{closing, destroy_destroys, destroy_is, destroyed_once, destroys_counted}
+use Rattle.ticket_delivery.proofs.Theorems.{destroyed_later, destroyed_pending}
 use Rattle.ahost_tool.proofs.EndLemmas.{Came, accepted_full, accepted_part, bad_of, came, comes_to_end, complete_of, end_known, good_of, last_other, last_page, page_of_end, paged, served_ok, stall_of, traffic_of, unlost, wait_of}
 use Rattle.ahost_tool.proofs.FinalLemmas.{Behind, before_closing, closing_is, none_delivered, taken_once_each}
 use Rattle.ahost_tool.proofs.KeptLemmas.{dones, kept_more}
@@ -166,7 +167,7 @@ module _ {B : Type 0} (asked : Asked) (setting : Setting) (turns : ℕ) (result 
   fin_past = ap past_of q.0.seen ∙ past_on d.seen q.0.since
 
   fin_destroyed : is_destroyed (past_of fin.alone.seen) ≡ true
-  fin_destroyed = ap is_destroyed fin_past ∙ destroyed_stays (past_of d.seen) q.0.since (destroy_destroys f.is_first mid.alone d f.destroys)
+  fin_destroyed = ap is_destroyed fin_past ∙ destroyed_later (past_of d.seen) q.0.since (destroy_destroys f.is_first mid.alone d f.destroys)
 
   none_pending : pending setting (past_of fin.alone.seen) ≡ []
   none_pending = subst (λ k. pending k (past_of fin.alone.seen) ≡ []) fin_setting f.none_pending

@@ -14,7 +14,8 @@ use Rattle.channel_model.specs.Setting.{Setting}
 use Rattle.channel_progress.specs.Prompted.{accepts_some, is_unprompted, unprompted_in}
 use Rattle.completion_ticket.specs.States.{CalledState}
 use Rattle.event_runner.proofs.Theorems.{AreBetween}
-use Rattle.ahost_tool.specs.Delivering.{DeliversAll, DeliversOne, DeliversSome, plan_of}
+use Rattle.ahost_tool.specs.Delivering.{DeliversAll, DeliversOne, DeliversSome}
+use Rattle.ticket_delivery.specs.Performing.{plan_of}
 use Rattle.ahost_tool.specs.declared.caller.Caller.{Caller}
 use Rattle.ahost_tool.proofs.ListLemmas.{any_of}
 use Rattle.ahost_tool.proofs.MoveLemmas.{Moves, same_none}

@@ -1,8 +1,7 @@
 -- How what is ready is delivered: it is taken, its callback is called, and what the callback commands is performed.
 use Rattle.std.specs.FinMap as finite
-use Rattle.std.specs.Prelude.{List, None, Option, Some, [], ◌++◌, ◌∷◌, ◌≡◌}
+use Rattle.std.specs.Prelude.{List, None, Option, Some, [], min, ℕ, ◌+◌, ◌++◌, ◌-◌, ◌^◌, ◌∷◌, ◌≡◌}
 use Rattle.chan_types.specs.Gives.{gives}
-use Rattle.chan_types.specs.Plans.{Plan}
 use Rattle.chan_types.specs.declared.orders.Orders.{Orders}
 use Rattle.chan_types.specs.declared.ticket.Ticket.{Ticket}
 use Rattle.channel_model.specs.Known.{Calls}
@@ -12,13 +11,9 @@ use Rattle.channel_table.specs.Calling.{Owned, known_by_owner}
 use Rattle.completion_ticket.specs.States.{CallbackState, CalledState, called_with, token_name}
 use Rattle.hosts_file.specs.declared.hosts.Hosts.{Hosts}
 use Rattle.resolv_options.specs.declared.options.Options.{Options}
-use Rattle.ahost_tool.specs.Performing.{Performs}
 use Rattle.ahost_tool.specs.Places.{PlacesState}
 use Rattle.ahost_tool.specs.declared.caller.Caller.{Caller}
-
--- the script of a callback
-abbrev pub plan_of : CallbackState → Plan
-plan_of callback = callback.plan
+use Rattle.ticket_delivery.specs.Performing.{Performs, plan_of}
 
 -- a channel with these options and hosts before its first entry
 abbrev pub fresh : Options → Hosts → Owned
@@ -40,23 +35,16 @@ pub record IsIdle {B : Type 0} (caller : Caller B) : Type 0 where
   pub no_command : caller.hand.commands ≡ []
   pub own_voice : caller.alone.voice ≡ 0
 
--- a callback was told the answer of its request, which is noted: its commands are in the hand
-pub record Tells {B : Type 0} (ticket : Ticket CallbackState) (called : CalledState) (old new : Caller B) : Type 0 where
+-- a callback was told the answer of its request, which is noted, and then the commands that its script gives were performed, on that request's command
+pub record Spends {B : Type 0} (ticket : Ticket CallbackState) (called : CalledState) (old new : Caller B) : Type 0 where
   -- what is left of the callback has the request's number, and is the callback that the ticket had: by its name, and with a body exactly where that had one
   pub is_called : called ≡ called_with ticket.call.number ticket.token
   pub calls : new.calls ≡ old.calls ++ ticket.call ∷ []
-  pub gives_them : new.hand ≡ record old.hand { commands = gives ticket.token.plan ticket.call old.hand.orders }
-  pub channel : new.alone ≡ old.alone
-  pub lost : new.lost ≡ old.lost
-  pub places : new.places ≡ old.places
-
--- and then the commands that its script gives were performed, on that request's command
-pub record Spends {B : Type 0} (ticket : Ticket CallbackState) (called : CalledState) (old new : Caller B) : Type 0 where
-  pub is_called : called ≡ called_with ticket.call.number ticket.token
-  pub calls : new.calls ≡ old.calls ++ ticket.call ∷ []
-  pub behind : Owned
-  pub performed : Performs (gives ticket.token.plan ticket.call old.hand.orders) (record old.alone { voice = ticket.call.number }) behind old.lost new.lost
-  pub channel : new.alone ≡ record behind { voice = 0 }
+  -- so many of the requests that it asked were lost, which is counted, as far as a count goes
+  pub count : ℕ
+  pub performed : Performs (gives ticket.token.plan ticket.call old.hand.orders) ticket.call.number (known_by_owner old.alone) (known_by_owner new.alone) count
+  pub lost : new.lost ≡ min (old.lost + count) (2 ^ 64 - 1)
+  pub voice : new.alone.voice ≡ old.alone.voice
   pub hand : new.hand ≡ old.hand
   pub places : new.places ≡ old.places
 

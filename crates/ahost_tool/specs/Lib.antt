@@ -1,7 +1,5 @@
 pub mod Kinds
-pub mod Weight
 pub mod Asked
-pub mod Performing
 pub mod Places
 pub mod Delivering
 pub mod Closing

@@ -3,14 +3,14 @@
 ghost use Rattle.std.specs.Prelude.{◌≡◌, []};
 ghost use Rattle.channel_model.specs.Completion.{ready};
 ghost use Rattle.channel_model.specs.Journal.{past_of};
-ghost use Rattle.ahost_tool.specs.Delivering.{DeliversAll, DeliversOne, IsIdle, Spends, Tells};
+ghost use Rattle.ahost_tool.specs.Delivering.{DeliversAll, DeliversOne, IsIdle, Spends};
 ghost use Rattle.ahost_tool.specs.Returning.{KeepsPlaces};
 
 use crate::caller::Caller;
-use crate::performing::perform_all;
 use chan_types::Ticket;
 use channel_model::Desk;
 use completion_ticket::{Callback, Called, Done};
+use ticket_delivery::spend as spend_through;
 
 /// Delivers until nothing is ready: commands of callbacks may make further requests ready. Bodies that were told come back.
 pub(crate) fn deliver_all<B: Done + Drop>(caller: &mut Caller<B>)
@@ -41,21 +41,8 @@ fn spend<B: Done + Drop>(caller: &mut Caller<B>, ticket: Ticket<Callback<B>>) ->
     requires idle { IsIdle caller.old }
     ensures { Spends ticket result caller.old caller.new }
 {
-    let by = ticket.number();
-    let called = tell(caller, ticket);
-    caller.alone.voice(by);
-    perform_all(&mut caller.alone, &mut caller.hand, &mut caller.lost);
-    caller.alone.voice(0);
-    called
-}
-
-/// Tells the ticket's callback its answer, and notes that. Its commands are then in the hand.
-fn tell<B: Done + Drop>(caller: &mut Caller<B>, ticket: Ticket<Callback<B>>) -> Called<B>
-    requires idle { IsIdle caller.old }
-    ensures { Tells ticket result caller.old caller.new }
-{
-    let (callback, call) = ticket.spend();
-    let called = callback.call(call.answer(), &mut caller.hand);
+    let (called, call, lost) = spend_through(&mut caller.alone, &mut caller.hand, ticket);
     caller.calls.add(call);
+    caller.lost = caller.lost.saturating_add(lost);
     called
 }

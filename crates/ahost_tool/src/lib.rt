@@ -9,7 +9,6 @@ mod delivering;
 mod loading;
 mod outcome;
 mod page;
-mod performing;
 mod places;
 mod putting;
 mod reporting;

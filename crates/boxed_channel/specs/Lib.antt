@@ -1,3 +1,4 @@
+pub mod Owned
 pub mod Journaled
 pub mod Making
 pub mod State

@@ -1,10 +1,9 @@
-//! A channel on the heap as the one word that C keeps: a pointer without a type. Only the proof knows what it leads to.
+//! A channel on the heap behind one word: a pointer without a type. Only the proof knows what it leads to.
 
 ghost use Rattle.std.specs.Prelude.{◌≡◌, IfErr, IfOk};
-ghost use Rattle.std.specs.Box.Ownership.{box_owns};
-ghost use Rattle.std.specs.contracts.impls.GlobalAllocator.TheImpl.{ghosts};
 ghost use Rattle.c_types.specs.Faults.{HasCause};
 ghost use Rattle.boxed_channel.specs.Making.{IsMadeBy};
+ghost use Rattle.boxed_channel.specs.Owned.{owns_channel};
 ghost use Rattle.boxed_channel.specs.declared.state.ChannelState.{ChannelState};
 ghost use Rattle.boxed_channel.specs.contracts.state.ChannelState.{the_row};
 
@@ -14,7 +13,7 @@ use c_types::MakeFault;
 use std::alloc::Global;
 use std::marker::Model;
 
-/// What C keeps of a channel. C sees a struct of one pointer, since a `Global` takes no bytes.
+/// A channel on the heap, as a struct of one pointer, since a `Global` takes no bytes.
 #[repr(C)]
 pub struct BoxedChannel {
     at: *mut u8,
@@ -23,7 +22,7 @@ pub struct BoxedChannel {
 }
 
 impl Model for BoxedChannel {
-    ghost also_owns = { λ boxed. box_owns (ghosts.dealloc_token boxed.alloc) the_row boxed.at boxed.state };
+    ghost also_owns = { λ boxed. owns_channel boxed.alloc boxed.at boxed.state };
 }
 
 impl Drop for BoxedChannel {

@@ -22,7 +22,7 @@ stays_none old new same =
 
 -- a ticket is spent, and then others
 stays_one : (its : TicketState) (old new : Orders × PassView) → SpendsTicket old its new → StaysThere old new
-stays_one its old new spends = (spends.0, spends.2.performed.rest)
+stays_one its old new spends = (spends.0, spends.2.rest)
 
 stays_more : (old middle new : Orders × PassView) → StaysThere old middle → StaysThere middle new → StaysThere old new
 stays_more old middle new first more =

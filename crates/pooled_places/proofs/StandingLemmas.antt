@@ -182,7 +182,7 @@ sender_spends hand orders ticket called old new pass spends stands =
     record {
       taken = stands.taken;
       numbers = subst (λ ns. IsPermutation ns (map number_of stands.taken)) (sym taken_is) stands.numbers;
-      fates = fates_stay old new (done.since, sym done.seen) (ap (λ (p : PassView). p.setting) done.rest) stands.taken stands.fates;
+      fates = fates_stay old new (done.since, sym done.seen) done.setting stands.taken stands.fates;
       shared = subst (λ calls. IsPermutation stands.taken (hand ++ (answers_of (tickets_in pass.sent) ++ calls))) (sym spends.calls)
           (IsPermutation-trans stands.taken (ticket.call ∷ (hand ++ (answers_of (tickets_in pass.sent) ++ old.calls))) (hand ++ (answers_of (tickets_in pass.sent) ++ (old.calls ++ ticket.call ∷ [])))
           stands.shared (to_end ticket.call hand (answers_of (tickets_in pass.sent)) old.calls));

@@ -20,9 +20,9 @@ use Rattle.shared_channel.specs.Passes.{PassView, desk_of}
 use Rattle.shared_channel.specs.Settling.{told_through}
 use Rattle.shared_channel.specs.Spending.{Spends}
 use Rattle.shared_channel.specs.Under.{plan_of}
-use Rattle.shared_channel.proofs.AnswerLemmas.{destroyed_later, destroyed_pending}
+use Rattle.ticket_delivery.proofs.Theorems.{destroyed_later, destroyed_pending}
 use Rattle.shared_channel.proofs.GoingLemmas.{WentOn, went_all, went_deliveries, went_destroy, went_on}
-use Rattle.shared_channel.proofs.PerformLemmas.{rest_of}
+use Rattle.shared_channel.proofs.PassLemmas.{rest_of}
 
 -- a call tells no answer
 none_told : (meaning : Meaning) (by : ℕ) (old new : PassView) → Calls meaning by (desk_of old) (desk_of new) → new.calls ≡ old.calls

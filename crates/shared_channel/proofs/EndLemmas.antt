@@ -1,21 +1,20 @@
 -- What is left of a channel is what its passes made, saw and told, and nothing is left in it.
-use Rattle.std.proofs.Common.{◌≡◌, ◌∙◌, ◌<◌, ⊎_elim, inl, inr, ℕ, zero, suc, ◌+◌, List, [], ◌∷◌, ◌++◌, Some, length, map, refl, ap, sym, subst, arith, length-append}
+use Rattle.std.proofs.Common.{◌≡◌, ◌∙◌, ◌<◌, ⊎_elim, inl, inr, ℕ, ◌+◌, List, [], ◌∷◌, ◌++◌, Some, length, map, refl, ap, sym, subst, arith}
 use Rattle.std.proofs.lemmas.List.{append_cancel_right, map-append}
 use Rattle.std.proofs.lemmas.List.Concat.{flat_map-cons}
 use Rattle.std.proofs.lemmas.List.Elements.{All-head, All-tail, Contains-append_cases, filter-append}
 use Rattle.std.specs.List.{All, AllByRecursion, Contains, range_with_len}
 use Rattle.std.specs.List.Sorted.{IsPermutation}
-use Rattle.std.specs.Option.{option_to_list}
-use Rattle.std.specs.Prelude.{IsSome, slice_index_or, take, ◌==◌}
+use Rattle.std.specs.Prelude.{IsSome, ◌==◌}
 use mathlib.Core.List.{IsPrefix}
 use Rattle.atomic_table.specs.Seated.{TableId}
 use Rattle.chan_types.specs.declared.answer.Answer.{Answer}
 use Rattle.chan_types.specs.declared.journal.Entry.{Entry}
 use Rattle.chan_types.specs.declared.orders.Orders.{Orders}
 use Rattle.channel_model.specs.Completion.{fate, occurrences, taken}
-use Rattle.channel_model.specs.Journal.{accepted, accepted_by, own_entries, past_of}
+use Rattle.channel_model.specs.Journal.{accepted, own_entries, past_of}
 use Rattle.channel_model.specs.Setting.{Setting}
-use Rattle.channel_model.proofs.Theorems.{occurrences-append, past_of-push}
+use Rattle.channel_model.proofs.Theorems.{occurrences-append}
 use Rattle.hosts_file.specs.declared.hosts.Hosts.{Hosts}
 use Rattle.resolv_options.specs.declared.options.Options.{Options}
 use Rattle.seat_lock.specs.History.{HasAll, IsAccounted, IsWholeHistory, SeatView}

@@ -7,35 +7,30 @@ use Rattle.std.specs.Prelude.{Bool, true, false}
 use mathlib.Core.List.{IsPrefix}
 use Rattle.chan_types.specs.declared.answer.Answer.{Answer}
 use Rattle.chan_types.specs.declared.journal.Entry.{Entry}
-use Rattle.chan_types.specs.declared.journal.What.{What}
-use Rattle.chan_types.specs.declared.journal.What.TheVariants.{Accept, Arrive, Cancel, Destroy, Expire, Fault, Servers, Start, Take}
 use Rattle.chan_types.specs.declared.orders.Orders.{Orders}
 use Rattle.chan_types.specs.declared.ticket.Ticket.{Ticket}
 use Rattle.channel_model.specs.Completion.{fate}
-use Rattle.channel_model.specs.Journal.{Past, followed_by, own_entries, past_of}
+use Rattle.channel_model.specs.Journal.{own_entries, past_of}
 use Rattle.channel_model.specs.Known.{Calls}
 use Rattle.channel_model.specs.Lawful.{IsLawful}
 use Rattle.channel_model.specs.Meanings.{Destroys, Meaning, Takes}
 use Rattle.channel_model.specs.Seen.{entries_of}
 use Rattle.channel_model.specs.Setting.{Setting}
-use Rattle.channel_model.proofs.Theorems.{calls_stretch, fate-one, own-others, past_of-prefix}
+use Rattle.channel_model.proofs.Theorems.{calls_stretch, own-others, own_added, past_of-prefix}
 use Rattle.completion_ticket.specs.States.{CallbackState, CalledState}
 use Rattle.shared_channel.specs.Finishing.{DeliversAll, DeliversSome}
 use Rattle.shared_channel.specs.Passes.{PassView, desk_of}
-use Rattle.channel_table.specs.Commanded.{IsOfCommand}
 use Rattle.shared_channel.specs.Settling.{IsFateSeen, taken_in}
 use Rattle.shared_channel.specs.Spending.{DeliversOne, Spends}
 use Rattle.shared_channel.specs.Under.{plan_of}
+use Rattle.ticket_delivery.specs.Performing.{IsBy}
+use Rattle.ticket_delivery.proofs.Theorems.{command_takes, fate_behind}
 use Rattle.shared_channel.proofs.CountingLemmas.{taken_in-append}
-use Rattle.shared_channel.proofs.PerformLemmas.{added_own, rest_of}
+use Rattle.shared_channel.proofs.PassLemmas.{rest_of}
 
 -- a fate stays in a longer journal
 pub fate_later : (setting : Setting) (request : ℕ) (answer : Answer) (journal longer : List Entry) → IsPrefix journal longer → fate setting request (past_of journal) ≡ Some answer → fate setting request (past_of longer) ≡ Some answer
-fate_later setting request answer journal longer p is = subst (λ past. fate setting request past ≡ Some answer) (sym (past_of-prefix journal longer p)) (later (past_of journal) p.0 is)
-  where
-    later : (past : Past) (entries : List Entry) → fate setting request past ≡ Some answer → fate setting request (followed_by past entries) ≡ Some answer
-    later past [] at = at
-    later past (e ∷ es) at = later (e.what ∷ past) es (fate-one setting request answer e.what past at)
+fate_later setting request answer journal longer p is = subst (λ past. fate setting request past ≡ Some answer) (sym (past_of-prefix journal longer p)) (fate_behind setting request (past_of journal) p.0 answer is)
 
 -- from one moment to another a pass saw more, made entries, and told the answers of exactly what it took
 pub record WentOn (old new : PassView) : Type 0 where
@@ -125,7 +120,7 @@ moved_call meaning by taken old new call takes fates =
     let stretch = calls_stretch meaning by (desk_of old) (desk_of new) call in
     let rest = rest_of old new call.desk in
     let mine : own_entries old.number (call.stands.others ++ added) ≡ added =
-    filter-append (λ (entry : Entry). entry.seat == old.number) call.stands.others added ∙ ap₂ (λ xs ys. xs ++ ys) (own-others old.number call.stands.others call.stands.by_others) (added_own old.number by call.added) in
+    filter-append (λ (entry : Entry). entry.seat == old.number) call.stands.others added ∙ ap₂ (λ xs ys. xs ++ ys) (own-others old.number call.stands.others call.stands.by_others) (own_added old.number by call.added) in
     record {
       since = call.stands.others ++ added;
       seen = stretch.0;
@@ -142,20 +137,9 @@ pub went_call : (meaning : Meaning) (by : ℕ) (old new : PassView) (call : Call
 went_call meaning by old new call none = went_moved [] old new (moved_call meaning by [] old new call (sym none) tt)
 
 -- entries of commands take nothing
-none_taken : (by : ℕ) (entries : List Entry) → AllByRecursion (λ (entry : Entry). (entry.by ≡ by) × IsOfCommand entry.what) entries → taken_in entries ≡ []
+none_taken : (by : ℕ) (entries : List Entry) → AllByRecursion (IsBy by) entries → taken_in entries ≡ []
 none_taken by [] each = refl
-none_taken by (e ∷ es) each = by_what e.what refl each.0.1 (none_taken by es each.1)
-  where
-    by_what : (what : What) → e.what ≡ what → IsOfCommand what → taken_in es ≡ [] → taken_in (e ∷ es) ≡ []
-    by_what (Accept number spec script) is of_command rest = rw is rest
-    by_what Cancel is of_command rest = rw is rest
-    by_what Destroy is of_command rest = rw is rest
-    by_what (Take number) is of_command rest = absurd of_command
-    by_what (Start number leg server link id mix moment) is of_command rest = absurd of_command
-    by_what (Arrive server link bytes) is of_command rest = absurd of_command
-    by_what (Expire number leg moment) is of_command rest = absurd of_command
-    by_what (Fault server link moment) is of_command rest = absurd of_command
-    by_what (Servers list) is of_command rest = absurd of_command
+none_taken by (e ∷ es) each = rw (command_takes e.what each.0.1) (none_taken by es each.1)
 
 -- by a request that is taken
 pub moved_take : (ticket : Ticket CallbackState) (old new : PassView) → Calls (Takes plan_of (Some ticket)) 0 (desk_of old) (desk_of new) → Moved (ticket.call ∷ []) [] old new
@@ -182,7 +166,7 @@ moved_spend orders ticket called old new spends =
       numbers = sym (none_taken ticket.call.number (own_entries old.number done.since) done.commanded);
       fates = tt;
       lawful = done.lawful;
-      rest = done.rest;
+      rest = spends.rest;
     }
 
 -- by a delivery

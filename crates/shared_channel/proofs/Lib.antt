@@ -1,6 +1,6 @@
 mod Adding
 mod Telling
-mod PerformLemmas
+mod PassLemmas
 mod CountingLemmas
 mod OrderLemmas
 mod JoinLemmas

@@ -1,5 +1,5 @@
 -- A runner over a place leaves its pass settled: between two moments the pass went on as a desk and took nothing, since a turn makes entries of turns alone, and a pause makes none.
-use Rattle.std.proofs.Common.{◌≡◌, ◌∙◌, ◌==◌, ℕ, Bool, true, false, List, [], ◌∷◌, ◌++◌, Option, None, length, refl, ap, sym}
+use Rattle.std.proofs.Common.{◌≡◌, ◌∙◌, ◌==◌, true, List, [], ◌∷◌, None, length, refl, ap, sym}
 use Rattle.std.proofs.lemmas.Bool.{and_parts}
 use Rattle.std.proofs.lemmas.List.{append-nil, append_cancel_left}
 use Rattle.std.specs.List.{list_all}
@@ -16,7 +16,7 @@ use Rattle.shared_channel.specs.Passes.{PassView, desk_of}
 use Rattle.shared_channel.specs.Settling.{taken_in}
 use Rattle.shared_channel.specs.Staying.{StaysSettled}
 use Rattle.shared_channel.proofs.GoingLemmas.{WentOn}
-use Rattle.shared_channel.proofs.PerformLemmas.{rest_of}
+use Rattle.shared_channel.proofs.PassLemmas.{rest_of}
 use Rattle.shared_channel.proofs.StayLemmas.{stays}
 
 -- a pass that went on as a desk, and took nothing

@@ -68,6 +68,8 @@ use Rattle.std.below.std_heap.proofs.GlobalAllocator.TheSendSync as allocator
 use Rattle.shared_channel.specs.contracts.pass.Pass as Pass
 use Rattle.shared_channel.specs.contracts.place.Place as Place
 use Rattle.shared_channel.specs.contracts.place.Place.TheInside as inside
+use Rattle.shared_channel.specs.contracts.turns.Turns as Turns
+use Rattle.shared_channel.specs.contracts.turns.Turns.TheInside as at_lock
 use Rattle.shared_channel.specs.contracts.account.Account as Account
 use Rattle.shared_channel.specs.contracts.state.SharedTable as SharedTable
 
@@ -166,8 +168,14 @@ module _ (B : RattleType) (g : done.Ghosts B.Denot) (b : IsSend B) where
 
     -- a place is a pass at a channel, and its thread's handle
     module _ (κ : NamedLft) (R : RattleType) (handle : IsSync R) where
+      at_lock_send : IsSend (at_lock.the_row κ B R J g k)
+      at_lock_send = recorded_send (at_lock.the_field κ B R J g k).row _ _ (at_lock.the_type κ B R J g k).to_one (struct_send (shape (at_lock.the_type κ B R J g k)) (search (handle, sendable) depth 20 fits 20000, (search (state_send, lock.the_sync, crosses, sendable) depth 60 fits 20000, (search (account_send, sendable) depth 20 fits 20000, tt))))
+
+      turns_send : IsSend (Turns.the_row κ B R J g k)
+      turns_send = view_send (at_lock.the_row κ B R J g k) _ _ _ _ at_lock_send
+
       inside_send : IsSend (inside.the_row κ B R J g k)
-      inside_send = recorded_send (inside.the_field κ B R J g k).row _ _ (inside.the_type κ B R J g k).to_one (struct_send (shape (inside.the_type κ B R J g k)) (search (handle, sendable) depth 20 fits 20000, (search (state_send, lock.the_sync, crosses, sendable) depth 60 fits 20000, (search (account_send, sendable) depth 20 fits 20000, (search (hand_send, sendable) depth 20 fits 20000, tt)))))
+      inside_send = recorded_send (inside.the_field κ B R J g k).row _ _ (inside.the_type κ B R J g k).to_one (struct_send (shape (inside.the_type κ B R J g k)) (search (turns_send, sendable) depth 20 fits 20000, (search (hand_send, sendable) depth 20 fits 20000, tt)))
 
       pub place_send : IsSend (Place.the_row κ B R J g k)
       place_send = view_send (inside.the_row κ B R J g k) _ _ _ _ inside_send

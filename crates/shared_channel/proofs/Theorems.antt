@@ -5,7 +5,7 @@ pub use Rattle.shared_channel.proofs.GoingLemmas.{WentOn, fate_later, went_all, 
 -- Deliveries of several requests leave a pass settled too.
 pub use Rattle.shared_channel.proofs.DeliverLemmas.{spends_more, stays_deliveries, takes_more, went_deliveries_up_to}
 -- Commands that were performed through a pass.
-pub use Rattle.shared_channel.proofs.PerformLemmas.{performs_more, performs_none}
+pub use Rattle.ticket_delivery.proofs.Theorems.{performs_more, performs_none}
 -- The calls by which attempts expire and fail, servers are set, and those that look, leave a pass settled too.
 pub use Rattle.shared_channel.proofs.CallLemmas.{stays_busy, stays_counts, stays_due, stays_expire, stays_fault, stays_servers}
 -- A runner over a place: turns and pauses leave its pass settled too, by how its desk goes on.

@@ -2,7 +2,6 @@ pub mod Under
 pub mod Passes
 pub mod Turns
 pub mod Making
-pub mod Performing
 pub mod Spending
 pub mod Settling
 pub mod Delivering

@@ -1,17 +1,13 @@
 -- What an operation under the channel's lock means.
 use Rattle.std.specs.Prelude.{List, ℕ}
-use Rattle.chan_types.specs.Plans.{Plan}
 use Rattle.chan_types.specs.declared.journal.Entry.{Entry}
 use Rattle.channel_model.specs.Meanings.{Meaning}
 use Rattle.channel_model.specs.Seen.{Happens}
 use Rattle.channel_model.specs.Setting.{Setting}
-use Rattle.completion_ticket.specs.States.{CallbackState}
 use Rattle.hosts_file.specs.declared.hosts.Hosts.{Hosts}
 use Rattle.resolv_options.specs.declared.options.Options.{Options}
-
 -- the script of a callback
-abbrev pub plan_of : CallbackState → Plan
-plan_of callback = callback.plan
+pub use Rattle.ticket_delivery.specs.Performing.{plan_of}
 
 -- a channel's setting, as the lock has it
 abbrev pub setting_by : Options × Hosts → Setting

@@ -1,10 +1,10 @@
 //! What a caller has at a channel.
 
-ghost use Rattle.std.specs.Prelude.{IsSome, ◌≡◌};
+ghost use Rattle.std.specs.Prelude.{IsSome, ◌≡◌, ◌+◌, ◌-◌, ◌^◌, ◌++◌, ◌∷◌, [], min};
 ghost use Rattle.channel_model.specs.Journal.{own_entries};
 
 use crate::state::{ChannelLock, SharedTable};
-use chan_types::Calls;
+use chan_types::{Call, Calls};
 use channel_journal::ChannelJournal;
 use completion_ticket::Done;
 use seat_lock::{Hold, Seat};
@@ -35,6 +35,14 @@ impl<B: Done + Drop, J: ChannelJournal> Model for Account<B, J> {
 }
 
 impl<B: Done + Drop, J: ChannelJournal> Account<B, J> {
+    /// Notes a call of a callback, and that so many of the requests that it asked were lost.
+    pub fn note(&mut self, call: Call, lost: u64)
+        ensures { self.new ≡ record self.old { calls = self.old.calls ++ call ∷ []; lost = min (self.old.lost + lost) (2 ^ 64 - 1) } }
+    {
+        self.calls.add(call);
+        self.lost = self.lost.saturating_add(lost);
+    }
+
     /// The same, once its seat holds the lock.
     pub fn hold<'c, R: Wait>(
         self,

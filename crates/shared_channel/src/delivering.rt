@@ -8,6 +8,7 @@ use crate::operations::TakeOp;
 use crate::place::Place;
 use crate::spending::spend;
 use crate::state::ChannelLock;
+use crate::turns::Turns;
 use chan_types::{NoMemory, Orders, Ticket};
 use channel_journal::ChannelJournal;
 use completion_ticket::{Callback, Called, Done};
@@ -46,8 +47,22 @@ fn take_some<B: Done + Drop, R: Wait, J: ChannelJournal>(
     ensures taken { TakesUpTo most place.old tickets.new.items place.new }
     ensures few { vec_len tickets.new ≤ most }
 {
-    let (rt, lock) = (place.rt, place.lock);
-    take_through(rt, lock, &mut place.account, most, tickets);
+    take_at(&mut place.turns, most, tickets);
+}
+
+/// Takes ready requests at the channel's lock.
+fn take_at<B: Done + Drop, R: Wait, J: ChannelJournal>(
+    turns: &mut Turns<'_, B, R, J>,
+    most: u64,
+    tickets: &mut Vec<Ticket<Callback<B>>>,
+)
+    requires none { tickets.old.items ≡ [] }
+    requires room { most ≤ vec_capacity tickets.old }
+    ensures taken { TakesUpTo most turns.old tickets.new.items turns.new }
+    ensures few { vec_len tickets.new ≤ most }
+{
+    let (rt, lock) = (turns.rt, turns.lock);
+    take_through(rt, lock, &mut turns.account, most, tickets);
 }
 
 /// Takes ready requests through this account.

@@ -2,13 +2,13 @@
 
 ghost use Rattle.std.specs.Prelude.{◌≡◌, length};
 
-use crate::account::{Account, HeldAccount};
+use crate::account::HeldAccount;
 use crate::looking::{CountsOp, LinkBusyOp, NextDueOp};
 use crate::operations::{AcceptOp, CancelOp, DestroyOp, TakeOp};
 use crate::place::Place;
 use crate::running::{ArriveOp, ExpireOp, FaultOp, SetServersOp, StartOp};
 use crate::state::ChannelLock;
-use crate::turns::turn_held;
+use crate::turns::{Turns, turn_held};
 use chan_types::{NoMemory, Spec, Ticket};
 use channel_journal::{ChannelJournal, KeptJournal};
 use channel_model::{Begun, Counts, Desk, Landed, Lapse, Refused, SetFault};
@@ -50,12 +50,8 @@ impl<'c, B: Done + Drop, R: Wait, J: ChannelJournal> HeldPlace<'c, B, R, J> {
     pub(crate) fn of(place: Place<'c, B, R, J>) -> HeldPlace<'c, B, R, J>
         ensures { result ≡ place.entry }
     {
-        let Place {
-            rt,
-            lock,
-            account,
-            hand,
-        } = place;
+        let Place { turns, hand } = place;
+        let Turns { rt, lock, account } = turns;
         HeldPlace {
             rt,
             lock,
@@ -74,12 +70,9 @@ impl<'c, B: Done + Drop, R: Wait, J: ChannelJournal> HeldPlace<'c, B, R, J> {
             account,
             hand,
         } = self;
-        Place {
-            rt,
-            lock,
-            account: account.release(),
-            hand,
-        }
+        let account = account.release();
+        let turns = Turns { rt, lock, account };
+        Place { turns, hand }
     }
 }
 

@@ -2,14 +2,13 @@
 
 ghost use Rattle.std.specs.Prelude.{◌≡◌, length};
 
-use crate::account::Account;
 use crate::held::HeldPlace;
 use crate::looking::{CountsOp, LinkBusyOp, NextDueOp};
 use crate::operations::{AcceptOp, CancelOp, DestroyOp, TakeOp};
 use crate::pass::Pass;
 use crate::running::{ArriveOp, ExpireOp, FaultOp, SetServersOp, StartOp};
 use crate::state::ChannelLock;
-use crate::turns::turn;
+use crate::turns::Turns;
 use chan_types::{NoMemory, Spec, Ticket};
 use channel_journal::{ChannelJournal, KeptJournal};
 use channel_model::{Begun, Counts, Desk, Landed, Lapse, Refused, SetFault};
@@ -21,11 +20,8 @@ use std::sync::Wait;
 /// A pass at its channel: a desk. Contracts see the pass.
 #[derive(Drop)]
 pub struct Place<'c, B: Done + Drop, R: Wait, J: ChannelJournal = KeptJournal> {
-    pub(crate) rt: &'c R,
-    pub(crate) lock: &'c ChannelLock<B, J>,
-    pub(crate) account: Account<B, J>,
+    pub(crate) turns: Turns<'c, B, R, J>,
     pub(crate) hand: Hand,
-    ghost here: { account.lock ≡ lock.now },
     ghost empty: { length hand.commands ≡ 0 },
 }
 
@@ -38,7 +34,7 @@ impl<'c, B: Done + Drop, R: Wait, J: ChannelJournal> Model for Place<'c, B, R, J
 
     ghost coded = { Prim.hlevel (codes, moves_code) };
 
-    ghost view = { λ place. place.account };
+    ghost view = { λ place. place.turns };
 }
 
 impl<'c, B: Done + Drop, R: Wait, J: ChannelJournal> Place<'c, B, R, J> {
@@ -48,19 +44,15 @@ impl<'c, B: Done + Drop, R: Wait, J: ChannelJournal> Place<'c, B, R, J> {
         ensures { result ≡ pass }
     {
         let Pass { account, hand } = pass;
-        Place {
-            rt,
-            lock,
-            account,
-            hand,
-        }
+        let turns = Turns { rt, lock, account };
+        Place { turns, hand }
     }
 
     /// The number of its pass.
     pub fn number(&self) -> u64
         ensures { result ≡ self.now.number }
     {
-        let account = &self.account;
+        let account = &self.turns.account;
         account.seat.number()
     }
 
@@ -68,7 +60,7 @@ impl<'c, B: Done + Drop, R: Wait, J: ChannelJournal> Place<'c, B, R, J> {
     pub fn lost(&self) -> u64
         ensures { result ≡ self.now.lost }
     {
-        let account = &self.account;
+        let account = &self.turns.account;
         account.lost
     }
 
@@ -83,7 +75,8 @@ impl<'c, B: Done + Drop, R: Wait, J: ChannelJournal> Place<'c, B, R, J> {
     pub fn leave(self) -> Pass<B, J>
         ensures { result ≡ self.entry }
     {
-        let Place { account, hand, .. } = self;
+        let Place { turns, hand } = self;
+        let Turns { account, .. } = turns;
         Pass { account, hand }
     }
 }
@@ -96,71 +89,54 @@ impl<'c, B: Done + Drop, R: Wait, J: ChannelJournal> Desk for Place<'c, B, R, J>
     ghost known = { λ place. desk_of place };
 
     fn accept(&mut self, spec: Spec, token: Callback<B>) -> Result<u64, Refused<Callback<B>>> {
-        let (rt, lock) = (self.rt, self.lock);
-        turn(rt, lock, &mut self.account, AcceptOp { by: 0, spec, token })
+        self.turns.turn(AcceptOp { by: 0, spec, token })
     }
 
     fn cancel(&mut self) -> u64 {
-        let (rt, lock) = (self.rt, self.lock);
-        turn(rt, lock, &mut self.account, CancelOp { by: 0 })
+        self.turns.turn(CancelOp { by: 0 })
     }
 
     fn destroy(&mut self) -> bool {
-        let (rt, lock) = (self.rt, self.lock);
-        turn(rt, lock, &mut self.account, DestroyOp { by: 0 })
+        self.turns.turn(DestroyOp { by: 0 })
     }
 
     fn take(&mut self) -> Option<Ticket<Callback<B>>> {
-        let (rt, lock) = (self.rt, self.lock);
-        turn(rt, lock, &mut self.account, TakeOp)
+        self.turns.turn(TakeOp)
     }
 
     fn start(&mut self, word: u16, mix: u16, at: u64) -> Result<Begun, NoMemory> {
-        let (rt, lock) = (self.rt, self.lock);
-        turn(rt, lock, &mut self.account, StartOp { word, mix, at })
+        self.turns.turn(StartOp { word, mix, at })
     }
 
     fn arrive(&mut self, server: u32, link: u64, bytes: &[u8]) -> Result<Landed, NoMemory> {
-        let (rt, lock) = (self.rt, self.lock);
-        turn(
-            rt,
-            lock,
-            &mut self.account,
-            ArriveOp {
-                server,
-                link,
-                bytes,
-            },
-        )
+        self.turns.turn(ArriveOp {
+            server,
+            link,
+            bytes,
+        })
     }
 
     fn expire(&mut self, at: u64) -> Result<Lapse, NoMemory> {
-        let (rt, lock) = (self.rt, self.lock);
-        turn(rt, lock, &mut self.account, ExpireOp { at })
+        self.turns.turn(ExpireOp { at })
     }
 
     fn fault(&mut self, server: u32, link: u64, at: u64) -> Result<u64, NoMemory> {
-        let (rt, lock) = (self.rt, self.lock);
-        turn(rt, lock, &mut self.account, FaultOp { server, link, at })
+        self.turns.turn(FaultOp { server, link, at })
     }
 
     fn next_due(&mut self) -> Option<u64> {
-        let (rt, lock) = (self.rt, self.lock);
-        turn(rt, lock, &mut self.account, NextDueOp)
+        self.turns.turn(NextDueOp)
     }
 
     fn counts(&mut self) -> Counts {
-        let (rt, lock) = (self.rt, self.lock);
-        turn(rt, lock, &mut self.account, CountsOp)
+        self.turns.turn(CountsOp)
     }
 
     fn link_busy(&mut self, server: u32, link: u64) -> bool {
-        let (rt, lock) = (self.rt, self.lock);
-        turn(rt, lock, &mut self.account, LinkBusyOp { server, link })
+        self.turns.turn(LinkBusyOp { server, link })
     }
 
     fn set_servers(&mut self, servers: &[ServerAddr]) -> Result<u64, SetFault> {
-        let (rt, lock) = (self.rt, self.lock);
-        turn(rt, lock, &mut self.account, SetServersOp { servers })
+        self.turns.turn(SetServersOp { servers })
     }
 }

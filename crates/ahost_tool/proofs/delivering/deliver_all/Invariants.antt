@@ -3,7 +3,7 @@ use Rattle.channel_model.specs.Journal.{past_of}
 use Rattle.completion_ticket.specs.States.{CalledState}
 use Rattle.ahost_tool.specs.Delivering.{DeliversSome, IsIdle}
 use Rattle.ahost_tool.specs.Returning.{KeepsPlaces}
-use Rattle.ahost_tool.specs.Weight.{weight}
+use Rattle.ticket_delivery.specs.Weight.{weight}
 use Rattle.ahost_tool.proofs.delivering.deliver_all.Given as goal
 
 -- what was ready so far was delivered, and bodies that were told are back

@@ -1,10 +1,10 @@
-use Rattle.std.proofs.Common.{Err, Ok, Some, ◌≡◌, ◌∙◌, sym, subst, true, false}
+use Rattle.std.proofs.Common.{Err, Ok, Some, ◌≡◌, ◌∙◌, subst, true, false}
 use Rattle.std.specs.FinMap as finite
 use Rattle.channel_model.specs.Known.{Calls}
 use Rattle.channel_model.specs.Meanings.{Accepts}
 use Rattle.channel_table.specs.Calling.{known_by_owner}
 use Rattle.completion_ticket.specs.States.{token_name}
-use Rattle.ahost_tool.specs.Delivering.{plan_of}
+use Rattle.ticket_delivery.specs.Performing.{plan_of}
 use Rattle.ahost_tool.proofs.AcceptLemmas.{accepts_one, asks_one, asks_refused, refused_body, refuses_one}
 use Rattle.ahost_tool.proofs.session.accept.Goals as goal
 

@@ -3,4 +3,4 @@ use Rattle.shared_channel.proofs.Telling.{calls_of_turn}
 use Rattle.shared_channel.proofs.place.PlaceDesk.counts.Goals as goal
 
 pub returns : goal.returns
-returns g c = rw (← c.self.view_is) (record { done = calls_of_turn TellsCounts 0 c.self.inside.account c.turn.new.account c.turn.result c.turn.ensures.turn })
+returns g c = rw (← c.self.view_is) (record { done = calls_of_turn TellsCounts 0 c.self.inside.turns c.turn.new.self c.turn.result c.turn.ensures })

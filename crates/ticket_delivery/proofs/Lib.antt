@@ -1,0 +1,5 @@
+mod WeightLemmas
+mod LaterLemmas
+mod PerformLemmas
+mod OwnerLemmas
+pub mod Theorems
