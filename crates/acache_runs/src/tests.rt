@@ -27,6 +27,10 @@ struct Case {
 const A_300: &[u8] =
     b"\x12\x34\x81\x80\0\x01\0\x01\0\0\0\0\x01a\x04test\0\0\x01\0\x01\xc0\x0c\0\x01\0\x01\0\0\x01\x2c\0\x04\xc0\0\x02\x01";
 
+/// The same, of ttl 1.
+const A_1: &[u8] =
+    b"\x12\x34\x81\x80\0\x01\0\x01\0\0\0\0\x01a\x04test\0\0\x01\0\x01\xc0\x0c\0\x01\0\x01\0\0\0\x01\0\x04\xc0\0\x02\x01";
+
 /// The same, of ttl 0.
 const A_0: &[u8] =
     b"\x12\x34\x81\x80\0\x01\0\x01\0\0\0\0\x01a\x04test\0\0\x01\0\x01\xc0\x0c\0\x01\0\x01\0\0\0\0\0\x04\xc0\0\x02\x01";
@@ -46,7 +50,7 @@ take 1
 destroy
 ";
 
-const CASES: [Case; 9] = [
+const CASES: [Case; 13] = [
     Case {
         shows: "the second of two is a hit",
         line: "--server 192.0.2.53 --room 1 a.test a.test",
@@ -258,6 +262,156 @@ destroy
         journal: "accept 1
 take 1
 destroy
+",
+    },
+    // It is kept at 5, for 1,000 milliseconds.
+    Case {
+        shows: "an answer is given one millisecond before its end",
+        line: "--server 192.0.2.53 --room 2 a.test b.test a.test",
+        comings: &[
+            Coming::Datagram {
+                from: 5,
+                server: 0,
+                bytes: A_1,
+            },
+            Coming::Datagram {
+                from: 1004,
+                server: 0,
+                bytes: B_300,
+            },
+        ],
+        fails: &[],
+        put_fails: &[],
+        turns: 100,
+        status: 0,
+        put: ";; sent
+;; a.test IN A
+;; status 0 SUCCESS
+;; id 4660 rcode 0 flags qr rd ra
+;; ANSWER
+a.test. 1 IN A 192.0.2.1
+;; sent
+;; b.test IN A
+;; status 0 SUCCESS
+;; id 4660 rcode 0 flags qr rd ra
+;; ANSWER
+b.test. 300 IN A 192.0.2.1
+;; hit
+;; a.test IN A
+;; status 0 SUCCESS
+;; id 4660 rcode 0 flags qr rd ra
+;; ANSWER
+a.test. 1 IN A 192.0.2.1
+",
+        journal: "accept 1
+start 1 on 0 over 0 at 0
+arrive from 0 over 0
+take 1
+accept 2
+start 2 on 0 over 0 at 5
+arrive from 0 over 0
+take 2
+destroy
+",
+    },
+    Case {
+        shows: "and not at its end",
+        line: "--server 192.0.2.53 --room 2 a.test b.test a.test",
+        comings: &[
+            Coming::Datagram {
+                from: 5,
+                server: 0,
+                bytes: A_1,
+            },
+            Coming::Datagram {
+                from: 1005,
+                server: 0,
+                bytes: B_300,
+            },
+            Coming::Datagram {
+                from: 1010,
+                server: 0,
+                bytes: A_300,
+            },
+        ],
+        fails: &[],
+        put_fails: &[],
+        turns: 100,
+        status: 0,
+        put: ";; sent
+;; a.test IN A
+;; status 0 SUCCESS
+;; id 4660 rcode 0 flags qr rd ra
+;; ANSWER
+a.test. 1 IN A 192.0.2.1
+;; sent
+;; b.test IN A
+;; status 0 SUCCESS
+;; id 4660 rcode 0 flags qr rd ra
+;; ANSWER
+b.test. 300 IN A 192.0.2.1
+;; sent
+;; a.test IN A
+;; status 0 SUCCESS
+;; id 4660 rcode 0 flags qr rd ra
+;; ANSWER
+a.test. 300 IN A 192.0.2.1
+",
+        journal: "accept 1
+start 1 on 0 over 0 at 0
+arrive from 0 over 0
+take 1
+accept 2
+start 2 on 0 over 0 at 5
+arrive from 0 over 0
+take 2
+accept 3
+start 3 on 0 over 0 at 1005
+arrive from 0 over 0
+take 3
+destroy
+",
+    },
+    // The wait is call 7, from 0: before it stand a serve, the clock for the name, and a turn's clock, receive, word, send, and
+    // the word for a further leg.
+    Case {
+        shows: "a failing wait is a fault",
+        line: "--server 192.0.2.53 --room 1 a.test",
+        comings: &[],
+        fails: &[7],
+        put_fails: &[],
+        turns: 100,
+        status: 6,
+        put: "acache: wait fault\n",
+        journal: "accept 1
+start 1 on 0 over 0 at 0
+destroy
+take 1
+",
+    },
+    // It is call 18: behind the first wait stand a turn's clock, its receives of the answer and of nothing, and its word; then
+    // the clock for the second name, and a turn for it as the first.
+    Case {
+        shows: "and so is one for the second name, of which the first isn't shown then",
+        line: "--server 192.0.2.53 --room 1 a.test b.test",
+        comings: &[Coming::Datagram {
+            from: 5,
+            server: 0,
+            bytes: A_300,
+        }],
+        fails: &[18],
+        put_fails: &[],
+        turns: 100,
+        status: 6,
+        put: "acache: wait fault\n",
+        journal: "accept 1
+start 1 on 0 over 0 at 0
+arrive from 0 over 0
+take 1
+accept 2
+start 2 on 0 over 0 at 5
+destroy
+take 2
 ",
     },
     Case {

@@ -24,6 +24,7 @@ use Rattle.net_world.specs.declared.log.WorldCall.{WorldCall}
 use Rattle.resolv_options.specs.Values.{OptionValues}
 use Rattle.channel_model.specs.Course.{serves_from}
 use Rattle.channel_model.specs.Servers.{keyed_from}
+use Rattle.channel_session.proofs.BegunLemmas.{begun_none}
 use Rattle.channel_session.specs.Sitting.{IsCount, StandsBehind, moment_of, reach_of}
 use Rattle.channel_table.specs.Calling.{Owned, known_by_owner}
 use Rattle.event_runner.proofs.Theorems.{runs_begin, told_as, told_by}
@@ -58,6 +59,8 @@ begins server turns options asker l m same alone calls left opens fresh unturned
         count = subst (λ b. IsCount b 0) (sym unturned.0) refl;
         reading = unturned.1 ∙ sym (ap (λ (r : Running). r.reading) fresh);
         runs = runs_begin longest_slice (reach_of asker.session.behind_turn) (known_by_owner (unused server)) asker.session.running l m refl (fresh ∙ ap new same) keys log;
+        begun = begun_none longest_slice (λ told. told ≡ serves_from 0 (options_for server).servers) (known_by_owner (unused server)) l m
+            (told_by (λ told. told ≡ serves_from 0 (options_for server).servers) (serves_from 0 (options_for server).servers) refl l m log);
       }),
       told_by (λ told. told ≡ serves_from 0 (options_for server).servers) (serves_from 0 (options_for server).servers) refl l m log,
     )
@@ -75,6 +78,7 @@ at_begin room server turns asker shown l m x cache text good =
         voice = refl;
         lawful = record { allowed = tt };
         plain = refl;
+        named = ([], refl);
         accepted_are = refl;
         taken_are = inl refl;
         called = refl;

@@ -1,20 +1,19 @@
 -- What bringing the channel to its next answer comes to, by what a session comes to.
-use Rattle.std.proofs.Common.{◌≡◌, ◌∙◌, ℕ, ◌+◌, ◌≤◌, List, [], ◌∷◌, ◌++◌, refl, ap, sym, subst, arith, inl, inr, ⊎_elim}
+use Rattle.std.proofs.Common.{◌≡◌, ◌∙◌, ℕ, ◌+◌, ◌≤◌, List, [], ◌∷◌, ◌++◌, refl, ap, sym, subst, arith, inl, inr}
 use Rattle.std.specs.Prelude.{Err, Ok, Option, Result, is_err, true}
 use Rattle.item_list.specs.declared.no_memory.NoMemory.{NoMemory}
 use Rattle.chan_types.specs.Plans.{Plan}
 use Rattle.chan_types.specs.declared.answer.Answer.{Answer}
 use Rattle.chan_types.specs.declared.ticket.Ticket.{Ticket}
 use Rattle.net_world.specs.declared.log.WorldCall.{WorldCall}
-use Rattle.channel_session.specs.Advancing.{Advances, ComesToRest}
+use Rattle.channel_session.specs.Advancing.{Advances}
 use Rattle.channel_session.specs.Progressing.{ComesBy}
 use Rattle.channel_session.specs.Sitting.{Sitting, moment_of, reach_of}
 use Rattle.channel_session.specs.declared.progress.Progress.{Progress}
-use Rattle.channel_session.specs.declared.progress.Progress.TheVariants.{Completed, Disturbed, Over, Stalled as HasStalled, WaitFault as WaitFailed}
+use Rattle.channel_session.specs.declared.progress.Progress.TheVariants.{Completed, Stalled as HasStalled, WaitFault as WaitFailed}
 use Rattle.channel_table.specs.Calling.{Owned, known_by_owner}
 use Rattle.event_runner.proofs.Theorems.{ran_at_most, ran_so_far}
-use Rattle.event_runner.specs.UnderWay.{rested}
-use Rattle.acache_tool.specs.Bringing.{Answers, Brings, CutShort, RanOn}
+use Rattle.acache_tool.specs.Bringing.{Answers, Brings, RanOn}
 use Rattle.acache_tool.specs.Told.{longest_slice}
 use Rattle.acache_tool.specs.declared.asking.Asker.{Asker}
 use Rattle.acache_tool.specs.declared.asking.Brought.{Brought}
@@ -32,12 +31,6 @@ module _ {T : Type 0} (plan : T → Plan) (name : T → ℕ) (f g : ℕ) (a b : 
       let stands = x.stands began turns asides here in
       ran_at_most longest_slice (turns + made) (turns + left_old) asides (known_by_owner b) began m (omega (arith, few))
       (ran_so_far longest_slice (turns + made) asides began m (reach_of t.behind_turn) (known_by_owner b) t.running stands.runs)
-
-  ran_rested : (made : ℕ) → made ≤ left_old → ComesToRest made (moment_of (known_by_owner a) s l) (moment_of (known_by_owner b) t m) →
-      (after : List Answer) → RanOn left_old (asker_of s a calls left_old) (asker_of t b after left_new) l m
-  ran_rested made few x after began turns asides here =
-      ran_at_most longest_slice (turns + made) (turns + left_old) asides (known_by_owner b) began m (omega (arith, few))
-      (ran_so_far longest_slice (turns + made) asides began m rested (known_by_owner b) t.running (x.rests began turns asides here))
 
   abbrev Came : Result (Progress T) NoMemory → Type 0
   Came result = ComesBy plan name left_old left_new f g result (moment_of (known_by_owner a) s l) (moment_of (known_by_owner b) t m)
@@ -63,7 +56,7 @@ module _ {T : Type 0} (plan : T → Plan) (name : T → ℕ) (f g : ℕ) (a b : 
     record { grows = grows_on [] a b came.2.0.goes_on came.2.0.own came.2.0.takes; called = refl },
     came.2.2,
     came.2.1,
-    (came.0, came.1, came.2.0.rests),
+    (came.0, came.1, λ began turns asides here. (came.2.0.rests began turns asides here, came.2.0.begun began turns asides here)),
   )
 
   pub brings_stalled : Came (Ok HasStalled) → Brings (Ok Stalled) f g (asker_of s a calls left_old) (asker_of t b calls left_new) l m
@@ -74,26 +67,9 @@ module _ {T : Type 0} (plan : T → Plan) (name : T → ℕ) (f g : ℕ) (a b : 
         record { grows = grows_on [] a b came.2.0.goes_on came.2.0.own came.2.0.takes; called = refl },
         came.2.1,
         left_pending a b came.2.2,
+        stood.grows,
         stood.stands,
       )
-
-  pub brings_over : Came (Ok Over) → CutShort (asker_of s a calls left_old) (asker_of t b calls left_new) l m
-  brings_over came = (
-    inl (record { grows = grows_on [] a b came.2.0.goes_on came.2.0.own came.2.0.takes; called = refl }),
-    ran_stood came.0 [] (omega (arith, came.1)) came.2.0 calls,
-  )
-
-  pub brings_disturbed : Came (Ok Disturbed) → CutShort (asker_of s a calls left_old) (asker_of t b calls left_new) l m
-  brings_disturbed came = ⊎_elim
-      (λ (x : Advances came.0 [] _ _). (
-        inl (record { grows = grows_on [] a b x.goes_on x.own x.takes; called = refl }),
-        ran_stood came.0 [] (omega (arith, came.1)) x calls,
-      ))
-      (λ (x : ComesToRest came.0 _ _). (
-        inl (record { grows = grows_on [] a b x.goes_on x.own x.takes; called = refl }),
-        ran_rested came.0 (omega (arith, came.1)) x calls,
-      ))
-      came.2.0
 
   -- want of memory came to the session, or behind an answer
   pub brings_cut : (fault : NoMemory) (result : Result Brought NoMemory) → is_err result ≡ true → Came (Err fault) → Brings result f g (asker_of s a calls left_old) (asker_of t b calls left_new) l m

@@ -1,5 +1,5 @@
 -- A name that isn't brought to its answer: what is left, and where the run stands.
-use Rattle.std.proofs.Common.{◌≡◌, ◌∙◌, ℕ, ◌+◌, ◌≤◌, List, [], ◌∷◌, ◌++◌, length, ap, sym, subst, arith, ⊎_elim, append_assoc}
+use Rattle.std.proofs.Common.{◌≡◌, ◌∙◌, ℕ, ◌+◌, ◌≤◌, List, [], ◌∷◌, ◌++◌, length, refl, ap, sym, subst, arith, ⊎_elim, append_assoc}
 use Rattle.std.specs.Prelude.{None, Option, Some, ⊤}
 use Rattle.std.proofs.lemmas.List.{append-nil}
 use Rattle.chan_types.specs.declared.answer.Answer.{Answer}
@@ -14,14 +14,15 @@ use Rattle.channel_session.specs.Advancing.{LogGrows}
 use Rattle.channel_session.specs.Progressing.{EndsWithWait}
 use Rattle.channel_session.specs.Sitting.{Sitting, StandsBehind, moment_of, reach_of}
 use Rattle.channel_table.specs.Calling.{Owned, known_by_owner}
-use Rattle.event_runner.proofs.Theorems.{ran_at_most, ran_so_far, told_by, told_trans}
+use Rattle.net_world.specs.Logs.{LogGets}
+use Rattle.event_runner.proofs.Theorems.{ran_at_most, ran_so_far, told_as, told_by, told_trans}
 use Rattle.event_runner.specs.UnderWay.{RanSince}
 use Rattle.tool_line.specs.Words.{Text}
 use Rattle.acache_tool.specs.Bringing.{Answers, AnswersNone}
 use Rattle.acache_tool.specs.Leaving.{EndsCut, EndsStalled, EndsUnwaited, IsAt, Leaves, numbers_of}
 use Rattle.acache_tool.specs.Naming.{IsAsked, IsStalled, IsUnanswered, IsUnasked, IsUnread, IsUnwaited, Reads, Scene, with_channel}
 use Rattle.acache_tool.specs.Parts.{Open, Part, requests_of}
-use Rattle.acache_tool.specs.Told.{AreTold, longest_slice}
+use Rattle.acache_tool.specs.Told.{AreTold, AreToldThen, longest_slice}
 use Rattle.acache_tool.proofs.NameLemmas.{leaves_answered, leaves_asked, leaves_on, may_ask}
 
 -- a run that stands somewhere may have been cut short there, at the latest in so many turns
@@ -63,6 +64,21 @@ module _ (room : ℕ) (setting : Setting) (turns : ℕ) (parts : List Part) (beg
     here : StandsBehind x.made (length parts + 1) began (moment_of (known_by_owner a.asker.alone) a.asker.session log)
     here = reads.reads.1 (known_by_owner a.asker.alone) began x.made (length parts) x.behind
 
+    -- the calls of the names before it, and behind them those for this one
+    told_then : LogGrows log b.log → LogGets (AreToldThen setting parts o) began b.log
+    told_then grows =
+        told_trans (λ cs. (front : List WorldCall) × AreTold setting parts front × (cs ≡ front ++ Now at ∷ [])) (λ ds. ⊤) (AreToldThen setting parts o)
+        (λ cs ds told any. record {
+          front = told.0;
+          behind = ds;
+          calls_are = ap (λ l. l ++ ds) told.2 ∙ append_assoc told.0 (Now at ∷ []) ds;
+          told = told.1;
+        })
+        began log b.log
+        (told_trans (AreTold setting parts) (λ ds. ds ≡ Now at ∷ []) (λ cs. (front : List WorldCall) × AreTold setting parts front × (cs ≡ front ++ Now at ∷ []))
+        (λ cs ds told is. (cs, told, ap (λ l. cs ++ l) is)) began a.log log x.told (told_by (λ ds. ds ≡ Now at ∷ []) (Now at ∷ []) refl a.log log reads.reads.0))
+        grows
+
     -- or before the name was asked for
     pub left_unasked : IsUnasked a b log → Leaves room setting parts None b.asker.alone b.asker.calls × EndsCut turns (length parts + 1) began b
     left_unasked unasked =
@@ -94,27 +110,30 @@ module _ (room : ℕ) (setting : Setting) (turns : ℕ) (parts : List Part) (beg
           (leaves_answered room setting parts o channel b.asker.alone a.asker.calls answer taken_mid mid one.grows one.its_fate).0
 
     -- a wait failed
-    pub left_unwaited : (f g : ℕ) → IsUnwaited f g name at a b log → Leaves room setting parts (Some o) b.asker.alone b.asker.calls × EndsUnwaited turns (length parts + 1) began b × Rose f g
+    pub left_unwaited : (f g : ℕ) → IsUnwaited f g name at a b log → Leaves room setting parts (Some o) b.asker.alone b.asker.calls × EndsUnwaited setting turns parts o began b × Rose f g
     left_unwaited f g is = (
       none_more is.channel is.asked is.brings.0,
       record {
         made = x.made + is.brings.3.0;
         count = omega (arith, x.count, is.brings.3.1);
-        runs = is.brings.3.2 began x.made (length parts + 1) (mid_stands is.channel is.asked);
+        runs = (is.brings.3.2 began x.made (length parts + 1) (mid_stands is.channel is.asked)).0;
+        begun = (is.brings.3.2 began x.made (length parts + 1) (mid_stands is.channel is.asked)).1;
         last = ends_behind began log b.log
             (told_trans (AreTold setting parts) (λ ds. ⊤) (λ ds. ⊤) (λ cs ds p q. tt) began a.log log x.told (told_by (λ ds. ⊤) (Now at ∷ []) tt a.log log reads.reads.0)) is.brings.2;
+        told = told_then (told_as IsLastWait (λ ds. ⊤) (λ ds last. tt) log b.log is.brings.2);
       },
       is.brings.1,
     )
 
     -- no turn was left
-    pub left_stalled : (f g : ℕ) → IsStalled f g name at a b log → Leaves room setting parts (Some o) b.asker.alone b.asker.calls × EndsStalled turns (length parts + 1) began b
+    pub left_stalled : (f g : ℕ) → IsStalled f g name at a b log → Leaves room setting parts (Some o) b.asker.alone b.asker.calls × EndsStalled setting turns parts o began b
     left_stalled f g is =
         let all : x.made + a.asker.left ≡ turns = x.count in (
           none_more is.channel is.asked is.brings.0,
           record {
             behind = subst (λ n. StandsBehind n (length parts + 1) began (moment_of (known_by_owner b.asker.alone) b.asker.session b.log)) all
-                (is.brings.3 began x.made (length parts + 1) (mid_stands is.channel is.asked));
+                (is.brings.4 began x.made (length parts + 1) (mid_stands is.channel is.asked));
+            told = told_then is.brings.3;
             some_pending = is.brings.2;
           },
         )

@@ -1,6 +1,7 @@
 mod RequestLemmas
 mod OwnerLemmas
 mod BringLemmas
+mod IdleLemmas
 mod NameLemmas
 mod SceneLemmas
 mod EndLemmas
@@ -9,5 +10,7 @@ mod CloseLemmas
 mod AskLemmas
 mod ClosedLemmas
 mod BeginLemmas
+mod FateLemmas
+mod TimeLemmas
 mod PromiseLemmas
 mod WordLemmas

@@ -42,13 +42,6 @@ brought_more names name f g from a b tries so_far room setting turns began start
     (λ sent. (part_sent room setting turns x.0 began a b name tries.0 tries.1 x.2 tries.2 f g sent ∷ x.0, ap (λ l. l ++ name ∷ []) x.1, at_sent room setting turns x.0 began a b name tries.0 tries.1 x.2 tries.2 f g sent))
     tries.3
 
--- the owner speaks for nobody
-pub voice_kept : (name : Text) (f g : ℕ) (a b : Scene) → Tries (Ok Completed) f g name a b → a.asker.alone.voice ≡ 0 → b.asker.alone.voice ≡ 0
-voice_kept name f g a b tries silent = ⊎_elim
-    (λ hit. ap (λ asker. asker.alone.voice) hit.asker ∙ silent)
-    (λ sent. sent.brings.0.grows.voice ∙ sent.asked.asks.0.voice ∙ silent)
-    tries.3
-
 module _ (names all : List Text) (name : Text) (from a b : Scene) (so_far : Brought names from a) (front : IsPrefix (names ++ name ∷ []) all) (room : ℕ) (setting : Setting) (turns : ℕ) (began : Option (List WorldCall)) (start : IsAt room setting turns [] began from) where
   x : (parts : List Part) × (names_of parts ≡ names) × IsAt room setting turns parts began a
   x = so_far room setting turns began start

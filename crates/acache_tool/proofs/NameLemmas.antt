@@ -8,6 +8,7 @@ use Rattle.std.proofs.lemmas.List.Folds.{list_all-append}
 use Rattle.chan_types.specs.declared.answer.Answer.{Answer}
 use Rattle.chan_types.specs.declared.journal.Entry.{Entry}
 use Rattle.dns_message.specs.declared.message.Question.{Question}
+use mathlib.Core.List.{IsPrefix}
 use Rattle.channel_model.specs.Completion.{fate, requests, taken}
 use Rattle.channel_model.specs.Journal.{Accepted, Past, accepted, followed_by, past_of}
 use Rattle.channel_model.specs.Lawful.{IsLawful}
@@ -19,15 +20,15 @@ use Rattle.query_cache.specs.Recency.{LeadTo}
 use Rattle.tool_line.specs.Words.{Text}
 use Rattle.acache_tool.specs.Growing.{AreCalled, Grows, IsFate, is_plain}
 use Rattle.acache_tool.specs.Leaving.{Leaves, numbers_of}
-use Rattle.acache_tool.specs.Parts.{IsMissed, MayAsk, Open, Part, answers_of, cache_calls, most_seconds, open_requests, question_of, request_for, requests_of}
+use Rattle.acache_tool.specs.Parts.{IsMissed, MayAsk, Open, Part, answers_of, cache_calls, journal_of, most_seconds, open_requests, question_of, request_for, requests_of}
 use Rattle.acache_tool.proofs.RequestLemmas.{fate_later, past_on, takes_last}
 
 -- ---- answers that were called for
 
-heads : {A : Type 0} (x y : A) (xs ys : List A) → x ∷ xs ≡ y ∷ ys → x ≡ y
+pub heads : {A : Type 0} (x y : A) (xs ys : List A) → x ∷ xs ≡ y ∷ ys → x ≡ y
 heads x y xs ys e = cc
 
-tails : {A : Type 0} (x y : A) (xs ys : List A) → x ∷ xs ≡ y ∷ ys → xs ≡ ys
+pub tails : {A : Type 0} (x y : A) (xs ys : List A) → x ∷ xs ≡ y ∷ ys → xs ≡ ys
 tails x y xs ys e = cc
 
 -- they stay fates where the journal goes on
@@ -73,6 +74,11 @@ plain_on accepts takes a b grows plain =
     ap (list_all is_plain) grows.seen ∙ list_all-append is_plain a.seen grows.entries
     ∙ and_from (list_all is_plain a.seen) (list_all is_plain grows.entries) plain grows.plain
 
+-- the entries of the names that were brought to their answers stand first
+named_on : (accepts : List Accepted) (takes : List ℕ) (parts : List Part) (a b : Owned) → Grows accepts takes a b → IsPrefix (journal_of parts) a.seen → IsPrefix (journal_of parts) b.seen
+named_on accepts takes parts a b grows named =
+    (named.0 ++ grows.entries, sym (append_assoc (journal_of parts) named.0 grows.entries) ∙ ap (λ l. l ++ grows.entries) named.1 ∙ sym grows.seen)
+
 -- the setting, and so lawfulness
 lawful_on : (accepts : List Accepted) (takes : List ℕ) (a b : Owned) → Grows accepts takes a b → IsLawful a.setting a.seen → IsLawful b.setting b.seen
 lawful_on accepts takes a b grows lawful = grows.lawful lawful
@@ -89,6 +95,7 @@ module _ (room : ℕ) (setting : Setting) (parts : List Part) where
         voice = grows.voice ∙ x.voice;
         lawful = lawful_on [] [] a b grows x.lawful;
         plain = plain_on [] [] a b grows x.plain;
+        named = named_on [] [] parts a b grows x.named;
         accepted_are = grows.accepts_are ∙ append-nil (accepted (past_of a.seen)) ∙ x.accepted_are;
         taken_are = ⊎_elim (λ is. inl (taken_same ∙ is)) (λ is. inr (taken_same ∙ is)) x.taken_are;
         called = called_on [] a b calls grows x.called;
@@ -109,6 +116,7 @@ module _ (room : ℕ) (setting : Setting) (parts : List Part) where
         voice = grows.voice ∙ x.voice;
         lawful = lawful_on (request_for (length (accepted (past_of a.seen)) + 1) name ∷ []) [] a b grows x.lawful;
         plain = plain_on (request_for (length (accepted (past_of a.seen)) + 1) name ∷ []) [] a b grows x.plain;
+        named = named_on (request_for (length (accepted (past_of a.seen)) + 1) name ∷ []) [] parts a b grows x.named;
         accepted_are = grows.accepts_are ∙ ap (λ rs. rs ++ request_for (length rs + 1) name ∷ []) asked;
         taken_are = inl (taken_same ∙ all);
         called = called_on (request_for (length (accepted (past_of a.seen)) + 1) name ∷ []) a b calls grows x.called;
@@ -141,6 +149,7 @@ module _ (room : ℕ) (setting : Setting) (parts : List Part) where
           voice = grows.voice ∙ x.voice;
           lawful = grows.lawful x.lawful;
           plain = plain_on [] (answer.number ∷ []) a b grows x.plain;
+          named = named_on [] (answer.number ∷ []) parts a b grows x.named;
           accepted_are = grows.accepts_are ∙ append-nil (accepted (past_of a.seen)) ∙ x.accepted_are;
           taken_are = inr took;
           called = called_then a b calls answer grows fated x.called;

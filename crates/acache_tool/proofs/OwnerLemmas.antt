@@ -19,6 +19,7 @@ use Rattle.channel_model.specs.Meanings.{Accepts, Meaning, Takes}
 use Rattle.channel_model.specs.Seen.{entries_of}
 use Rattle.channel_model.specs.declared.answers.Refused.{Refused}
 use Rattle.channel_model.specs.Turn.{parts_of_entry}
+use Rattle.channel_session.proofs.BegunLemmas.{begun_behind}
 use Rattle.channel_session.specs.Advancing.{AreOfSession, is_of_session, taken_in}
 use Rattle.channel_session.specs.Progressing.{IsLeftOver}
 use Rattle.channel_session.specs.Sitting.{IsCount, reach_of}
@@ -120,6 +121,7 @@ stands_still a b goes none session log began turns asides here = record {
   reading = here.reading;
   runs = runs_behind longest_slice turns asides began log (reach_of session.behind_turn) (known_by_owner a) (known_by_owner b) session.running goes
       (ap has_no_turn (owner_went_on a b goes) ∙ none) (may session.behind_turn here.count) here.runs;
+  begun = begun_behind longest_slice turns (known_by_owner a) (known_by_owner b) goes began log here.begun;
 }
   where
     may : (behind : Bool) → IsCount behind turns → MayStand turns (reach_of behind) 0 goes.since

@@ -1,18 +1,22 @@
 -- The promise of a run, from what its names came to, its closing, and the text that was put.
-use Rattle.std.proofs.Common.{◌≡◌, ◌∙◌, ℕ, ◌+◌, Bool, true, false, List, [], ◌∷◌, ◌++◌, length, refl, ap, sym, subst, arith, inl, inr}
+use Rattle.std.proofs.Common.{◌≡◌, ◌∙◌, ℕ, ◌+◌, ◌≤◌, Bool, true, false, List, [], ◌∷◌, ◌++◌, length, refl, ap, sym, subst, arith, inl, inr}
 use Rattle.std.specs.Prelude.{Err, None, Ok, Option, Result, Some, option_map}
 use Rattle.std.proofs.lemmas.List.{append-nil}
 use mathlib.Core.List.{IsPrefix}
 use Rattle.chan_types.specs.declared.answer.Answer.{Answer}
 use Rattle.item_list.specs.declared.no_memory.NoMemory.{NoMemory}
 use Rattle.net_world.specs.Logs.{LogGets}
+use Rattle.net_world.specs.declared.answers.Waited.TheVariants.{Failed as NotWaited}
 use Rattle.net_world.specs.declared.log.WorldCall.{WorldCall}
+use Rattle.net_world.specs.declared.log.WorldCall.TheVariants.{Wait}
 use Rattle.channel_model.proofs.Theorems.{course_agrees}
 use Rattle.channel_model.specs.Completion.{pending, ready, requests, taken}
 use Rattle.channel_model.specs.Course.{IsCourse, IsCourseSoFar, serves_from}
 use Rattle.channel_model.specs.Journal.{past_of}
 use Rattle.channel_model.specs.Setting.{Setting}
 use Rattle.channel_table.specs.Calling.{Owned, known_by_owner}
+use Rattle.channel_session.proofs.BegunLemmas.{begins_behind}
+use Rattle.channel_session.specs.Beginning.{AreBegun, BeginsPending}
 use Rattle.event_runner.proofs.Theorems.{course_then, so_far_then, told_as, told_both, told_by}
 use Rattle.event_runner.specs.State.{IsTurnOwner}
 use Rattle.event_runner.specs.UnderWay.{IsSoFar, IsUnderWay}
@@ -25,17 +29,22 @@ use Rattle.tool_line.specs.declared.ending.Exit.{Exit}
 use Rattle.tool_line.specs.declared.ending.Exit.TheVariants.{Failure, OutOfMemory, Stalled as HasStalled, Success, WaitFault as FailedWait}
 use Rattle.acache_tool.specs.Asked.{Asked, setting_for}
 use Rattle.acache_tool.specs.Closing.{Closes, closing, end_by}
+use Rattle.acache_tool.specs.Completing.{IsComplete, IsGivenTime}
+use Rattle.acache_tool.specs.Fates.{HaveFates}
 use Rattle.acache_tool.specs.Leaving.{AreGoodParts, AsksAll, IsAt, Leaves, numbers_of}
 use Rattle.acache_tool.specs.Naming.{Scene}
 use Rattle.acache_tool.specs.Output.{text_at}
-use Rattle.acache_tool.specs.Parts.{Open, Part, names_of, page, requests_of}
+use Rattle.acache_tool.specs.Parts.{Open, Part, journal_of, names_of, page, requests_of}
 use Rattle.acache_tool.specs.Promise.{IsClosed, IsPageEnd, IsTraffic, Promise}
+use Rattle.net_world.specs.Cause.{Rose}
 use Rattle.net_addr.specs.declared.addr.Addr.{Addr}
 use Rattle.acache_tool.specs.Running.{IsRun}
-use Rattle.acache_tool.specs.Told.{AreTold, longest_slice}
+use Rattle.acache_tool.specs.Told.{AreTold, AreToldThen, longest_slice}
 use Rattle.acache_tool.proofs.ClosedLemmas.{IsDone, is_done}
+use Rattle.acache_tool.proofs.FateLemmas.{all_fates}
 use Rattle.acache_tool.proofs.RequestLemmas.{none_left}
 use Rattle.acache_tool.proofs.SceneLemmas.{owner_alone}
+use Rattle.acache_tool.proofs.TimeLemmas.{not_last, not_stalled, page_complete}
 
 abbrev pub outside_of : Option (List WorldCall) → ℕ → OutputTold → Outside
 outside_of log faults output = record { network = record { log = log; wait_faults = faults }; output = output }
@@ -60,17 +69,34 @@ module _ (room : ℕ) (setting : Setting) (turns : ℕ) (parts : List Part) (las
   owner : IsTurnOwner (known_by_owner a)
   owner = owner_alone a.seen x.plain
 
+  -- where its first turn began
+  begun_closed : (calls : List WorldCall) (made : ℕ) → AreBegun longest_slice made (known_by_owner a) calls → 1 ≤ made → BeginsPending setting 0 longest_slice c.seen calls
+  begun_closed calls made begun some =
+      subst (λ s. BeginsPending s 0 longest_slice c.seen calls) x.setting_is
+      (subst (λ journal. BeginsPending a.setting 0 longest_slice journal calls) (sym d.journal_is)
+      (begins_behind a.setting 0 longest_slice a.seen (closing ∷ d.later) calls (begun some)))
+
+  -- whose answers its names have
+  fates_at : HaveFates setting c.seen parts
+  fates_at = all_fates setting c.seen room parts last calls_c x.right d.asked_are d.called_once d.answers
+
   -- the closing of a run that came to this end
-  closed_at : (end : Exit) → (IsPageEnd end → (pending setting (past_of a.seen) ≡ []) × (ready setting (past_of a.seen) ≡ [])) → (end ≡ HasStalled → ¬ (pending setting (past_of a.seen) ≡ [])) → IsClosed setting end c.seen
-  closed_at end finished stalled = record {
+  closed_at : (end : Exit) → (IsPageEnd end → a.seen ≡ journal_of parts) → (IsPageEnd end → (pending setting (past_of a.seen) ≡ []) × (ready setting (past_of a.seen) ≡ [])) → (end ≡ HasStalled → ¬ (pending setting (past_of a.seen) ≡ [])) → IsClosed setting end parts c.seen
+  closed_at end names finished stalled = record {
     earlier = a.seen;
     later = d.later;
-    parts = d.journal_is;
+    journal_is = d.journal_is;
     plain = x.plain;
+    by_names = x.named;
+    no_others = names;
     taken_behind = d.taken_behind;
     finished = finished;
     stalled = stalled;
   }
+
+-- the last of these calls is a wait that failed
+abbrev IsLastWait : List WorldCall → Type 0
+IsLastWait calls = (earlier : List WorldCall) × (until : ℕ) × (calls ≡ earlier ++ Wait until NotWaited ∷ [])
 
 -- ends that aren't another
 not_page_wait : IsPageEnd FailedWait → ⊥
@@ -89,6 +115,10 @@ module _ (asked : Asked) (turns : ℕ) (f0 f : ℕ) (l0 : Option (List WorldCall
   abbrev setting : Setting
   setting = setting_for asked.server
 
+  -- where it is given time, its page is put
+  abbrev Completes : List Part → List WorldCall → Type 0
+  Completes parts cs = IsGivenTime setting turns (length asked.names) c.seen cs → ¬ Rose out0.faults out1.faults → IsComplete asked.names parts status out0 out1
+
   abbrev Promised : Type 0
   Promised = Promise asked turns (ended_of status c calls) (outside_of l0 f0 out0) (outside_of scene.log f out1)
 
@@ -104,12 +134,14 @@ module _ (asked : Asked) (turns : ℕ) (f0 f : ℕ) (l0 : Option (List WorldCall
         subst (λ s. (pending s (past_of scene.asker.alone.seen) ≡ []) × (ready s (past_of scene.asker.alone.seen) ≡ [])) x.leaves.setting_is
         (none_left scene.asker.alone.setting (past_of scene.asker.alone.seen) x.leaves.lawful.allowed all)
 
-    traffic_page : (end : Exit) → IsPageEnd end → LogGets (IsTraffic setting turns end parts c.seen) l0 scene.log
+    traffic_page : (end : Exit) → IsPageEnd end → LogGets (IsTraffic setting turns end parts None c.seen) l0 scene.log
     traffic_page end page_end =
         let Way : List WorldCall → Type 0 = λ calls. IsTurnOwner (known_by_owner scene.asker.alone) → IsUnderWay longest_slice x.made (length parts) _ (known_by_owner scene.asker.alone) scene.asker.session.running calls in
-        told_as (λ cs. AreTold setting parts cs × Way cs) (IsTraffic setting turns end parts c.seen)
+        let Begun : List WorldCall → Type 0 = λ calls. IsTurnOwner (known_by_owner scene.asker.alone) → AreBegun longest_slice x.made (known_by_owner scene.asker.alone) calls in
+        told_as (λ cs. AreTold setting parts cs × (Way cs × Begun cs)) (IsTraffic setting turns end parts None c.seen)
         (λ cs both.
-        let course = course_closed asked.room setting turns parts None scene.asker.alone c scene.asker.calls calls x.leaves done cs x.made (length parts) (both.1 (owner asked.room setting turns parts None scene.asker.alone c scene.asker.calls calls x.leaves done)).course in
+        let alone = owner asked.room setting turns parts None scene.asker.alone c scene.asker.calls calls x.leaves done in
+        let course = course_closed asked.room setting turns parts None scene.asker.alone c scene.asker.calls calls x.leaves done cs x.made (length parts) (both.1.0 alone).course in
         record {
           made = x.made;
           few = omega (arith, x.count);
@@ -118,12 +150,14 @@ module _ (asked : Asked) (turns : ℕ) (f0 f : ℕ) (l0 : Option (List WorldCall
           once_more = omega arith;
           course = λ e. course;
           course_so_far = inl course;
+          begins = λ e. begun_closed asked.room setting turns parts None scene.asker.alone c scene.asker.calls calls x.leaves done cs x.made (both.1.1 alone);
           agrees = λ e. course_agrees setting 0 longest_slice c.seen cs x.made (length parts) course;
           told = λ e. both.0;
+          told_then = λ e. tt;
           last_wait = λ e. absurd (not_page_wait (subst IsPageEnd e page_end));
           all_turns = λ e. absurd (not_page_stalled (subst IsPageEnd e page_end));
         })
-        l0 scene.log (told_both (AreTold setting parts) Way l0 scene.log x.told x.behind.runs)
+        l0 scene.log (told_both (AreTold setting parts) (λ cs. Way cs × Begun cs) l0 scene.log x.told (told_both Way Begun l0 scene.log x.behind.runs x.behind.begun))
 
     promise_page : (end : Exit) → IsPageEnd end → (end ≡ Success → AreGoodParts parts) → (end ≡ Failure → ¬ AreGoodParts parts) → IsPut (text_at (page parts) end) end status out0 out1 → Promised
     promise_page end page_end good bad put = record {
@@ -140,11 +174,13 @@ module _ (asked : Asked) (turns : ℕ) (f0 f : ℕ) (l0 : Option (List WorldCall
       called_once = done.called_once;
       answers = done.answers;
       all_taken = done.all_taken;
-      closed = closed_at asked.room setting turns parts None scene.asker.alone c scene.asker.calls calls x.leaves done end (λ e. over) (λ e. absurd (not_page_stalled (subst IsPageEnd e page_end)));
+      closed = closed_at asked.room setting turns parts None scene.asker.alone c scene.asker.calls calls x.leaves done end (λ e. x.journal_is) (λ e. over) (λ e. absurd (not_page_stalled (subst IsPageEnd e page_end)));
+      fates = fates_at asked.room setting turns parts None scene.asker.alone c scene.asker.calls calls x.leaves done;
       success = good;
       failure = bad;
       wait_fault = λ e. absurd (not_page_wait (subst IsPageEnd e page_end));
       traffic = traffic_page end page_end;
+      completes = told_as (AreTold setting parts) (Completes parts) (λ cs told time quiet. page_complete asked.names parts end status out0 out1 page_end names put quiet) l0 scene.log x.told;
       put = put;
     }
 
@@ -163,6 +199,7 @@ module _ (asked : Asked) (turns : ℕ) (f0 f : ℕ) (l0 : Option (List WorldCall
       let ends = x.4 in
       let done = is_done asked.room setting parts (Some x.1) scene.asker.alone c scene.asker.calls calls leaves closes in
       let Way : List WorldCall → Type 0 = λ cs. IsTurnOwner (known_by_owner scene.asker.alone) → IsUnderWay longest_slice ends.made (length parts + 1) _ (known_by_owner scene.asker.alone) scene.asker.session.running cs in
+      let Begun : List WorldCall → Type 0 = λ cs. IsTurnOwner (known_by_owner scene.asker.alone) → AreBegun longest_slice ends.made (known_by_owner scene.asker.alone) cs in
       record {
         end = FailedWait;
         ends = inr (inl refl);
@@ -177,13 +214,15 @@ module _ (asked : Asked) (turns : ℕ) (f0 f : ℕ) (l0 : Option (List WorldCall
         called_once = done.called_once;
         answers = done.answers;
         all_taken = done.all_taken;
-        closed = closed_at asked.room setting turns parts (Some x.1) scene.asker.alone c scene.asker.calls calls leaves done FailedWait (λ e. absurd (not_page_wait e)) (λ e. absurd (cc e));
+        closed = closed_at asked.room setting turns parts (Some x.1) scene.asker.alone c scene.asker.calls calls leaves done FailedWait (λ e. absurd (not_page_wait e)) (λ e. absurd (not_page_wait e)) (λ e. absurd (cc e));
+        fates = fates_at asked.room setting turns parts (Some x.1) scene.asker.alone c scene.asker.calls calls leaves done;
         success = λ e. absurd (cc e);
         failure = λ e. absurd (cc e);
         wait_fault = λ e. x.5;
-        traffic = told_as (λ cs. ((earlier : List WorldCall) × (until : ℕ) × (cs ≡ _)) × Way cs) (IsTraffic setting turns FailedWait parts c.seen)
+        traffic = told_as (λ cs. AreToldThen setting parts x.1 cs × (IsLastWait cs × (Way cs × Begun cs))) (IsTraffic setting turns FailedWait parts (Some x.1) c.seen)
             (λ cs both.
-            let course = course_closed asked.room setting turns parts (Some x.1) scene.asker.alone c scene.asker.calls calls leaves done cs ends.made (length parts + 1) (both.1 (owner asked.room setting turns parts (Some x.1) scene.asker.alone c scene.asker.calls calls leaves done)).course in
+            let alone = owner asked.room setting turns parts (Some x.1) scene.asker.alone c scene.asker.calls calls leaves done in
+            let course = course_closed asked.room setting turns parts (Some x.1) scene.asker.alone c scene.asker.calls calls leaves done cs ends.made (length parts + 1) (both.1.1.0 alone).course in
             record {
               made = ends.made;
               few = omega (arith, ends.count);
@@ -192,12 +231,17 @@ module _ (asked : Asked) (turns : ℕ) (f0 f : ℕ) (l0 : Option (List WorldCall
               once_more = omega arith;
               course = λ e. course;
               course_so_far = inl course;
+              begins = λ e. begun_closed asked.room setting turns parts (Some x.1) scene.asker.alone c scene.asker.calls calls leaves done cs ends.made (both.1.1.1 alone);
               agrees = λ e. course_agrees setting 0 longest_slice c.seen cs ends.made (length parts + 1) course;
               told = λ e. absurd (not_page_wait e);
-              last_wait = λ e. both.0;
+              told_then = λ e. both.0;
+              last_wait = λ e. both.1.0;
               all_turns = λ e. absurd (cc e);
             })
-            l0 scene.log (told_both _ Way l0 scene.log ends.last ends.runs);
+            l0 scene.log
+            (told_both (AreToldThen setting parts x.1) (λ cs. IsLastWait cs × (Way cs × Begun cs)) l0 scene.log ends.told
+            (told_both IsLastWait (λ cs. Way cs × Begun cs) l0 scene.log ends.last (told_both Way Begun l0 scene.log ends.runs ends.begun)));
+        completes = told_as IsLastWait (Completes parts) (λ cs last time quiet. absurd (not_last cs setting turns (length asked.names) c.seen last time)) l0 scene.log ends.last;
         put = put;
       }
 
@@ -208,6 +252,9 @@ module _ (asked : Asked) (turns : ℕ) (f0 f : ℕ) (l0 : Option (List WorldCall
       let leaves = x.3 in
       let ends = x.4 in
       let done = is_done asked.room setting parts (Some x.1) scene.asker.alone c scene.asker.calls calls leaves closes in
+      let alone = owner asked.room setting turns parts (Some x.1) scene.asker.alone c scene.asker.calls calls leaves done in
+      let Way : List WorldCall → Type 0 = λ cs. IsTurnOwner (known_by_owner scene.asker.alone) → IsUnderWay longest_slice turns (length parts + 1) _ (known_by_owner scene.asker.alone) scene.asker.session.running cs in
+      let Begun : List WorldCall → Type 0 = λ cs. IsTurnOwner (known_by_owner scene.asker.alone) → AreBegun longest_slice turns (known_by_owner scene.asker.alone) cs in
       record {
         end = HasStalled;
         ends = inr (inr (inl refl));
@@ -222,14 +269,15 @@ module _ (asked : Asked) (turns : ℕ) (f0 f : ℕ) (l0 : Option (List WorldCall
         called_once = done.called_once;
         answers = done.answers;
         all_taken = done.all_taken;
-        closed = closed_at asked.room setting turns parts (Some x.1) scene.asker.alone c scene.asker.calls calls leaves done HasStalled (λ e. absurd (not_page_stalled e))
+        closed = closed_at asked.room setting turns parts (Some x.1) scene.asker.alone c scene.asker.calls calls leaves done HasStalled (λ e. absurd (not_page_stalled e)) (λ e. absurd (not_page_stalled e))
             (λ e none. ends.some_pending (ap (λ s. pending s (past_of scene.asker.alone.seen)) leaves.setting_is ∙ none));
+        fates = fates_at asked.room setting turns parts (Some x.1) scene.asker.alone c scene.asker.calls calls leaves done;
         success = λ e. absurd (cc e);
         failure = λ e. absurd (cc e);
         wait_fault = λ e. absurd (cc e);
-        traffic = told_as (λ cs. IsTurnOwner (known_by_owner scene.asker.alone) → IsUnderWay longest_slice turns (length parts + 1) _ (known_by_owner scene.asker.alone) scene.asker.session.running cs) (IsTraffic setting turns HasStalled parts c.seen)
-            (λ cs way.
-            let course = course_closed asked.room setting turns parts (Some x.1) scene.asker.alone c scene.asker.calls calls leaves done cs turns (length parts + 1) (way (owner asked.room setting turns parts (Some x.1) scene.asker.alone c scene.asker.calls calls leaves done)).course in
+        traffic = told_as (λ cs. AreToldThen setting parts x.1 cs × (Way cs × Begun cs)) (IsTraffic setting turns HasStalled parts (Some x.1) c.seen)
+            (λ cs both.
+            let course = course_closed asked.room setting turns parts (Some x.1) scene.asker.alone c scene.asker.calls calls leaves done cs turns (length parts + 1) (both.1.0 alone).course in
             record {
               made = turns;
               few = omega arith;
@@ -238,11 +286,18 @@ module _ (asked : Asked) (turns : ℕ) (f0 f : ℕ) (l0 : Option (List WorldCall
               once_more = omega arith;
               course = λ e. course;
               course_so_far = inl course;
+              begins = λ e. begun_closed asked.room setting turns parts (Some x.1) scene.asker.alone c scene.asker.calls calls leaves done cs turns (both.1.1 alone);
               agrees = λ e. course_agrees setting 0 longest_slice c.seen cs turns (length parts + 1) course;
               told = λ e. absurd (not_page_stalled e);
+              told_then = λ e. both.0;
               last_wait = λ e. absurd (cc e);
               all_turns = λ e. refl;
             })
+            l0 scene.log (told_both (AreToldThen setting parts x.1) (λ cs. Way cs × Begun cs) l0 scene.log ends.told (told_both Way Begun l0 scene.log ends.behind.runs ends.behind.begun));
+        completes = told_as Way (Completes parts)
+            (λ cs way time quiet.
+            absurd (not_stalled asked.server turns asked.names parts x.1 scene.asker.alone (closing ∷ done.later) leaves.setting_is leaves.plain leaves.accepted_are x.2 ends.some_pending leaves.lawful cs (length parts + 1)
+            (way alone).course (subst (λ journal. IsGivenTime setting turns (length asked.names) journal cs) done.journal_is time)))
             l0 scene.log ends.behind.runs;
         put = put;
       }
@@ -268,11 +323,12 @@ module _ (asked : Asked) (turns : ℕ) (f0 f : ℕ) (l0 : Option (List WorldCall
         called_once = done.called_once;
         answers = done.answers;
         all_taken = done.all_taken;
-        closed = closed_at asked.room setting turns parts x.1 scene.asker.alone c scene.asker.calls calls leaves done OutOfMemory (λ e. absurd (not_page_memory e)) (λ e. absurd (cc e));
+        closed = closed_at asked.room setting turns parts x.1 scene.asker.alone c scene.asker.calls calls leaves done OutOfMemory (λ e. absurd (not_page_memory e)) (λ e. absurd (not_page_memory e)) (λ e. absurd (cc e));
+        fates = fates_at asked.room setting turns parts x.1 scene.asker.alone c scene.asker.calls calls leaves done;
         success = λ e. absurd (cc e);
         failure = λ e. absurd (cc e);
         wait_fault = λ e. absurd (cc e);
-        traffic = told_as (λ cs. IsTurnOwner (known_by_owner scene.asker.alone) → IsSoFar longest_slice turns ends.asides (known_by_owner scene.asker.alone) cs) (IsTraffic setting turns OutOfMemory parts c.seen)
+        traffic = told_as (λ cs. IsTurnOwner (known_by_owner scene.asker.alone) → IsSoFar longest_slice turns ends.asides (known_by_owner scene.asker.alone) cs) (IsTraffic setting turns OutOfMemory parts x.1 c.seen)
             (λ cs far.
             let so_far = far (owner asked.room setting turns parts x.1 scene.asker.alone c scene.asker.calls calls leaves done) in
             record {
@@ -283,12 +339,15 @@ module _ (asked : Asked) (turns : ℕ) (f0 f : ℕ) (l0 : Option (List WorldCall
               once_more = ends.few;
               course = λ e. absurd (e refl);
               course_so_far = so_far_closed asked.room setting turns parts x.1 scene.asker.alone c scene.asker.calls calls leaves done cs so_far.0 ends.asides so_far.2;
+              begins = λ e. absurd (e refl);
               agrees = λ e. absurd (e refl);
               told = λ e. absurd (not_page_memory e);
+              told_then = λ e. absurd (e refl);
               last_wait = λ e. absurd (cc e);
               all_turns = λ e. absurd (cc e);
             })
             l0 scene.log ends.ran;
+        completes = told_as _ (Completes parts) (λ cs far time quiet. inr put.told.0) l0 scene.log ends.ran;
         put = put;
       }
 

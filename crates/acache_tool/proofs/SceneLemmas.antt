@@ -90,6 +90,7 @@ module _ (room : ℕ) (setting : Setting) (turns : ℕ) (parts : List Part) (beg
       voice = x.leaves.voice;
       lawful = x.leaves.lawful;
       plain = x.leaves.plain;
+      named = subst (λ l. IsPrefix l a.asker.alone.seen) (sym (append-nil (journal_of parts))) x.leaves.named;
       accepted_are = x.leaves.accepted_are ∙ sym (append-nil (requests_of parts ++ []));
       taken_are = inl (x.taken_are ∙ ap numbers_of (sym (append-nil (requests_of parts))));
       called = x.leaves.called;
@@ -178,6 +179,7 @@ module _ (room : ℕ) (setting : Setting) (turns : ℕ) (parts : List Part) (beg
       voice = answered.0.voice;
       lawful = answered.0.lawful;
       plain = answered.0.plain;
+      named = ([], append-nil (journal_of (part_sent ∷ parts)) ∙ sym journal_sent);
       accepted_are = answered.0.accepted_are ∙ sym (append-nil (requests_of (part_sent ∷ parts)));
       taken_are = inl answered.1;
       called = subst (λ l. AreCalled b.asker.alone l) (sym sent.brings.0.called) answered.0.called;

@@ -7,6 +7,7 @@ use Rattle.net_world.specs.declared.log.WorldCall.{WorldCall}
 use Rattle.channel_model.specs.Completion.{pending}
 use Rattle.channel_model.specs.Journal.{accepted, past_of}
 use Rattle.channel_session.specs.Advancing.{LogGrows}
+use Rattle.channel_session.specs.Beginning.{BegunSince}
 use Rattle.channel_session.specs.Progressing.{EndsWithWait}
 use Rattle.channel_session.specs.Sitting.{Sitting, StandsBehind, moment_of}
 use Rattle.channel_table.specs.Calling.{Owned, known_by_owner}
@@ -42,6 +43,7 @@ abbrev pub RestsOn : ℕ → Asker → Asker → Option (List WorldCall) → Opt
 RestsOn made old new log_old log_new =
     (began : Option (List WorldCall)) (turns asides : ℕ) → StandsBehind turns asides began (moment_of (known_by_owner old.alone) old.session log_old) →
     RunsSince longest_slice (turns + made) asides rested (known_by_owner new.alone) new.session.running began log_new
+    × BegunSince longest_slice (turns + made) (known_by_owner new.alone) began log_new
 
 -- or it may have been cut short, at the latest in so many turns more
 abbrev pub RanOn : ℕ → Asker → Asker → Option (List WorldCall) → Option (List WorldCall) → Type 0
@@ -71,5 +73,5 @@ Brings (Ok (Answered answer)) faults_old faults_new old new log_old log_new =
 Brings (Ok WaitFault) faults_old faults_new old new log_old log_new =
     AnswersNone old new × Rose faults_old faults_new × EndsWithWait log_old log_new × ((made : ℕ) × (made + new.left ≡ old.left) × RestsOn made old new log_old log_new)
 Brings (Ok Stalled) faults_old faults_new old new log_old log_new =
-    AnswersNone old new × (new.left ≡ 0) × (pending new.alone.setting (past_of new.alone.seen) ≢ []) × StandsOn old.left old new log_old log_new
+    AnswersNone old new × (new.left ≡ 0) × (pending new.alone.setting (past_of new.alone.seen) ≢ []) × LogGrows log_old log_new × StandsOn old.left old new log_old log_new
 Brings (Err fault) faults_old faults_new old new log_old log_new = CutShort old new log_old log_new

@@ -1,11 +1,11 @@
 -- How the channel of a run goes on.
 use Rattle.std.specs.List.{list_all}
-use Rattle.std.specs.Prelude.{Bool, IsTrue, List, Some, [], false, map, true, ℕ, ◌&&◌, ◌++◌, ◌==◌, ◌≡◌}
+use Rattle.std.specs.Prelude.{Bool, IsTrue, List, Some, [], false, map, true, ℕ, ◌&&◌, ◌++◌, ◌==◌, ◌∷◌, ◌≡◌}
 use Rattle.chan_types.specs.declared.answer.Answer.{Answer}
 use Rattle.chan_types.specs.declared.journal.Entry.{Entry}
 use Rattle.chan_types.specs.declared.journal.What.{What}
 use Rattle.chan_types.specs.declared.journal.What.TheVariants.{Accept, Arrive, Cancel, Destroy, Expire, Fault, Servers, Start, Take}
-use Rattle.channel_model.specs.Completion.{fate, pending, ready, taken}
+use Rattle.channel_model.specs.Completion.{fate, pending, ready, requests, taken}
 use Rattle.channel_model.specs.Journal.{Accepted, accepted, past_of}
 use Rattle.channel_model.specs.Lawful.{IsLawful}
 use Rattle.channel_table.specs.Calling.{Owned}
@@ -36,6 +36,18 @@ pub record Grows (accepts : List Accepted) (takes : List ℕ) (old new : Owned) 
   pub plain : IsTrue (list_all is_plain entries)
   pub accepts_are : accepted (past_of new.seen) ≡ accepted (past_of old.seen) ++ accepts
   pub takes_are : taken (past_of new.seen) ≡ taken (past_of old.seen) ++ takes
+
+-- no callback's command is being performed, the journal is lawful, and each accepted request was taken
+pub record IsIdle (channel : Owned) : Type 0 where
+  pub silent : channel.voice ≡ 0
+  pub lawful : IsLawful channel.setting channel.seen
+  pub all_taken : requests (past_of channel.seen) ≡ taken (past_of channel.seen)
+
+-- the journal is lawful, and each accepted request was taken but for the last one
+pub record HasOpen (channel : Owned) : Type 0 where
+  pub lawful : IsLawful channel.setting channel.seen
+  pub last : ℕ
+  pub but_last : requests (past_of channel.seen) ≡ taken (past_of channel.seen) ++ last ∷ []
 
 -- nothing is pending and nothing ready
 abbrev pub IsOver : Owned → Type 0

@@ -12,6 +12,7 @@ use Rattle.channel_model.specs.Completion.{pending, taken}
 use Rattle.channel_model.specs.Journal.{Accepted, accepted, past_of}
 use Rattle.channel_model.specs.Lawful.{IsLawful}
 use Rattle.channel_model.specs.Setting.{Setting}
+use Rattle.channel_session.specs.Beginning.{BegunSince}
 use Rattle.channel_session.specs.Progressing.{EndsWithWait}
 use Rattle.channel_session.specs.Sitting.{StandsBehind, moment_of}
 use Rattle.channel_table.specs.Calling.{Owned, known_by_owner}
@@ -23,7 +24,7 @@ use Rattle.tool_line.specs.Words.{Text}
 use Rattle.acache_tool.specs.Growing.{AreCalled, is_plain}
 use Rattle.acache_tool.specs.Naming.{Scene}
 use Rattle.acache_tool.specs.Parts.{AreRight, MayAsk, Open, Part, answers_of, cache_calls, journal_of, most_seconds, names_of, open_names, open_requests, page, requests_of}
-use Rattle.acache_tool.specs.Told.{AreTold, longest_slice}
+use Rattle.acache_tool.specs.Told.{AreTold, AreToldThen, longest_slice}
 
 -- the numbers of these requests
 abbrev pub numbers_of : List Accepted → List ℕ
@@ -41,6 +42,8 @@ pub record Leaves (room : ℕ) (setting : Setting) (parts : List Part) (last : O
   pub voice : channel.voice ≡ 0
   pub lawful : IsLawful channel.setting channel.seen
   pub plain : IsTrue (list_all is_plain channel.seen)
+  -- the entries of those that were brought to their answers stand first, one name's behind the other's
+  pub named : IsPrefix (journal_of parts) channel.seen
   pub accepted_are : accepted (past_of channel.seen) ≡ requests_of parts ++ open_requests parts last
   -- those that were brought to their answers were taken, and perhaps the last one
   pub taken_are : (taken (past_of channel.seen) ≡ numbers_of (requests_of parts)) ⊎ (taken (past_of channel.seen) ≡ numbers_of (requests_of parts ++ open_requests parts last))
@@ -63,16 +66,19 @@ pub record IsAt (room : ℕ) (setting : Setting) (turns : ℕ) (parts : List Par
   pub behind : StandsBehind made (length parts) began (moment_of (known_by_owner scene.asker.alone) scene.asker.session scene.log)
   pub told : LogGets (AreTold setting parts) began scene.log
 
--- a wait failed, and is the last call; so many turns were made before it
-pub record EndsUnwaited (turns asides : ℕ) (began : Option (List WorldCall)) (scene : Scene) : Type 0 where
+-- a wait failed for this name behind these, and is the last call; so many turns were made before it
+pub record EndsUnwaited (setting : Setting) (turns : ℕ) (parts : List Part) (name : Open) (began : Option (List WorldCall)) (scene : Scene) : Type 0 where
   pub made : ℕ
   pub count : made + scene.asker.left ≡ turns
-  pub runs : RunsSince longest_slice made asides rested (known_by_owner scene.asker.alone) scene.asker.session.running began scene.log
+  pub runs : RunsSince longest_slice made (length parts + 1) rested (known_by_owner scene.asker.alone) scene.asker.session.running began scene.log
+  pub begun : BegunSince longest_slice made (known_by_owner scene.asker.alone) began scene.log
   pub last : EndsWithWait began scene.log
+  pub told : LogGets (AreToldThen setting parts name) began scene.log
 
--- all turns were made, and a request is pending
-pub record EndsStalled (turns asides : ℕ) (began : Option (List WorldCall)) (scene : Scene) : Type 0 where
-  pub behind : StandsBehind turns asides began (moment_of (known_by_owner scene.asker.alone) scene.asker.session scene.log)
+-- all turns were made, and the request for this name behind these is pending
+pub record EndsStalled (setting : Setting) (turns : ℕ) (parts : List Part) (name : Open) (began : Option (List WorldCall)) (scene : Scene) : Type 0 where
+  pub behind : StandsBehind turns (length parts + 1) began (moment_of (known_by_owner scene.asker.alone) scene.asker.session scene.log)
+  pub told : LogGets (AreToldThen setting parts name) began scene.log
   pub some_pending : pending scene.asker.alone.setting (past_of scene.asker.alone.seen) ≢ []
 
 -- memory was wanting: journal and calls may have been cut short
@@ -87,10 +93,10 @@ AsksAll (Ok Completed) room setting turns names began faults_old faults_new scen
     (parts : List Part) × (names_of parts ≡ names) × IsAt room setting turns parts began scene
 AsksAll (Ok WaitFault) room setting turns names began faults_old faults_new scene =
     (parts : List Part) × (last : Open) × IsPrefix (names_of parts ++ last.name ∷ []) names × Leaves room setting parts (Some last) scene.asker.alone scene.asker.calls
-    × EndsUnwaited turns (length parts + 1) began scene × Rose faults_old faults_new
+    × EndsUnwaited setting turns parts last began scene × Rose faults_old faults_new
 AsksAll (Ok Stalled) room setting turns names began faults_old faults_new scene =
     (parts : List Part) × (last : Open) × IsPrefix (names_of parts ++ last.name ∷ []) names × Leaves room setting parts (Some last) scene.asker.alone scene.asker.calls
-    × EndsStalled turns (length parts + 1) began scene
+    × EndsStalled setting turns parts last began scene
 AsksAll (Err fault) room setting turns names began faults_old faults_new scene =
     (parts : List Part) × (last : Option Open) × IsPrefix (names_of parts ++ open_names last) names × Leaves room setting parts last scene.asker.alone scene.asker.calls
     × EndsCut turns (length parts + 1) began scene

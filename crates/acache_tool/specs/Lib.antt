@@ -8,5 +8,7 @@ pub mod Shown
 pub mod Naming
 pub mod Leaving
 pub mod Closing
+pub mod Fates
+pub mod Completing
 pub mod Promise
 pub mod Running

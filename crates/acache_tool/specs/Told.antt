@@ -6,7 +6,7 @@ use Rattle.net_world.specs.declared.log.WorldCall.TheVariants.{Now}
 use Rattle.resolv_options.specs.Lasts.{last_or}
 use Rattle.channel_model.specs.Course.{IsCourse, serves_from}
 use Rattle.channel_model.specs.Setting.{Setting}
-use Rattle.acache_tool.specs.Parts.{Part, journal_of}
+use Rattle.acache_tool.specs.Parts.{Open, Part, journal_of}
 
 -- a wait between two turns may last as long as nothing is due
 abbrev pub longest_slice : ℕ
@@ -48,3 +48,10 @@ pub record AreTold (setting : Setting) (parts : List Part) (calls : List WorldCa
   pub pieces : List (List WorldCall)
   pub calls_are : calls ≡ calls_with (serves_from 0 setting.options.servers) pieces
   pub told : AreToldBy setting parts pieces
+
+-- and then, for a name that was asked for and hasn't its answer, its calls, which begin with the reading of the clock for it
+pub record AreToldThen (setting : Setting) (parts : List Part) (last : Open) (calls : List WorldCall) : Type 0 where
+  pub front : List WorldCall
+  pub behind : List WorldCall
+  pub calls_are : calls ≡ front ++ Now last.at ∷ behind
+  pub told : AreTold setting parts front

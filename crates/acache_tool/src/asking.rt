@@ -5,6 +5,7 @@ ghost use Rattle.net_world.specs.declared.log.WorldCall.{WorldCall};
 ghost use Rattle.channel_model.specs.Setting.{Setting};
 ghost use Rattle.channel_session.specs.Sitting.{ReadsClock};
 ghost use Rattle.acache_tool.specs.Bringing.{AsksFor, Brings};
+ghost use Rattle.acache_tool.specs.Growing.{HasOpen, IsIdle};
 ghost use Rattle.acache_tool.specs.Leaving.{AsksAll, IsAt};
 ghost use Rattle.acache_tool.specs.Naming.{IsMiss, Sends, Tries, scene_of};
 ghost use Rattle.acache_tool.specs.Parts as meaning;
@@ -54,6 +55,7 @@ fn accept(alloc: Global, alone: &mut Alone<Quiet>, name: &str) -> Result<(), NoM
 
 /// Makes turns until a request has its answer, and calls for it.
 fn bring<W: World>(alloc: Global, asker: &mut Asker, world: &mut W) -> Result<Brought, NoMemory>
+    requires asked { HasOpen asker.old.alone }
     ensures brings { Brings result (W.wait_faults world.old) (W.wait_faults world.new) asker.old asker.new
         (W.log world.old) (W.log world.new) }
     ensures waits { W.wait_faults world.old ≤ W.wait_faults world.new }
@@ -71,9 +73,9 @@ fn bring<W: World>(alloc: Global, asker: &mut Asker, world: &mut W) -> Result<Br
         }
         Progress::WaitFault => Ok(Brought::WaitFault),
         Progress::Stalled => Ok(Brought::Stalled),
-        // Neither comes: a request was accepted, and nobody else uses the channel.
-        Progress::Over => Err(NoMemory),
-        Progress::Disturbed => Err(NoMemory),
+        // A request is open, and nobody else uses the channel.
+        Progress::Over => unreachable!(),
+        Progress::Disturbed => unreachable!(),
     }
 }
 
@@ -87,7 +89,7 @@ fn send<W: World>(
     name: &str,
     question: Option<&Question>,
 ) -> Result<LoopEnd, NoMemory>
-    requires silent { asker.old.alone.voice ≡ 0 }
+    requires idle { IsIdle asker.old.alone }
     requires is_name { option_copied question ≡ meaning.question_of name.now }
     ensures sends { (at : ℕ) → IsMiss name.now at shown.old
         → Sends result (W.wait_faults world.old) (W.wait_faults world.new) name.now at
@@ -116,7 +118,7 @@ fn ask_one<W: World>(
     world: &mut W,
     name: &str,
 ) -> Result<LoopEnd, NoMemory>
-    requires silent { asker.old.alone.voice ≡ 0 }
+    requires idle { IsIdle asker.old.alone }
     ensures tries { Tries result (W.wait_faults world.old) (W.wait_faults world.new) name.now
         (scene_of asker.old shown.old (W.log world.old)) (scene_of asker.new shown.new (W.log world.new)) }
     ensures waits { W.wait_faults world.old ≤ W.wait_faults world.new }
@@ -139,7 +141,7 @@ fn ask_by_cache<W: World>(
     question: &Question,
     at: u64,
 ) -> Result<LoopEnd, NoMemory>
-    requires silent { asker.old.alone.voice ≡ 0 }
+    requires idle { IsIdle asker.old.alone }
     requires is_name { meaning.question_of name.now ≡ Some question.now }
     ensures tries { (log : Option (List WorldCall)) → ReadsClock (Ok at) asker.old.session log (W.log world.old)
         → Tries result (W.wait_faults world.old) (W.wait_faults world.new) name.now
@@ -162,7 +164,7 @@ pub(crate) fn ask_all<W: World>(
     world: &mut W,
     names: &[&str],
 ) -> Result<LoopEnd, NoMemory>
-    requires silent { asker.old.alone.voice ≡ 0 }
+    requires idle { IsIdle asker.old.alone }
     ensures asks { (room : ℕ) (setting : Setting) (turns : ℕ) (began : Option (List WorldCall))
         → IsAt room setting turns [] began (scene_of asker.old shown.old (W.log world.old))
         → AsksAll result room setting turns (map (λ name. name.now) names.now) began

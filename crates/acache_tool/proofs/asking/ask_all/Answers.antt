@@ -1,17 +1,18 @@
 use Rattle.std.proofs.Common.{ap, arith, map, refl, sym, ◌∙◌}
 use Rattle.std.proofs.lemmas.List.{take_all}
-use Rattle.acache_tool.proofs.LoopLemmas.{asks_err, asks_stalled, asks_wait, brought_as, brought_more, brought_none, names_front, names_more, voice_kept}
+use Rattle.acache_tool.proofs.LoopLemmas.{asks_err, asks_stalled, asks_wait, brought_as, brought_more, brought_none, names_front, names_more}
+use Rattle.acache_tool.proofs.IdleLemmas.{idle_kept}
 use Rattle.acache_tool.proofs.asking.ask_all.Goals as goal
 
 pub loop-name-init : goal.loop-name-init
-loop-name-init g c = record { brought = brought_none _; silent = c.requires.silent; waits = omega arith; origin = refl }
+loop-name-init g c = record { brought = brought_none _; idle = c.requires.idle; waits = omega arith; origin = refl }
 
 pub loop-name-preserved : goal.loop-name-preserved
 loop-name-preserved g c =
     let tries = rw c.in-Completed.is at c.in_ok-ask_one.ensures.tries in
     record {
       brought = brought_as _ _ _ _ (sym (names_more (λ name. name.now) _ _ _ c.loop-name-test.true)) (brought_more _ _ _ _ _ _ _ tries c.loop-name.invariant.brought);
-      silent = voice_kept _ _ _ _ _ tries c.loop-name.invariant.silent;
+      idle = idle_kept _ _ _ _ _ tries c.loop-name.invariant.idle;
       waits = omega (arith, c.loop-name.invariant.waits, c.ask_one.ensures.waits);
       origin = c.ask_one.ensures.origin ∙ c.loop-name.invariant.origin;
     }

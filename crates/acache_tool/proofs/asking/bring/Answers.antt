@@ -1,6 +1,7 @@
 use Rattle.std.proofs.Common.{ap, ◌∙◌}
 use Rattle.chan_types.specs.Plans.{blank}
-use Rattle.acache_tool.proofs.BringLemmas.{brings_answer, brings_cut, brings_disturbed, brings_over, brings_stalled, brings_uncopied, brings_wait_fault}
+use Rattle.acache_tool.proofs.BringLemmas.{brings_answer, brings_cut, brings_stalled, brings_uncopied, brings_wait_fault}
+use Rattle.acache_tool.proofs.IdleLemmas.{not_disturbed, not_over}
 use Rattle.acache_tool.proofs.asking.bring.Goals as goal
 
 pub returns-in_err-ticket-clause-brings : goal.returns-in_err-ticket-clause-brings
@@ -30,12 +31,12 @@ returns-in-Stalled-clause-brings g c =
     brings_stalled {T = Unit {0}} (λ quiet. blank 0) (λ quiet. 0) (g.W.World.wait_faults c.args.world.now) (g.W.World.wait_faults c.next_within.new.world) c.args.asker.now.alone c.next_within.new.desk c.args.asker.now.session c.next_within.new.self c.args.asker.now.calls c.args.asker.now.left c.next_within.new.left (g.W.World.log c.args.world.now) (g.W.World.log c.next_within.new.world)
     (rw c.in-Stalled.is at c.in_ok-ticket.ensures.comes_by)
 
-pub returns-in-Over-clause-brings : goal.returns-in-Over-clause-brings
-returns-in-Over-clause-brings g c =
-    brings_over {T = Unit {0}} (λ quiet. blank 0) (λ quiet. 0) (g.W.World.wait_faults c.args.world.now) (g.W.World.wait_faults c.next_within.new.world) c.args.asker.now.alone c.next_within.new.desk c.args.asker.now.session c.next_within.new.self c.args.asker.now.calls c.args.asker.now.left c.next_within.new.left (g.W.World.log c.args.world.now) (g.W.World.log c.next_within.new.world)
-    (rw c.in-Over.is at c.in_ok-ticket.ensures.comes_by)
+pub unreachable-requires : goal.unreachable-requires
+unreachable-requires g c =
+    let came = rw c.in-Over.is at c.in_ok-ticket.ensures.comes_by in
+    absurd (not_over c.args.asker.now.alone c.next_within.new.desk came.0 c.args.asker.now.session c.next_within.new.self (g.W.World.log c.args.world.now) (g.W.World.log c.next_within.new.world) c.requires.asked came.2.0 came.2.1)
 
-pub returns-in-Disturbed-clause-brings : goal.returns-in-Disturbed-clause-brings
-returns-in-Disturbed-clause-brings g c =
-    brings_disturbed {T = Unit {0}} (λ quiet. blank 0) (λ quiet. 0) (g.W.World.wait_faults c.args.world.now) (g.W.World.wait_faults c.next_within.new.world) c.args.asker.now.alone c.next_within.new.desk c.args.asker.now.session c.next_within.new.self c.args.asker.now.calls c.args.asker.now.left c.next_within.new.left (g.W.World.log c.args.world.now) (g.W.World.log c.next_within.new.world)
-    (rw c.in-Disturbed.is at c.in_ok-ticket.ensures.comes_by)
+pub unreachable-requires-in-Disturbed : goal.unreachable-requires-in-Disturbed
+unreachable-requires-in-Disturbed g c =
+    let came = rw c.in-Disturbed.is at c.in_ok-ticket.ensures.comes_by in
+    absurd (not_disturbed c.args.asker.now.alone c.next_within.new.desk came.2.1)

@@ -1,6 +1,10 @@
 use Rattle.acache_tool.specs.Naming.{scene_of}
 use Rattle.acache_tool.proofs.AskLemmas.{sends_cut, sends_unshown, shows_as}
+use Rattle.acache_tool.proofs.IdleLemmas.{open_asked}
 use Rattle.acache_tool.proofs.asking.send.Goals as goal
+
+pub bring-requires : goal.bring-requires
+bring-requires g c = record { asked = open_asked c.args.name.now c.args.asker.now.alone c.accept.new.alone c.requires.idle c.in_ok-accept.ensures.asks }
 
 pub returns-in_err-answer-clause-sends : goal.returns-in_err-answer-clause-sends
 returns-in_err-answer-clause-sends g c = λ at missed.
