@@ -1,0 +1,5 @@
+pub mod ListLemmas
+pub mod CourseLemmas
+pub mod FirstLemmas
+pub mod EndLemmas
+pub mod ClosingLemmas

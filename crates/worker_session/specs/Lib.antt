@@ -1,0 +1,4 @@
+pub mod Turning
+pub mod Setting
+pub mod Standing
+pub mod Stepping
