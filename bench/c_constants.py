@@ -1,5 +1,5 @@
 #!/usr/bin/env python3
-"""Compares include/dachumvi.h with the sources and the definitions: the numbers of answers, statuses and families, the fields of the
+"""Compares include/dachumvi.h with the sources and the definitions: the numbers of answers, statuses, families and kinds, the fields of the
 structs with their types and order, and each call with its parameters. Prints what differs, and ends with 1 where something does."""
 import re, sys
 from pathlib import Path
@@ -26,7 +26,11 @@ def snake(name):
 
 
 # answers: the constants of the calls, and the numbers of the faults of making
-answers = {name: int(number) for name, number in re.findall(r'^const (\w+): u32 = (\d+);', (boxed / 'src/state.rt').read_text(), re.M)}
+answers = {}
+for source in (boxed / 'src/state.rt', top / 'crates/channel_c/src/answers.rt'):
+    for name, number in re.findall(r'^(?:pub )?const (\w+): u32 = (\d+);', source.read_text(), re.M):
+        if answers.setdefault(name, int(number)) != int(number):
+            differences.append(f'{name} has two numbers')
 faults = re.findall(r'Err\(MakeFault::(\w+)\) => (\d+),', (top / 'crates/channel_c/src/making.rt').read_text())
 for name, number in faults:
     if answers.setdefault(snake(name), int(number)) != int(number):
@@ -37,6 +41,9 @@ differs('answers', numbers('answer'), answers)
 told = (types_crate / 'specs/Told.antt').read_text()
 state = (boxed / 'specs/State.antt').read_text()
 texts_told = (top / 'crates/channel_c/specs/Texts.antt').read_text()
+yes_or_no = (top / 'crates/channel_c/specs/Told.antt').read_text()
+on_word = (top / 'crates/channel_word/specs/Calls.antt').read_text()
+making = (top / 'crates/channel_c/src/making.rt').read_text()
 names = [('refusal.Closed', 'CLOSED'), ('Err wanted', 'NO_MEMORY'), ('Ok NoId', 'NO_ID'), ('Ok Idle', 'NOTHING'), ('Ok Stray', 'NOTHING'),
          ('Ok NotDue', 'NOTHING'), ('Some None', 'NOTHING'), ('Ok ', 'DONE'), ('Some at', 'DONE'), ('token = tt; call = taken', 'DONE')]
 rows = [(next(name for word, name in names if word in what), number)
@@ -51,6 +58,11 @@ rows += [('DONE', number) for number in re.findall(r'answer == (\d+)\) \(AreRead
 rows += [('NO_MEMORY', number) for number in re.findall(r'answer == (\d+)\) \(length resolv ≤ 65536\)', texts_told)]
 rows += [('LARGE_RESOLV', number) for number in re.findall(r'answer == (\d+)\) \(65536 < length resolv\)', texts_told)]
 rows += [('LARGE_HOSTS', number) for number in re.findall(r'answer ≡ (\d+)\) × \(length resolv ≤ 65536\) × \(4194304 < length hosts\)', texts_told)]
+rows += [(name, number) for of, names in (('busy', ('DONE', 'NOTHING')), ('first', ('DONE', 'CLOSED')))
+         for name, number in zip(names, re.findall(r'answer == (\d+)', re.search(r'^%s_told answer = (.*)$' % of, yes_or_no, re.M).group(1)))]
+rows += [('NO_CHANNEL', number) for number in re.findall(r'^OnState None .* \(answer ≡ (\d+)\)', on_word, re.M)]
+rows += [('HAS_CHANNEL', number) for number in re.findall(r'is_some channel\.old\.pointer\.state\) \(result ≡ (\d+)\)\n', making)]
+rows += list(zip(('DONE', 'NO_CHANNEL'), re.search(r'told \{ .* \(result ≡ (\d+)\) \(result ≡ (\d+)\) \}', making).groups()))
 differs('answers in the definitions', {name: {number} for name, number in numbers('answer').items()},
         {name: {int(number) for other, number in rows if other == name} for name in answers})
 
@@ -64,10 +76,15 @@ differs('statuses', numbers('status'), codes)
 families = re.findall(r'number == (\d+) then Some family\.(\w+)', (types_crate / 'specs/Addresses.antt').read_text())
 differs('families', numbers('family'), {name.upper(): int(number) for number, name in families})
 
+# kinds and the class, where the header names them
+defined = dict(re.findall(r'^(\w+) = (\d+)$', (top / 'crates/dns_message/specs/Numbers.antt').read_text(), re.M))
+record_kinds = {name: ('class_in' if name == 'IN' else 'kind_' + name.lower()) for name in numbers('kind')}
+differs('kinds', numbers('kind'), {name: int(defined.get(word, -1)) for name, word in record_kinds.items()})
+
 # structs and calls, by their types in C
 types = {'u8': 'uint8_t', 'u16': 'uint16_t', 'u32': 'uint32_t', 'u64': 'uint64_t', 'usize': 'size_t', 'bool': 'bool',
          '&mut u64': 'uint64_t *', '&mut usize': 'size_t *', '&[u8]': 'const uint8_t *, size_t', '&mut [u8]': 'uint8_t *, size_t',
-         '&mut BoxedChannel': 'dachumvi_channel *', 'BoxedChannel': 'dachumvi_channel', '&mut *mut u8': 'dachumvi_channel *',
+         '&mut ChannelWord': 'dachumvi_channel *',
          '&mut ToldAttempt': 'dachumvi_attempt *', '&mut ToldLeg': 'dachumvi_leg *', '&mut ToldRequest': 'dachumvi_request *',
          '&mut ToldCounts': 'dachumvi_counts *', '': 'void'}
 for name, body in re.findall(r'pub struct Told(\w+) \{(.*?)\n\}', (types_crate / 'src/told.rt').read_text(), re.S):
@@ -88,5 +105,5 @@ differs('calls', sorted(declared), sorted(calls))
 for name in declared.keys() & calls.keys():
     differs(name, declared[name], calls[name])
 
-print('\n'.join(differences) or f'{len(answers)} answers, {len(codes)} statuses, {len(families)} families, {len(calls)} calls: the header agrees')
+print('\n'.join(differences) or f'{len(answers)} answers, {len(codes)} statuses, {len(families)} families, {len(record_kinds)} kinds and classes, {len(calls)} calls: the header agrees')
 sys.exit(bool(differences))

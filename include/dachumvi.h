@@ -14,10 +14,9 @@
  * to one server. A moment is in milliseconds, on any clock that doesn't go back.
  *
  * What nothing checks is C's part:
- *   - a word that is passed was written by dachumvi_make, and not freed since; it may be moved, but one copy of it
- *     is used;
- *   - one call at a time is made on a word, from the thread that made it;
- *   - no pointer is null, not even for no bytes: pass any pointer with a length of 0;
+ *   - a word is zero when it is first passed, and C doesn't write to it; it may be moved, but one copy of it is used;
+ *   - one call at a time is made on a word, from the thread that made its channel;
+ *   - no pointer that is passed is null, not even for no bytes: pass any pointer with a length of 0;
  *   - a pointer with a length leads to so many bytes, at most PTRDIFF_MAX; what a call writes overlaps nothing else
  *     that it is passed;
  *   - link against out/libchannel_c.a and the toolchain's c/liblibc_c.a (malloc, realloc and free). */
@@ -31,8 +30,14 @@
 extern "C" {
 #endif
 
-/* What C keeps of a channel: one word, which it never reads or writes. Behind dachumvi_free it leads nowhere. */
-typedef struct { void *at; } dachumvi_channel;
+/* What C keeps of a channel: its word. It is zero before dachumvi_make and behind dachumvi_free, and then there is no
+ * channel in it, as every call says that is made on it; C sets it to DACHUMVI_EMPTY before, and leaves it alone from then
+ * on. */
+typedef struct {
+    void *at;
+    uint32_t made;
+} dachumvi_channel;
+#define DACHUMVI_EMPTY {NULL, 0}
 
 /* How a call ended. */
 enum dachumvi_answer {
@@ -45,7 +50,9 @@ enum dachumvi_answer {
     DACHUMVI_BAD_LENGTH = 6,   /* an address of neither 4 nor 16 bytes */
     DACHUMVI_LARGE_RESOLV = 7, /* the text of resolv.conf has more than 65,536 bytes */
     DACHUMVI_LARGE_HOSTS = 8,  /* the text of the hosts file has more than 4,194,304 bytes */
-    DACHUMVI_NOT_KEPT = 9      /* the channel was made without a kept journal */
+    DACHUMVI_NOT_KEPT = 9,     /* the channel was made without a kept journal */
+    DACHUMVI_NO_CHANNEL = 10,  /* there is no channel in the word: none was made, or it was freed */
+    DACHUMVI_HAS_CHANNEL = 11  /* there is a channel in the word already */
 };
 
 /* How a request ended: the numbers of c-ares. */
@@ -113,17 +120,21 @@ typedef struct {
     uint64_t flying;  /* attempts that are in flight */
 } dachumvi_counts;
 
+/* Each call answers with one of these numbers. NO_CHANNEL comes exactly where there is no channel in the word, from each
+ * call but dachumvi_make, whatever else is passed; nothing is written then. The comments below say the other answers. */
+
 /* Makes a channel by the text of a resolv.conf (resolv.conf(5)) and of a hosts file (hosts(5)), and writes its word.
  * What isn't understood in a text is passed over; no text at all sets the defaults, with a server at 127.0.0.1 port
  * 53. With `keeps` the journal is kept, and the text of the hosts file with it: each entry then takes memory that only
- * dachumvi_free gives back, and so does each message that came, strays too. Answers DONE; LARGE_RESOLV exactly where
- * that text is larger; else LARGE_HOSTS exactly where that one is, but for want of memory; or NO_MEMORY. Where it isn't
- * DONE, nothing is written. That the word which it writes is that of a channel made so is not proved. */
+ * dachumvi_free gives back, and so does each message that came, strays too. Answers HAS_CHANNEL exactly where there is a
+ * channel in the word; else DONE; LARGE_RESOLV exactly where that text is larger; else LARGE_HOSTS exactly where that one
+ * is, but for want of memory; or NO_MEMORY. Where it isn't DONE, nothing is written. */
 uint32_t dachumvi_make(const uint8_t *resolv, size_t resolv_length, const uint8_t *hosts, size_t hosts_length, bool keeps,
                        dachumvi_channel *channel);
 
-/* Gives back all that the channel owns. Its pending requests are never answered. */
-void dachumvi_free(dachumvi_channel channel);
+/* Gives back all that the channel owns, and leaves a word without a channel. Its pending requests are never answered.
+ * Answers DONE. */
+uint32_t dachumvi_free(dachumvi_channel *channel);
 
 /* Asks for records of this name, which is a text (RFC 1035, section 5.1), and writes the request's number: the next
  * one. A text that is no name is accepted, and completes at once with EBADNAME. Answers DONE; CLOSED exactly where
@@ -154,12 +165,12 @@ uint32_t dachumvi_reverse(dachumvi_channel *channel, const uint8_t *address, siz
 uint32_t dachumvi_start(dachumvi_channel *channel, uint16_t word, uint16_t mix, uint64_t at, dachumvi_attempt *attempt);
 
 /* Copies what the attempt begun last is to send: over link 0 one datagram, else bytes of a stream, where the query
- * stands behind two bytes with its length. As many bytes are copied as there is room for, and the call answers how
- * many; those behind them stay. */
-size_t dachumvi_copy_bytes(dachumvi_channel *channel, uint8_t *out, size_t length);
+ * stands behind two bytes with its length. As many bytes are copied as there is room for, and the call writes how
+ * many; those behind them stay. Answers DONE. */
+uint32_t dachumvi_copy_bytes(dachumvi_channel *channel, uint8_t *out, size_t length, size_t *copied);
 
 /* Copies the address of its server in the same way: 4 bytes or 16, the highest first. */
-size_t dachumvi_copy_server(dachumvi_channel *channel, uint8_t *out, size_t length);
+uint32_t dachumvi_copy_server(dachumvi_channel *channel, uint8_t *out, size_t length, size_t *copied);
 
 /* Takes in a message that came from this server over this link, without the two bytes of a stream, and tells the leg
  * whose attempt it answers, by server, link, identifier and question. Answers DONE; NOTHING where it answers no
@@ -178,22 +189,23 @@ uint32_t dachumvi_fault(dachumvi_channel *channel, uint32_t server, uint64_t lin
 /* Writes when the attempt is due that is due first. Answers DONE, or NOTHING exactly where none is in flight. */
 uint32_t dachumvi_next_due(dachumvi_channel *channel, uint64_t *at);
 
-/* Writes how much there is. */
-void dachumvi_count(dachumvi_channel *channel, dachumvi_counts *counts);
+/* Writes how much there is. Answers DONE. */
+uint32_t dachumvi_count(dachumvi_channel *channel, dachumvi_counts *counts);
 
-/* Whether an attempt is in flight on this server over this link. A link over TCP that isn't busy may be closed. */
-bool dachumvi_link_busy(dachumvi_channel *channel, uint32_t server, uint64_t link);
+/* Answers DONE where an attempt is in flight on this server over this link, and NOTHING where none is: a link over TCP
+ * that isn't busy may be closed. */
+uint32_t dachumvi_link_busy(dachumvi_channel *channel, uint32_t server, uint64_t link);
 
 /* Moves out the first request that has completed, in the order of completion, and tells it: each request once.
  * Answers DONE, or NOTHING exactly where none is ready. */
 uint32_t dachumvi_take(dachumvi_channel *channel, dachumvi_request *request);
 
 /* Copies the reply (RFC 1035, section 4.1) of the request taken last, as dachumvi_copy_bytes copies. */
-size_t dachumvi_copy_message(dachumvi_channel *channel, uint8_t *out, size_t length);
+uint32_t dachumvi_copy_message(dachumvi_channel *channel, uint8_t *out, size_t length, size_t *copied);
 
 /* Copies the address at this index, from 0, of the request taken last: 4 bytes or 16, the highest first. There is
  * none at an index that isn't below its count, and 0 bytes are copied. */
-size_t dachumvi_copy_address(dachumvi_channel *channel, size_t index, uint8_t *out, size_t length);
+uint32_t dachumvi_copy_address(dachumvi_channel *channel, size_t index, uint8_t *out, size_t length, size_t *copied);
 
 /* Copies the text of the journal in the same way, and writes how many bytes it has, which may be more than were copied:
  * the channel's options, its hosts file and what happened, as docs/JOURNAL.md describes them and as `adig --journal` puts
@@ -201,12 +213,12 @@ size_t dachumvi_copy_address(dachumvi_channel *channel, size_t index, uint8_t *o
  * than DONE nothing is written. The channel is as it was. */
 uint32_t dachumvi_copy_journal(dachumvi_channel *channel, uint8_t *out, size_t length, size_t *size);
 
-/* Completes every pending request with ECANCELLED, and answers how many there were. */
-uint64_t dachumvi_cancel(dachumvi_channel *channel);
+/* Completes every pending request with ECANCELLED, and writes how many there were. Answers DONE. */
+uint32_t dachumvi_cancel(dachumvi_channel *channel, uint64_t *count);
 
 /* Destroys the channel: every pending request completes with EDESTRUCTION, and none is accepted any more. Requests
- * that have completed can still be taken. Answers whether it was the first to do so. */
-bool dachumvi_destroy(dachumvi_channel *channel);
+ * that have completed can still be taken. Answers DONE, or CLOSED exactly where the channel was destroyed before. */
+uint32_t dachumvi_destroy(dachumvi_channel *channel);
 
 #ifdef __cplusplus
 }

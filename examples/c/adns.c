@@ -26,12 +26,13 @@ struct socket {
     uint8_t in[MOST], out[MOST];
 };
 
-static dachumvi_channel channel;
+static dachumvi_channel channel = DACHUMVI_EMPTY;
 static struct socket *sockets[SOCKETS];
 static nfds_t held;
 static char **names;
 static uint64_t asked, taken, total, name_count;
 static uint32_t family, status;
+static size_t copied;
 
 static void stop(const char *why) {
     exit((fprintf(stderr, "adns: %s\n", why), 2));
@@ -57,7 +58,7 @@ static int connected(int type, uint16_t port) {
     struct sockaddr_in v4 = {.sin_family = AF_INET, .sin_port = htons(port)};
     struct sockaddr_in6 v6 = {.sin6_family = AF_INET6, .sin6_port = htons(port)};
     uint8_t bytes[16];
-    bool is_v4 = dachumvi_copy_server(&channel, bytes, sizeof bytes) == 4;
+    bool is_v4 = !dachumvi_copy_server(&channel, bytes, sizeof bytes, &copied) && copied == 4;
     memcpy(is_v4 ? (void *)&v4.sin_addr : (void *)&v6.sin6_addr, bytes, is_v4 ? 4 : 16);
     const struct sockaddr *to = is_v4 ? (struct sockaddr *)&v4 : (struct sockaddr *)&v6;
     int fd = socket(to->sa_family, type | SOCK_NONBLOCK | SOCK_CLOEXEC, 0);
@@ -86,7 +87,7 @@ static void start_all(void) {
         if (dachumvi_start(&channel, words[0], words[1], now(), &attempt) != DACHUMVI_DONE) return;
         struct socket *to = socket_of(&attempt);
         bool goes = to != NULL && attempt.length <= MOST - to->queued;
-        if (goes) dachumvi_copy_bytes(&channel, to->out + to->queued, MOST - to->queued);
+        if (goes) goes = !dachumvi_copy_bytes(&channel, to->out + to->queued, MOST - to->queued, &copied);
         if (goes && attempt.link == 0) goes = send(to->fd, to->out, attempt.length, 0) >= 0;
         else if (goes) to->queued += attempt.length;
         if (!goes) fault(attempt.server, attempt.link);
@@ -133,7 +134,7 @@ static void wait_once(void) {
         bool failed = (polled[at].revents & POLLOUT) && one->queued && flush(one);
         failed = ((polled[at].revents & (POLLIN | POLLERR | POLLHUP)) && receive(one)) || failed;
         if (failed) fault(one->server, one->link);
-        if (one->link != 0 && (failed || !dachumvi_link_busy(&channel, one->server, one->link))) close_at(at);
+        if (one->link != 0 && (failed || dachumvi_link_busy(&channel, one->server, one->link))) close_at(at);
     }
     while (dachumvi_expire(&channel, now(), &leg) == DACHUMVI_DONE) {}
 }
@@ -154,7 +155,7 @@ static void print_all(void) {
         for (size_t at = 0; at < request.addresses; at++) {
             uint8_t bytes[16];
             char text[INET6_ADDRSTRLEN];
-            bool is_v4 = dachumvi_copy_address(&channel, at, bytes, sizeof bytes) == 4;
+            bool is_v4 = !dachumvi_copy_address(&channel, at, bytes, sizeof bytes, &copied) && copied == 4;
             printf(" %s", inet_ntop(is_v4 ? AF_INET : AF_INET6, bytes, text, sizeof text));
         }
         putchar('\n');
@@ -179,16 +180,15 @@ static void write_journal(const char *path) {
 
 int main(int count, char **words) {
     static uint8_t resolv[65537], hosts[4194305];
-    const char *given[128] = {['f'] = "0", ['h'] = "/etc/hosts", ['n'] = "1", ['o'] = "", ['r'] = "/etc/resolv.conf"};
+    const char *given[128] = {['f'] = "0", ['h'] = "/etc/hosts", ['n'] = "1", ['o'] = "", ['r'] = "/etc/resolv.conf", ['s'] = ""};
     for (int option; (option = getopt(count, words, "f:h:j:n:o:r:s:")) != -1; given[option] = optarg)
         if (option == '?') stop("no such option");
     if (optind >= count) stop("no name");
     names = words + optind, name_count = (uint64_t)(count - optind), family = (uint32_t)atoi(given['f']);
     total = name_count * strtoull(given['n'], NULL, 10);
-    const char *server = given['s'] ? given['s'] : "";
     char more[512];
-    size_t length = *server ? 0 : read_file(given['r'], resolv, sizeof resolv - sizeof more);
-    int extra = snprintf(more, sizeof more, "\n%s %s\noptions %s\n", *server ? "nameserver" : "#", server, given['o']);
+    size_t length = *given['s'] ? 0 : read_file(given['r'], resolv, sizeof resolv - sizeof more);
+    int extra = snprintf(more, sizeof more, "\n%s %s\noptions %s\n", *given['s'] ? "nameserver" : "#", given['s'], given['o']);
     if (extra >= (int)sizeof more) stop("long options");
     memcpy(resolv + length, more, (size_t)extra), length += (size_t)extra;
     size_t lines = read_file(given['h'], hosts, sizeof hosts);
@@ -196,5 +196,5 @@ int main(int count, char **words) {
     while (ask_all(), start_all(), print_all(), taken < total) wait_once();
     while (held > 0) close_at(0);
     if (given['j']) write_journal(given['j']);
-    return dachumvi_free(channel), (int)status;
+    return dachumvi_free(&channel) == DACHUMVI_DONE ? (int)status : 2;
 }

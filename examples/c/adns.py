@@ -8,6 +8,10 @@ from ctypes import byref, c_bool, c_size_t, c_uint8, c_uint16, c_uint32, c_uint6
 DONE, V4 = 0, 4
 
 
+class Channel(ctypes.Structure):  # of zeroes, as ctypes makes it: without a channel
+    _fields_ = [('at', c_void_p), ('made', c_uint32)]
+
+
 class Attempt(ctypes.Structure):
     _fields_ = [('number', c_uint64), ('link', c_uint64), ('length', c_size_t), ('server', c_uint32), ('id', c_uint16), ('port', c_uint16), ('leg', c_uint8)]
 
@@ -27,15 +31,14 @@ def moment():
 def copied(call, *words):
     """The bytes that a copying call gives."""
     buffer = ctypes.create_string_buffer(65537)
-    count = call(channel, *words, buffer, c_size_t(len(buffer)))
-    return buffer.raw[:count]
+    count = c_size_t()
+    if call(channel, *words, buffer, c_size_t(len(buffer)), byref(count)) != DONE:
+        sys.exit('not copied')
+    return buffer.raw[:count.value]
 
 
 library = ctypes.CDLL(sys.argv[1])
-for name in ('copy_bytes', 'copy_server', 'copy_address'):
-    getattr(library, 'dachumvi_' + name).restype = c_size_t
-library.dachumvi_free.restype = None
-word = c_void_p()  # the channel's word, which is a struct of one pointer
+word = Channel()
 channel = byref(word)
 resolv = f'nameserver {sys.argv[2]}\noptions timeout:1 attempts:2\n'.encode()
 if library.dachumvi_make(resolv, c_size_t(len(resolv)), b'', c_size_t(0), c_bool(False), channel) != DONE:
@@ -68,4 +71,4 @@ with socket.socket(socket.AF_INET, socket.SOCK_DGRAM) as udp:
             pass
 
 print(request.status, *(socket.inet_ntop(socket.AF_INET, copied(library.dachumvi_copy_address, c_size_t(at))) for at in range(request.addresses)))
-library.dachumvi_free(word)
+library.dachumvi_free(channel)

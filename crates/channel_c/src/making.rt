@@ -1,33 +1,44 @@
 //! How a channel begins and ends.
 
-ghost use Rattle.std.specs.Prelude.{◌≡◌};
+ghost use Rattle.std.specs.Prelude.{◌≡◌, IsSomeAnd, MatchBool, None, is_some};
 ghost use Rattle.channel_model.specs.Meanings.{Cancels, Destroys};
+ghost use Rattle.boxed_channel.specs.Making.{IsMadeBy};
 ghost use Rattle.boxed_channel.specs.State.{KeepsBoth, MeansVoiced};
-ghost use Rattle.c_types.specs.Told.{UnlessDone};
+ghost use Rattle.c_types.specs.Told.{IfDone, UnlessDone};
 ghost use Rattle.channel_c.specs.Texts.{AnswersTexts};
+ghost use Rattle.channel_c.specs.Told.{first_told};
+ghost use Rattle.channel_word.specs.Calls.{OnChannel};
 
-use boxed_channel::{BoxedChannel, make};
+use crate::answers::{CLOSED, DONE, HAS_CHANNEL, NO_CHANNEL};
+use boxed_channel::make;
 use c_types::MakeFault;
+use channel_word::ChannelWord;
 use std::alloc::Global;
 
 /// Makes a channel by the texts of a resolv.conf and of a hosts file, whose journal is kept if that is wanted, and writes
-/// its word. Answers 0; or 7 and 8 where the one or the other text is too large, the first looked at first, or 2 for want
-/// of memory, and then nothing is written.
+/// its word. Answers 0; or 11 where there is a channel in the word already; or 7 and 8 where the one or the other text is too
+/// large, the first looked at first, or 2 for want of memory; and then nothing is written.
 #[unsafe(no_mangle)]
 pub extern "C" fn dachumvi_make(
     alloc: Global,
     resolv: &[u8],
     hosts: &[u8],
     keeps: bool,
-    channel: &mut *mut u8,
+    channel: &mut ChannelWord,
 ) -> u32
-    ensures answers { AnswersTexts resolv.now hosts.now result }
+    ensures answers { MatchBool (is_some channel.old.pointer.state) (result ≡ 11)
+        (AnswersTexts resolv.now hosts.now result) }
+    ensures made { IfDone result
+        (IsSomeAnd channel.new.pointer.state (IsMadeBy resolv.now hosts.now keeps)) }
     ensures stays { UnlessDone result (channel.new ≡ channel.old) }
 {
+    if channel.is_there() {
+        return HAS_CHANNEL;
+    }
     match make(alloc, resolv, hosts, keeps) {
         Ok(boxed) => {
-            *channel = Box::into_raw(boxed) as *mut u8;
-            0
+            *channel = ChannelWord::of(boxed);
+            DONE
         }
         Err(MakeFault::NoMemory) => 2,
         Err(MakeFault::LargeResolv) => 7,
@@ -35,26 +46,46 @@ pub extern "C" fn dachumvi_make(
     }
 }
 
-/// Completes every pending request as cancelled, and answers how many there were.
+/// Completes every pending request as cancelled, and writes how many there were.
 #[unsafe(no_mangle)]
-pub extern "C" fn dachumvi_cancel(channel: &mut BoxedChannel) -> u64
-    ensures done { MeansVoiced (Cancels result) channel.old.state channel.new.state }
-    ensures copies { KeepsBoth channel.old.state channel.new.state }
+#[tactic(auto, using(crate::proofs::CallLemmas::on_absent, crate::proofs::CallLemmas::on_there))]
+pub extern "C" fn dachumvi_cancel(channel: &mut ChannelWord, count: &mut u64) -> u32
+    ensures done { OnChannel channel.old channel.new result (λ old new.
+        (result ≡ 0) × MeansVoiced (Cancels count.new) old new × KeepsBoth old new) }
+    ensures stays { UnlessDone result (count.new ≡ count.old) }
 {
-    channel.state().cancel()
+    if !channel.is_there() {
+        return NO_CHANNEL;
+    }
+    *count = channel.pointer.state().cancel();
+    DONE
 }
 
-/// Destroys the channel and completes every pending request so. Answers whether it was the first to do so.
+/// Destroys the channel and completes every pending request so. Answers 0 where it was the first to do so, and else 1.
 #[unsafe(no_mangle)]
-pub extern "C" fn dachumvi_destroy(channel: &mut BoxedChannel) -> bool
-    ensures done { MeansVoiced (Destroys result) channel.old.state channel.new.state }
-    ensures copies { KeepsBoth channel.old.state channel.new.state }
+#[tactic(auto, using(crate::proofs::CallLemmas::on_absent, crate::proofs::CallLemmas::on_there))]
+pub extern "C" fn dachumvi_destroy(channel: &mut ChannelWord) -> u32
+    ensures done { OnChannel channel.old channel.new result (λ old new.
+        IsSomeAnd (first_told result) (λ first. MeansVoiced (Destroys first) old new)
+        × KeepsBoth old new) }
 {
-    channel.state().destroy()
+    if !channel.is_there() {
+        return NO_CHANNEL;
+    }
+    match channel.pointer.state().destroy() {
+        true => DONE,
+        false => CLOSED,
+    }
 }
 
-/// Gives back all that the channel owns.
+/// Gives back all that the channel owns, and leaves a word without a channel.
 #[unsafe(no_mangle)]
-pub extern "C" fn dachumvi_free(channel: BoxedChannel) {
-    drop(channel);
+pub extern "C" fn dachumvi_free(alloc: Global, channel: &mut ChannelWord) -> u32
+    ensures told { MatchBool (is_some channel.old.pointer.state) (result ≡ 0) (result ≡ 10) }
+    ensures gone { channel.new.pointer.state ≡ None }
+{
+    match channel.free(alloc) {
+        true => DONE,
+        false => NO_CHANNEL,
+    }
 }

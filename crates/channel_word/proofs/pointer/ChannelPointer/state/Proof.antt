@@ -1,0 +1,131 @@
+-- `state` lends the value behind the word, and the word follows it.
+use mathlib.Core.Path.{◌≡◌, refl}
+use Prim.Native.Nat.{ℕ}
+use mathlib.Core.List.{List, [], ◌∷◌}
+use seplogic.Ra.Ura.{Ura}
+use base.Fraction.{full_share}
+use mir.Syntax.{named}
+use Rattle.std.specs.Prelude.{IsSomeAnd, Option, Some, ⊤}
+use mir.Val.{Val, vptr}
+use base.Logic.{SProp, ent, sep, emp, via, fst∗, snd∗, id⊢}
+use base.Fml.{Lft, GName, Share, Fml, ftrue, flft, fsep}
+use prog.Memory.{Memory}
+use prog.Routine.{Routine}
+use prog.Wp.{Env, Calls, Loops, WpFn, Tables}
+use types.Logic.{Logic, sem}
+use contract.Monad.{Fun, fact, fact_use}
+use contract.Running.{tables, tables_of}
+use sound.WpLaws.{WpFn-mono}
+use types.Kit.{‵, ◌⊛◌, some, at_ret, ◌$◌, ◌∵◌, !, qed, by, move, keep, use1, drop, split, join, pick, rewrite, fsplit, fsplit3, fjoin, suffices, frame, done, raw, later, await, group, fpack}
+use types.Part.{whole, sub, look_in}
+use types.Run.{stop, fld, load, of_opd, first, blocks, exec, returns, enter, addr}
+use types.ByLocal.{alloc_all, pass_all, free_all, look_at, get, through, sets, env, sets_last}
+use denote.RattleType.{RattleType, owns}
+use denote.Memory.{part_at, mem, cell_at, part_of}
+use denote.RawPtr.{block_ptr}
+use denote.Ref.{MutRef, MutBor, mut_vals, mut_Tells}
+use denote.Signature.{plain, mut_ref_to}
+use denote.Steps.{nothing, opens}
+use denote.Exit.{no}
+use denote.Follow.{follows, Part, lends_Part}
+use denote.Triple.Entry.{on_entry}
+use denote.Triple.Spec.{triple_of}
+use denote.Triple.Table.{entered}
+use denote.Triple.Walked.{says, Stays, stay_dropped, walk_of, ends_at, walked, walk_Meets, Goes-spent_ref}
+use mir.Raw.{raw as bare}
+use Rattle.std.proofs.VecSteps.Shapes.{after}
+use Rattle.std.proofs.alloc.Calls.{token}
+use Rattle.std_alloc.proofs.BoxSteps.Form.{D, R, B, τ, word, handle}
+use Rattle.std_alloc.proofs.BoxSteps.Steps.{box_out, box_in}
+use Rattle.channel_word.specs.Owned.{owns_if_known}
+use Rattle.channel_word.proofs.AsBox.{E}
+use Rattle.channel_word.proofs.Held.{held}
+use Rattle.boxed_channel.specs.declared.state.ChannelState.{ChannelState}
+use Rattle.boxed_channel.specs.contracts.state.ChannelState as state
+use Rattle.channel_word.specs.contracts.pointer.ChannelPointer as boxed
+use Rattle.channel_word.specs.Lending.{with_state}
+use Rattle.channel_word.specs.contracts.pointer.ChannelPointer.state as F
+use Rattle.channel_word.specs.contracts.pointer.ChannelPointer.state.Key.{name as #self}
+use Rattle.channel_word.proofs.pointer.ChannelPointer.state.Statement as stated
+use Rattle.channel_word.proofs.pointer.ChannelPointer.state.Code as code
+
+abbrev K : RattleType
+K = boxed.the_row
+
+abbrev T : RattleType
+T = state.the_row
+
+abbrev stayed : Stays (F.ended).signature.params (F.ended).kept
+stayed = (stay_dropped (mut_ref_to (0 ∷ []) tt (plain (λ _. K))) no, tt)
+
+-- the word as a box
+abbrev as_box : K.Denot → ChannelState → D E
+as_box h x = record { ptr = h.at; alloc = h.alloc; value = x }
+
+module _ {M : Type 1} {𝓤 : Ura M} (𝓛 : Logic 𝓤) (at_mem : Memory → SProp 𝓤) (run : Routine → Fun 𝓤) (κ : Lft) (q : Share) (rb ro : ℕ) (γ : GName) (h : K.Denot) (x : ChannelState) (is : h.state ≡ Some x) where
+  open 𝓛 use {H, A}
+
+  abbrev self : MutBor K.Denot
+  self = record { ref_ptr = (rb, ro); ghost_name = γ; now = h }
+
+  abbrev bound : (walk_of 𝓛 F.ended stayed (F.clauses 𝓛 at_mem run)).Ghost
+  bound = (((κ, tt), (q, tt), tt, (self, tt), (vptr rb ro ∷ [], tt)), tt)
+
+  abbrev Post : Val → SProp 𝓤
+  Post = (walk_of 𝓛 F.ended stayed (F.clauses 𝓛 at_mem run)).post bound
+
+  module _ (b o : ℕ) (hv : Val) where
+    -- all of the word but its value
+    abbrev Rest : Fml
+    Rest = fsep (fsep (token E.al h.alloc (bare (τ E)) (block_ptr b o)) (handle E h.alloc hv)) (cell_at full_share K.mir (word E hv b o ∷ []) rb ro)
+
+    back : h.at ≡ block_ptr b o → (w : T.Denot) → ent 𝓤 (sep 𝓤 (sem 𝓛 ((mem T).own_at w b o)) (sem 𝓛 Rest)) (sem 𝓛 ((mem K).own_at (with_state h w) rb ro))
+    unfolding part_of
+    back at_b w =
+        qed 𝓛 (‵ (part_at T full_share w b o) ∷ ‵ Rest ∷ []) ∵ use1 𝓛 (‵ (part_at (R E) full_share w b o)) (id⊢ 𝓤 _) $ move ! (1 ∷ []) $ fsplit ! $ fsplit ! $ move ! (3 ∷ []) $
+        box_in E ! (as_box (with_state h w) w) b o w at_b refl $ use1 𝓛 (‵ (K.own_val (with_state h w) (word E hv b o ∷ []))) (id⊢ 𝓤 _) $ move ! (1 ∷ 0 ∷ []) $ fjoin ! $
+        fpack ! (List Val) (λ us. fsep (cell_at full_share K.mir us rb ro) (K.own_val (with_state h w) us)) (word E hv b o ∷ []) $ done !
+
+    exits : (γ' : GName)
+        → ent 𝓤 (sep 𝓤 (sem 𝓛 ((MutRef (named 0) κ T).own_val (record { ref_ptr = (b, o); ghost_name = γ'; now = x }) (vptr b o ∷ []))) (sep 𝓤 (A.lft κ q) (sem 𝓛 (follows K T γ γ' (with_state h))))) (Post (vptr b o))
+    exits γ' =
+        qed 𝓛 (‵ ((MutRef (named 0) κ T).own_val (record { ref_ptr = (b, o); ghost_name = γ'; now = x }) (vptr b o ∷ [])) ∷ ‵ (flft κ q) ∷ ‵ (follows K T γ γ' (with_state h)) ∷ []) ∵
+        suffices ! _ (ends_at 𝓛 F.ended stayed (F.clauses 𝓛 at_mem run) bound (vptr b o) (record { ref_ptr = (b, o); ghost_name = γ'; now = x }) (tt, tt) (tt, tt)) $
+        nothing ! $ nothing ! $ fjoin ! $ join ! $ nothing ! $ move ! (2 ∷ 0 ∷ []) $ join ! $ join ! $ frame ! $ says ! is $ done !
+
+  module _ (C : Calls 𝓤 H) (Λ : Loops 𝓤 H) where
+    walk : ent 𝓤 (on_entry 𝓛 F.signature (κ, tt) (q, tt) (self, tt) (vptr rb ro ∷ [], tt)) (WpFn 𝓤 H C Λ code.function (vptr rb ro ∷ []) Post)
+    walk =
+        qed 𝓛 ((‵ (flft κ q) ⊛ ‵ ftrue) ∷ ‵ (owns (MutRef (named 0) κ K ∷ []) (self, tt) (vptr rb ro ∷ [], tt)) ∷ []) ∵
+        enter ! C Λ code.function (vptr rb ro ∷ []) _ $
+        alloc_all ! (λ l. pass_all ! refl ((tt, tt), tt) $
+        let En : Env 𝓤 H = env code.function.locals l in
+        move ! (1 ∷ []) $ fsplit ! $ fsplit3 ! $ drop ! $ move ! (3 ∷ []) $ split ! $ move ! (2 ∷ 3 ∷ 0 ∷ []) $
+        opens ! tt K {h = h} rb ro (λ us. move ! (1 ∷ []) $ fsplit ! $ rewrite ! 1 (λ (known : Option ChannelState). ‵ (owns_if_known h.alloc h.at known)) is refl $ fjoin ! $ use1 𝓛 (‵ ((B E).own_val (as_box h x) us)) (id⊢ 𝓤 _) $ box_out E ! (as_box h x) us (λ b o hv at_b ws fa. move ! (1 ∷ 2 ∷ []) $ fjoin ! $ move ! (1 ∷ []) $
+        rewrite ! 2 (λ (vs : List Val). ‵ (cell_at full_share K.mir vs rb ro)) ws refl $
+        -- [the value; the token with the handle; the word's cell; the open borrow; obs; auth]
+        first ! $ blocks ! $
+        sets ! (of_opd ! (load ! (through ! refl (fld ! refl (stop !))) (look_in ! 2 (sub ! 0 refl (whole !))))) refl (tt, tt) $
+        sets ! (of_opd ! (get ! refl)) refl (tt, tt) $
+        sets_last ! (addr ! (through ! refl (stop !))) refl (tt, tt) $
+        exec ! C Λ En (after 1 (code.function).body) (at_ret En Post) $
+        sets ! (of_opd ! (get ! refl)) refl (tt, tt) $
+        move ! (1 ∷ 2 ∷ []) $ fjoin ! $ move ! (2 ∷ 3 ∷ 4 ∷ 1 ∷ 0 ∷ []) $ group ! 5 $
+        use1 𝓛 (later (some (λ (γ' : GName). raw (Part 𝓛 K T (with_state h) (named 0) κ q rb ro b o γ (sem 𝓛 (Rest b o hv)) (back b o hv at_b) x γ'))))
+        (lends_Part 𝓛 K T (with_state h) (named 0) κ q rb ro b o γ (sem 𝓛 (Rest b o hv)) (back b o hv at_b) (K.coded.code h) (K.coded.code h) x) $ await ! tt $ pick ! (λ γ'.
+        returns ! (look_at ! 0 refl) $ free_all ! refl $
+        keep ! (0 ∷ []) $ by ! (exits b o hv γ')))))
+
+pub state_spec : {M : Type 1} → stated.statement M
+unfolding tables_of
+state_spec 𝓤 𝓛 𝓜 𝓡 wired =
+    let 𝓣 : Tables 𝓤 𝓛.H = tables_of 𝓤 𝓛.H 𝓜 (tables 𝓤 𝓛.H 𝓜 𝓡 𝓡.env) in
+    entered 𝓤 𝓛.H (triple_of 𝓛 F.signature (F.spec 𝓛 𝓜.mem 𝓡.returns)) 𝓣.C 𝓣.Λ #self code.function (code.unfolded 𝓤 𝓛.H 𝓜 𝓡 wired)
+    (walk_Meets 𝓛 F.ended stayed (Goes-spent_ref 𝓛 1 (0 ∷ []) tt (plain (λ _. K)), tt) (F.clauses 𝓛 𝓜.mem 𝓡.returns) (WpFn 𝓤 𝓛.H 𝓣.C 𝓣.Λ code.function) (WpFn-mono 𝓤 𝓛.H 𝓛.laws 𝓣 code.function)
+    (walked 𝓛 F.ended stayed (F.clauses 𝓛 𝓜.mem 𝓡.returns) (WpFn 𝓤 𝓛.H 𝓣.C 𝓣.Λ code.function) (λ κs. (mut_vals, tt)) (λ κs. (mut_Tells (named 0) κs.0 K, tt))
+    (λ κs qs bounds a g are.
+    let P = IsSomeAnd a.0.now.state (λ _. ⊤) in
+    let Entry = on_entry 𝓛 F.signature (κs.0, tt) (qs.0, tt) (record { ref_ptr = (a.0.ref_ptr.0, a.0.ref_ptr.1); ghost_name = a.0.ghost_name; now = a.0.now }, tt) (vptr a.0.ref_ptr.0 a.0.ref_ptr.1 ∷ [], tt) in
+    fact_use 𝓤 P (snd∗ 𝓤 Entry (fact 𝓤 P)) (λ there.
+    let is = held a.0.now.state there in
+    via 𝓤 Entry (fst∗ 𝓤 Entry (fact 𝓤 P)) (walk 𝓛 𝓜.mem 𝓡.returns κs.0 qs.0 a.0.ref_ptr.0 a.0.ref_ptr.1 a.0.ghost_name a.0.now is.0 is.1 𝓣.C 𝓣.Λ)))))
