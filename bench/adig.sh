@@ -1,17 +1,17 @@
 #!/bin/sh
 # Instructions that a turn of a whole run of `adig` takes, in runs of 100 to 10,000 turns, counted by valgrind: those of the run,
 # less those of bare calls of the same network.
-# Proves and builds crates/adig_bench first (BUILT=1: takes the program as it stands). It wants `rt` (or RT) and `valgrind`.
+# Proves and builds crates/channel_bench first (BUILT=1: takes the program as it stands). It wants `rt` (or RT) and `valgrind`.
 set -eu
 cd "$(dirname "$0")/.."
 work=$(mktemp -d)
 trap 'rm -rf "$work"' EXIT
-bench=crates/adig_bench/out/adig_bench
-[ -n "${BUILT:-}" ] || (cd crates/adig_bench && ${RT:-rt} run > "$work/run.log" 2>&1) || { cat "$work/run.log"; exit 1; }
+bench=crates/channel_bench/out/channel_bench
+[ -n "${BUILT:-}" ] || (cd crates/channel_bench && ${RT:-rt} run > "$work/run.log" 2>&1) || { cat "$work/run.log"; exit 1; }
 
 # instructions TASK TURNS: those of the whole program
 instructions() {
-    valgrind --tool=callgrind --callgrind-out-file="$work/out" "$bench" "$1" "$2" 2>&1 >/dev/null |
+    valgrind --tool=callgrind --callgrind-out-file="$work/out" "$bench" adig_tool "$1" "$2" 2>&1 >/dev/null |
         awk '/Collected/ { print $NF }'
 }
 

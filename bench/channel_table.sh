@@ -3,21 +3,21 @@
 # others in flight, from the difference of two runs; then bytes of a pending request and of a finished one, from the most
 # memory of two runs.
 # The channel keeps its journal, or doesn't where JOURNAL=untold.
-# Proves and builds crates/channel_table_bench first. It wants `rt` (or RT), `valgrind` and `python3`; PROGRAM is one that
+# Proves and builds crates/channel_bench first. It wants `rt` (or RT), `valgrind` and `python3`; PROGRAM is one that
 # is built already.
 set -eu
 cd "$(dirname "$0")/.."
-program=${PROGRAM:-crates/channel_table_bench/out/channel_table_bench}
+program=${PROGRAM:-crates/channel_bench/out/channel_bench}
 journal=${JOURNAL:-}
-[ -n "${PROGRAM:-}" ] || (cd crates/channel_table_bench && ${RT:-rt} run > /dev/null 2>&1)
+[ -n "${PROGRAM:-}" ] || (cd crates/channel_bench && ${RT:-rt} run > /dev/null 2>&1)
 instructions() {
-    valgrind --tool=callgrind --callgrind-out-file=/dev/null "$program" "$1" "$2" $journal \
+    valgrind --tool=callgrind --callgrind-out-file=/dev/null "$program" channel_table "$1" "$2" $journal \
         2>&1 >/dev/null | awk '/Collected/ { print $4 }'
 }
 kilobytes() {
     python3 -c 'import resource, subprocess, sys
 subprocess.run(sys.argv[1:], stdout=subprocess.DEVNULL)
-print(resource.getrusage(resource.RUSAGE_CHILDREN).ru_maxrss)' "$program" "$@" $journal
+print(resource.getrusage(resource.RUSAGE_CHILDREN).ru_maxrss)' "$program" channel_table "$@" $journal
 }
 for window in ${WINDOWS:-100 1000 10000}; do
     few=$(instructions "$window" 1000)

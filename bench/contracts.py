@@ -18,6 +18,7 @@ with "One answer:" names the calls that have no answer but success; "No refusal:
   answers for all of them, if the enum's own rows do, in whichever section;
 - a row names what is no public call and no such enum, or a clause that its calls don't have; "types" stands for a clause
   where nothing is lent to be changed, and "no clause" where the call has none;
+- a row of a call that is lent something doesn't say what the answer leaves, but for an answer that never comes;
 - a section is of no library, or a library with public calls has none, or isn't among the layers;
 - the exit statuses of a program aren't the numbers of its definitions, or name a clause that its run doesn't have.
 
@@ -539,6 +540,7 @@ def compare(names, calls, enums, told_by, may_refuse):
                     faults.append(f"{PAGE}:{number}: names no call")
                 elif own:
                     faults += clause_faults(number, cells[4], own)
+                    faults += leaving_faults(number, cells[2], cells[3], own)
                 elif (name, CODE.findall(cells[0])[0]) in enums:
                     faults += definition_faults(number, name, cells[4])
     faults += [f"{PAGE}: no section of {name}" for name in names if name not in seen and by_crate[name]]
@@ -611,6 +613,13 @@ def clause_faults(number, cell, calls):
         elif not named & labels and not ("its clause" in cell and "" in labels):
             faults.append(f"{PAGE}:{number}: names no clause of {call.name}")
     return faults
+
+
+def leaving_faults(number, comes, leaves, calls):
+    """The calls of a row that are lent something of which the row doesn't say how the answer leaves it."""
+    if leaves not in ("", "—") or re.match(r"never\b", comes):
+        return []
+    return [f"{PAGE}:{number}: doesn't say what {call.name} leaves" for call in calls if call.lends]
 
 
 def exit_faults(lines, by_crate):

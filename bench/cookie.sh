@@ -1,17 +1,17 @@
 #!/bin/sh
 # Instructions that a query and its reply take through a network with cookies beyond what they take without, counted by valgrind:
 # the difference of two runs over a number of queries, less that of the same network alone.
-# Proves and builds crates/cookie_bench first (BUILT=FILE: takes this program as it stands). It wants `rt` (or RT) and `valgrind`.
+# Proves and builds crates/parts_bench first (BUILT=FILE: takes this program as it stands). It wants `rt` (or RT) and `valgrind`.
 set -eu
 cd "$(dirname "$0")/.."
 work=$(mktemp -d)
 trap 'rm -rf "$work"' EXIT
-bench=${BUILT:-crates/cookie_bench/out/cookie_bench}
-[ -n "${BUILT:-}" ] || (cd crates/cookie_bench && ${RT:-rt} run > "$work/run.log" 2>&1) || { cat "$work/run.log"; exit 1; }
+bench=${BUILT:-crates/parts_bench/out/parts_bench}
+[ -n "${BUILT:-}" ] || (cd crates/parts_bench && ${RT:-rt} run > "$work/run.log" 2>&1) || { cat "$work/run.log"; exit 1; }
 
 # instructions TASK QUERIES IDS: those of the whole program
 instructions() {
-    valgrind --tool=callgrind --callgrind-out-file="$work/out" "$bench" "$1" "$2" "$3" 2>&1 >/dev/null |
+    valgrind --tool=callgrind --callgrind-out-file="$work/out" "$bench" cookie_world "$1" "$2" "$3" 2>&1 >/dev/null |
         awk '/Collected/ { print $NF }'
 }
 

@@ -2,20 +2,20 @@
 # Instructions for each entry of a stored run of 4,096 entries, counted by valgrind, from the difference of two runs: a
 # check of its journal and the putting of its text, beside the making of the run alone, and the reading of the text, beside
 # its putting. Then the memory that a check takes beside the run's own, from the most memory of the two, at 200,000 entries.
-# Proves and builds crates/journal_replay_bench first. It wants `rt` (or RT), `valgrind` and `python3`; PROGRAM is one that
+# Proves and builds crates/channel_bench first. It wants `rt` (or RT), `valgrind` and `python3`; PROGRAM is one that
 # is built already.
 set -eu
 cd "$(dirname "$0")/.."
-program=${PROGRAM:-crates/journal_replay_bench/out/journal_replay_bench}
-[ -n "${PROGRAM:-}" ] || (cd crates/journal_replay_bench && ${RT:-rt} run > /dev/null 2>&1)
+program=${PROGRAM:-crates/channel_bench/out/channel_bench}
+[ -n "${PROGRAM:-}" ] || (cd crates/channel_bench && ${RT:-rt} run > /dev/null 2>&1)
 instructions() {
-    valgrind --tool=callgrind --callgrind-out-file=/dev/null "$program" "$@" \
+    valgrind --tool=callgrind --callgrind-out-file=/dev/null "$program" journal_replay "$@" \
         2>&1 >/dev/null | awk '/Collected/ { print $4 }'
 }
 kilobytes() {
     python3 -c 'import resource, subprocess, sys
 subprocess.run(sys.argv[1:], stdout=subprocess.DEVNULL)
-print(resource.getrusage(resource.RUSAGE_CHILDREN).ru_maxrss)' "$program" "$@"
+print(resource.getrusage(resource.RUSAGE_CHILDREN).ru_maxrss)' "$program" journal_replay "$@"
 }
 made=$(instructions make 1024)
 put=$(instructions put 1024)

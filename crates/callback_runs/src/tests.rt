@@ -6,7 +6,7 @@ ghost use Rattle.std.specs.Prelude.{◌≡◌, [], IfOk};
 mod destroying;
 mod rows;
 
-use chan_types::{Bytes, Command, Entry, NoMemory, Script, Spec};
+use chan_types::{Bytes, Entry, NoMemory, Script, Spec};
 use channel_model::{Desk, Landed, Refused};
 use channel_table::Alone;
 use completion_ticket::{Callback, Hand, Scripted};
@@ -16,6 +16,7 @@ use resolv_options::Options;
 use scenario::journal_told;
 use std::alloc::Global;
 use std::test::Fail;
+use ticket_delivery::spend;
 
 /// The reply 192.0.2.1 to the query for the addresses of IPv4 of `x.test.`, with identifier 0 (RFC 1035, section 4.1).
 const REPLY: &[u8] =
@@ -56,32 +57,8 @@ fn asked(desk: &mut Alone<Callback<Scripted>>, spec: Spec, script: Script) -> u6
     }
 }
 
-/// Performs a command.
-fn perform(desk: &mut Alone<Callback<Scripted>>, command: Command) {
-    match command {
-        Command::Ask(spec, script) => {
-            let _number = asked(desk, spec, script);
-        }
-        Command::Cancel => {
-            let _count = desk.cancel();
-        }
-        Command::Destroy => {
-            let _first = desk.destroy();
-        }
-    }
-}
-
-/// Performs the commands of a hand, in order.
-fn perform_all(desk: &mut Alone<Callback<Scripted>>, hand: &mut Hand)
-    ensures { hand.new.commands ≡ [] }
-{
-    while let Some(command) = hand.next() {
-        perform(desk, command);
-    }
-}
-
-/// Takes the first ready request, calls its callback, and performs what that commands on its command. A hundred times the
-/// request's number and the code of its status, or 0 where none is ready.
+/// Takes the first ready request, and spends its ticket. A hundred times the request's number and the code of its status, or
+/// 0 where none is ready. No request is lost.
 fn delivered(desk: &mut Alone<Callback<Scripted>>, hand: &mut Hand) -> u64
     requires { hand.old.commands ≡ [] }
     ensures { hand.new.commands ≡ [] }
@@ -89,13 +66,13 @@ fn delivered(desk: &mut Alone<Callback<Scripted>>, hand: &mut Hand) -> u64
     let Some(ticket) = desk.take() else {
         return 0;
     };
-    let number = ticket.number();
-    let (callback, call) = ticket.spend();
-    let _called = callback.call(call.answer(), hand);
-    desk.voice(number);
-    perform_all(desk, hand);
     desk.voice(0);
-    number
+    let (called, call, lost) = spend(desk, hand, ticket);
+    if lost != 0 {
+        return u64::MAX;
+    }
+    called
+        .number()
         .saturating_mul(100)
         .saturating_add(u64::from(call.answer().status.code()))
 }

@@ -1,4 +1,4 @@
-//! DNS cookies over messages byte by byte. All of it is tests.
+//! DNS cookies over messages byte by byte, and against forged replies over loopback. All of it is tests.
 #![tactic(auto)]
 
 #[cfg(test)]

@@ -4,6 +4,7 @@ mod badcookies;
 mod bytes;
 mod links;
 mod messages;
+mod off_path;
 mod playing;
 mod queries;
 mod replies;

@@ -8,6 +8,7 @@ mod hostile;
 mod messages;
 mod mixing;
 mod names;
+mod opt_records;
 mod pointers;
 mod rdata;
 mod records;

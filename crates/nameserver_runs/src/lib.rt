@@ -1,4 +1,5 @@
-//! The nameserver: its zones, its replies, its network in memory and its runs. All of it is tests.
+//! The nameserver: its zones, its replies, its network in memory, its runs, and its side of the real network, asked over
+//! loopback. All of it is tests.
 #![tactic(auto)]
 
 #[cfg(test)]

@@ -1,9 +1,10 @@
-//! Calls the parts below a channel many times, for instructions to be counted or for time to be measured. The first word is
+//! Calls the parts below a channel, and a network with cookies, many times, for instructions to be counted or for time to be measured. The first word is
 //! the part, and the words behind it say what is done and how often. With no word each part does a little, and the lines
 //! that are printed are always the same.
 #![tactic(auto)]
 
 mod answers;
+mod cookies;
 mod deadlines;
 mod ids;
 mod legs;
@@ -16,7 +17,8 @@ use std::{env, io};
 use words::Words;
 
 /// The parts, by the names of their crates.
-const PARTS: [&str; 6] = [
+const PARTS: [&str; 7] = [
+    "cookie_world",
     "dns_message",
     "id_pool",
     "leg_index",
@@ -28,6 +30,7 @@ const PARTS: [&str; 6] = [
 /// What a part tells: nothing where there is no such part.
 fn measured<R: Clock + AllocGlobal>(rt: &R, part: &str, words: &Words) -> io::Result<String> {
     match part {
+        "cookie_world" => cookies::measure(rt.alloc(), words),
         "dns_message" => messages::measure(rt.alloc(), words),
         "id_pool" => ids::measure(rt.alloc(), words),
         "leg_index" => legs::measure(rt.alloc(), words),

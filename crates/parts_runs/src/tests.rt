@@ -8,4 +8,5 @@ mod callbacks;
 mod deadlines;
 mod ids;
 mod legs;
+mod machines;
 mod words;

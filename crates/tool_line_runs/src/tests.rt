@@ -1,6 +1,7 @@
 //! Words and what they ask, files, pages and endings, with ample memory.
 
 mod asks;
+mod help;
 mod pages;
 mod refusals;
 

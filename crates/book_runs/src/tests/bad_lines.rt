@@ -18,7 +18,7 @@ const GOOD: [&[u8]; 8] = [
 ];
 
 /// A line of the run, what stands in its place, and the first bad line of that text.
-const REPLACED: [(usize, &[u8], u64); 62] = [
+const REPLACED: [(usize, &[u8], u64); 69] = [
     // another version, a blank too much, blanks around, no blank
     (0, b"journal 2", 1),
     (0, b"journal  1", 1),
@@ -85,20 +85,27 @@ const REPLACED: [(usize, &[u8], u64); 62] = [
     (5, b"0 0 start 1 0 4294967296 0 1 - 0", 6),
     (5, b"0 0 start 1 0 0 0 65536 - 0", 6),
     (5, b"0 0 start 1 0 0 0 1 65536 0", 6),
+    (4, b"0 18446744073709551616 cancel", 5),
+    (6, b"0 0 take 18446744073709551616", 7),
+    (6, b"0 0 accept 1 q 78 1 1 ( 18446744073709551616 )", 7),
+    (6, b"0 0 arrive 0 18446744073709551616 -", 7),
+    (6, b"0 0 expire 1 0 18446744073709551616", 7),
+    (6, b"0 0 fault 4294967296 1 0", 7),
+    (6, b"0 0 servers 4294967296 192.0.2.53 53", 7),
     (6, b"0 0 servers 0 192.0.2.53", 7),
     (6, b"0 0 taken 1", 7),
     (6, b"server 192.0.2.53 53", 7),
     (7, b"end ", 8),
 ];
 
-/// The text of these lines.
-fn text_of(alloc: Global, lines: &[&[u8]]) -> Result<Bytes, Fail> {
+/// The text of the first of these lines, so many.
+fn text_of(alloc: Global, lines: &[&[u8]], count: usize) -> Result<Vec<u8>, Fail> {
     let mut text = Vec::new(alloc);
-    for line in lines {
+    for line in lines.iter().take(count) {
         text.extend_from_slice(line)?;
         text.push(b'\n')?;
     }
-    Ok(Bytes::from_vec(text))
+    Ok(text)
 }
 
 /// The first bad line of a text, or 0 where it is read.
@@ -110,43 +117,65 @@ fn bad_line(alloc: Global, text: &[u8]) -> Result<u64, Fail> {
     }
 }
 
+/// The first bad line of the run with this line in the place of the one at an index.
+fn bad_line_with(alloc: Global, at: usize, line: &[u8]) -> Result<u64, Fail> {
+    let mut lines = GOOD;
+    if at < 8 {
+        lines[at] = line;
+    }
+    let text = text_of(alloc, &lines, lines.len())?;
+    bad_line(alloc, text.as_slice())
+}
+
 #[test]
 fn each_kind_of_bad_line(rt: HostRuntime) -> Result<(), Fail> {
-    assert_eq!(rt;
-        bad_line(rt.alloc(), text_of(rt.alloc(), &GOOD)?.as_slice())?,
-        0
-    );
+    assert!(rt; bad_line_with(rt.alloc(), 0, GOOD[0])? == 0);
     for (at, line, bad) in REPLACED.iter() {
-        let mut lines = GOOD;
-        if *at < 8 {
-            lines[*at] = *line;
-        }
-        let text = text_of(rt.alloc(), &lines)?;
-        assert!(rt; bad_line(rt.alloc(), text.as_slice())? == *bad);
+        assert!(rt; bad_line_with(rt.alloc(), *at, line)? == *bad);
     }
     Ok(())
 }
 
-// A text that ends too early is refused behind its last line, and so is one with text behind its last LF.
+/// How many lines of the run stand, how many bytes are cut off behind them, what stands there, and the first bad line: texts
+/// that end too early, and texts with something behind their last LF.
+const ENDED: [(usize, usize, &[u8], u64); 12] = [
+    (0, 0, b"", 1),
+    (1, 0, b"", 2),
+    (2, 0, b"", 3),
+    (3, 0, b"", 4),
+    (4, 0, b"", 5),
+    (5, 0, b"", 6),
+    (6, 0, b"", 7),
+    (7, 0, b"", 8),
+    (8, 1, b"", 8),
+    (8, 3, b"", 8),
+    (8, 0, b"\n", 9),
+    (8, 0, b"x", 9),
+];
+
+/// The run that asks for a name below `onion`, without its last line.
+const UNENDED: &[u8] = b"journal 1\n\
+    option 2000 3 1 0 00000010 0 0 1232\n\
+    server 192.0.2.53 53\n\
+    hosts -\n\
+    0 0 accept 1 q 782e6f6e696f6e 1 1 ( 0 )\n\
+    0 0 take 1\n\
+    0 0 destroy\n";
+
+/// The first bad line of so many lines of the run, with so many bytes cut off and these behind them.
+fn bad_line_ended(alloc: Global, lines: usize, cut: usize, behind: &[u8]) -> Result<u64, Fail> {
+    let mut text = text_of(alloc, &GOOD, lines)?;
+    text.truncate(text.len().saturating_sub(cut));
+    text.extend_from_slice(behind)?;
+    bad_line(alloc, text.as_slice())
+}
+
 #[test]
 fn texts_that_end_elsewhere(rt: HostRuntime) -> Result<(), Fail> {
-    let alloc = rt.alloc();
-    for count in 0..8usize {
-        let text = text_of(alloc, &GOOD[..count])?;
-        assert_eq!(rt; bad_line(alloc, text.as_slice())?, count as u64 + 1);
+    for (lines, cut, behind, bad) in ENDED.iter() {
+        assert!(rt; bad_line_ended(rt.alloc(), *lines, *cut, behind)? == *bad);
     }
-    let text = text_of(alloc, &GOOD)?;
-    let whole = text.as_slice();
-    if whole.len() > 4 {
-        assert_eq!(rt; bad_line(alloc, &whole[..whole.len() - 1])?, 8);
-        assert_eq!(rt; bad_line(alloc, &whole[..whole.len() - 3])?, 8);
-    }
-    let mut more = text_of(alloc, &GOOD)?;
-    more.push(b'\n')?;
-    assert_eq!(rt; bad_line(alloc, more.as_slice())?, 9);
-    let mut behind = text_of(alloc, &GOOD)?;
-    behind.push(b'x')?;
-    assert_eq!(rt; bad_line(alloc, behind.as_slice())?, 9);
+    assert!(rt; bad_line(rt.alloc(), UNENDED)? == 8);
     Ok(())
 }
 
@@ -178,15 +207,11 @@ fn scripts_at_their_limits(rt: HostRuntime) -> Result<(), Fail> {
     let alloc = rt.alloc();
     for (count, bad) in [(8, 0), (9, 5)] {
         let line = many_steps(alloc, count)?;
-        let mut lines = GOOD;
-        lines[4] = line.as_slice();
-        assert_eq!(rt; bad_line(alloc, text_of(alloc, &lines)?.as_slice())?, bad);
+        assert!(rt; bad_line_with(alloc, 4, line.as_slice())? == bad);
     }
     for (deep, bad) in [(4, 0), (5, 5)] {
         let line = deep_scripts(alloc, deep)?;
-        let mut lines = GOOD;
-        lines[4] = line.as_slice();
-        assert_eq!(rt; bad_line(alloc, text_of(alloc, &lines)?.as_slice())?, bad);
+        assert!(rt; bad_line_with(alloc, 4, line.as_slice())? == bad);
     }
     Ok(())
 }

@@ -35,6 +35,12 @@ fn run_of(alloc: Global, hosts: usize, entries: u64) -> Result<Bytes, Fail> {
     Ok(Bytes::from_vec(text))
 }
 
+/// The number of the fault of such a run.
+fn fault_of_run(alloc: Global, hosts: usize, entries: u64) -> Result<u64, Fail> {
+    let text = run_of(alloc, hosts, entries)?;
+    fault_of(alloc, text.as_slice())
+}
+
 /// A run of one message of so many bytes.
 fn message_of(alloc: Global, bytes: usize) -> Result<Bytes, Fail> {
     let mut text = Vec::from_slice(alloc, FRONT)?;
@@ -50,8 +56,8 @@ fn message_of(alloc: Global, bytes: usize) -> Result<Bytes, Fail> {
 #[test]
 fn entries_at_their_limit(rt: HostRuntime) -> Result<(), Fail> {
     let alloc = rt.alloc();
-    assert_eq!(rt; fault_of(alloc, run_of(alloc, 1, 4096)?.as_slice())?, 0);
-    assert_eq!(rt; fault_of(alloc, run_of(alloc, 1, 4097)?.as_slice())?, 33);
+    assert!(rt; fault_of_run(alloc, 1, 4096)? == 0);
+    assert!(rt; fault_of_run(alloc, 1, 4097)? == 33);
     Ok(())
 }
 
@@ -59,18 +65,9 @@ fn entries_at_their_limit(rt: HostRuntime) -> Result<(), Fail> {
 #[test]
 fn hosts_at_their_limit(rt: HostRuntime) -> Result<(), Fail> {
     let alloc = rt.alloc();
-    assert_eq!(rt;
-        fault_of(alloc, run_of(alloc, 4_194_304, 1)?.as_slice())?,
-        0
-    );
-    assert_eq!(rt;
-        fault_of(alloc, run_of(alloc, 4_194_305, 1)?.as_slice())?,
-        34
-    );
-    assert_eq!(rt;
-        fault_of(alloc, run_of(alloc, 4_194_305, 4097)?.as_slice())?,
-        33
-    );
+    assert!(rt; fault_of_run(alloc, 4_194_304, 1)? == 0);
+    assert!(rt; fault_of_run(alloc, 4_194_305, 1)? == 34);
+    assert!(rt; fault_of_run(alloc, 4_194_305, 4097)? == 33);
     Ok(())
 }
 
@@ -79,10 +76,10 @@ fn hosts_at_their_limit(rt: HostRuntime) -> Result<(), Fail> {
 fn bytes_at_their_limit(rt: HostRuntime) -> Result<(), Fail> {
     let alloc = rt.alloc();
     let text = message_of(alloc, 8_388_560)?;
-    assert_eq!(rt; text.len(), 16_777_216);
-    assert_eq!(rt; fault_of(alloc, text.as_slice())?, 0);
+    assert!(rt; text.len() == 16_777_216);
+    assert!(rt; fault_of(alloc, text.as_slice())? == 0);
     let mut more = text;
     more.push(b'x')?;
-    assert_eq!(rt; fault_of(alloc, more.as_slice())?, 31);
+    assert!(rt; fault_of(alloc, more.as_slice())? == 31);
     Ok(())
 }

@@ -1,7 +1,7 @@
 //! A text with every kind of line, entry, request, step and option, and the run that it is.
 
 use chan_types::{
-    Act, Bytes, Entry, Journal, Need, Script, ServerKey, Spec, Step, Steps, What, When,
+    Act, Bytes, Entry, Journal, KeyList, Need, Script, ServerKey, Spec, Step, Steps, What, When,
 };
 use journal_text::{Book, print_book, read_book};
 use net_addr::{Addr, AddrList, Family, ServerAddr, ServerList};
@@ -51,12 +51,23 @@ const ALL: &[u8] = b"journal 1\n\
 #[test]
 fn texts_are_read_and_printed_again(rt: HostRuntime) -> Result<(), Fail> {
     for text in [ONION, ALL] {
-        let book = read_book(rt.alloc(), text)
-            .ok()
-            .ok_or("the text is a run's")?;
-        assert_eq!(rt; print_book(rt.alloc(), &book)?.as_slice(), text);
+        let book = read(rt.alloc(), text)?;
+        assert!(rt; print(rt.alloc(), &book)?.as_slice() == text);
     }
     Ok(())
+}
+
+/// The run of a text.
+fn read(alloc: Global, text: &[u8]) -> Result<Book, Fail> {
+    match read_book(alloc, text) {
+        Ok(book) => Ok(book),
+        Err(_) => Err("the text is a run's".into()),
+    }
+}
+
+/// The text of a run.
+fn print(alloc: Global, book: &Book) -> Result<Bytes, Fail> {
+    Ok(print_book(alloc, book)?)
 }
 
 // The run that the second text is, made by hand, is printed as that text.
@@ -68,82 +79,84 @@ fn a_run_is_printed(rt: HostRuntime) -> Result<(), Fail> {
         hosts: Bytes::of(alloc, b"127.0.0.1 a\n")?,
         journal: Journal::from_vec(all_entries(alloc)?),
     };
-    assert_eq!(rt; print_book(alloc, &book)?.as_slice(), ALL);
+    assert!(rt; print(alloc, &book)?.as_slice() == ALL);
     Ok(())
+}
+
+/// Whether options are those of the second text, but for the lists.
+fn are_all_set(options: &Options) -> bool {
+    options.timeout() == 60_000
+        && options.tries() == 10
+        && options.ndots() == 15
+        && options.max_timeout() == 3_600_000
+        && options.flags() == all_flags()
+        && options.rotate()
+        && options.lookups() == Lookups::Files
+        && options.edns_size() == 65_535
+}
+
+/// Whether two entries are the attempts of the second text.
+fn are_attempts(first: &Entry, second: &Entry) -> bool {
+    matches!(
+        &first.what,
+        What::Start {
+            number: 1,
+            leg: 255,
+            server: 4_294_967_295,
+            link: 0,
+            id: 65_535,
+            mix: None,
+            moment: 18_446_744_073_709_551_615
+        }
+    ) && matches!(
+        &second.what,
+        What::Start {
+            number: 2,
+            leg: 0,
+            server: 1,
+            link: 9,
+            id: 4660,
+            mix: Some(32_769),
+            moment: 1000
+        }
+    )
+}
+
+/// Whether two entries are the Expire and the Fault of the second text.
+fn are_ends(first: &Entry, second: &Entry) -> bool {
+    matches!(
+        &first.what,
+        What::Expire {
+            number: 1,
+            leg: 0,
+            moment: 2000
+        }
+    ) && matches!(
+        &second.what,
+        What::Fault {
+            server: 1,
+            link: 9,
+            moment: 3000
+        }
+    )
 }
 
 // What a text's lines say is what their run has: the options, the hosts file, and the entries' kinds and fields.
 #[test]
 fn a_run_is_read(rt: HostRuntime) -> Result<(), Fail> {
-    let book = read_book(rt.alloc(), ALL)
-        .ok()
-        .ok_or("the text is a run's")?;
+    let book = read(rt.alloc(), ALL)?;
     let options = &book.options;
-    assert_eq!(rt; options.timeout(), 60_000);
-    assert_eq!(rt; options.tries(), 10);
-    assert_eq!(rt; options.ndots(), 15);
-    assert_eq!(rt; options.max_timeout(), 3_600_000);
-    assert_eq!(rt; options.flags(), all_flags());
-    assert!(rt; options.rotate());
-    assert_eq!(rt; options.lookups(), Lookups::Files);
-    assert_eq!(rt; options.edns_size(), 65_535);
-    assert_eq!(rt; options.servers().len(), 2);
-    assert_eq!(rt; options.domains().len(), 2);
-    assert_eq!(rt;
-        options.sources().as_slice(),
-        [Addr::V4(0xc000_0201), Addr::V6(0xffff_c000_0202)].as_slice()
+    assert!(rt; are_all_set(options));
+    assert!(rt; options.servers().len() == 2 && options.domains().len() == 2);
+    assert!(rt;
+        options.sources().as_slice()
+            == [Addr::V4(0xc000_0201), Addr::V6(0xffff_c000_0202)].as_slice()
     );
-    assert_eq!(rt; book.hosts.as_slice(), b"127.0.0.1 a\n".as_slice());
+    assert!(rt; book.hosts.as_slice() == b"127.0.0.1 a\n".as_slice());
     let entries = book.journal.entries();
-    assert_eq!(rt; entries.len(), 16);
-    assert!(rt;
-        matches!(
-            &entries[8].what,
-            What::Start {
-                number: 1,
-                leg: 255,
-                server: 4_294_967_295,
-                link: 0,
-                id: 65_535,
-                mix: None,
-                moment: 18_446_744_073_709_551_615
-            }
-        )
-    );
-    assert!(rt;
-        matches!(
-            &entries[9].what,
-            What::Start {
-                number: 2,
-                leg: 0,
-                server: 1,
-                link: 9,
-                id: 4660,
-                mix: Some(32_769),
-                moment: 1000
-            }
-        )
-    );
-    assert!(rt;
-        matches!(
-            &entries[12].what,
-            What::Expire {
-                number: 1,
-                leg: 0,
-                moment: 2000
-            }
-        )
-    );
-    assert!(rt;
-        matches!(
-            &entries[13].what,
-            What::Fault {
-                server: 1,
-                link: 9,
-                moment: 3000
-            }
-        )
-    );
+    assert!(rt; entries.len() == 16);
+    assert!(rt; are_attempts(&entries[8], &entries[9]));
+    assert!(rt; are_ends(&entries[12], &entries[13]));
     assert!(rt; entries[15].seat == 3 && entries[15].by == 6);
     Ok(())
 }
@@ -193,28 +206,6 @@ fn all_options(alloc: Global) -> Result<Options, Fail> {
     Ok(options)
 }
 
-/// An entry that accepts a request.
-fn accept(seat: u64, by: u64, number: u64, spec: Spec, script: Script) -> Entry {
-    Entry {
-        seat,
-        by,
-        what: What::Accept {
-            number,
-            spec,
-            script,
-        },
-    }
-}
-
-/// An entry of seat 0 that no callback gave.
-fn own(what: What) -> Entry {
-    Entry {
-        seat: 0,
-        by: 0,
-        what,
-    }
-}
-
 /// A script of these steps.
 fn script(tag: u64, steps: Vec<Step>) -> Result<Script, Fail> {
     let made = Script::new(tag, Steps::from_vec(steps))
@@ -238,162 +229,184 @@ fn nested(alloc: Global, tag: u64) -> Result<Script, Fail> {
     Ok(inner)
 }
 
+/// The step at this index of a script that has one of each kind.
+fn step(alloc: Global, index: usize) -> Step {
+    let (when, need, act) = match index {
+        0 => (When::Always, Need::Nothing, Act::Cancel),
+        1 => (When::Good, Need::Follow, Act::Destroy),
+        2 => (
+            When::Bad,
+            Need::First,
+            Act::Reverse(Script::blank(alloc, 8)),
+        ),
+        _ => (
+            When::Always,
+            Need::Quit,
+            Act::Ask(
+                Spec::Reverse {
+                    address: Addr::V4(0xc000_0209),
+                },
+                Script::blank(alloc, 9),
+            ),
+        ),
+    };
+    Step { when, need, act }
+}
+
 /// A script with a step of each kind.
 fn every_step(alloc: Global) -> Result<Script, Fail> {
     let mut steps = Vec::new(alloc);
-    steps.push(Step {
-        when: When::Always,
-        need: Need::Nothing,
-        act: Act::Cancel,
-    })?;
-    steps.push(Step {
-        when: When::Good,
-        need: Need::Follow,
-        act: Act::Destroy,
-    })?;
-    steps.push(Step {
-        when: When::Bad,
-        need: Need::First,
-        act: Act::Reverse(Script::blank(alloc, 8)),
-    })?;
-    steps.push(Step {
-        when: When::Always,
-        need: Need::Quit,
-        act: Act::Ask(
-            Spec::Reverse {
-                address: Addr::V4(0xc000_0209),
-            },
-            Script::blank(alloc, 9),
-        ),
-    })?;
+    for index in 0..4 {
+        steps.push(step(alloc, index))?;
+    }
     script(7, steps)
 }
 
-/// The entries of the second text.
-fn all_entries(alloc: Global) -> Result<Vec<Entry>, Fail> {
-    let mut entries = Vec::new(alloc);
-    let blank = || Script::blank(alloc, 0);
-    entries.push(accept(
-        0,
-        0,
-        1,
-        Spec::Query {
+/// What the request of the entry at this index asks.
+fn spec(alloc: Global, index: usize) -> Result<Spec, Fail> {
+    Ok(match index {
+        0 => Spec::Query {
             name: Bytes::of(alloc, b"a")?,
             kind: 28,
             class: 1,
         },
-        blank(),
-    ))?;
-    entries.push(accept(
-        1,
-        2,
-        2,
-        Spec::Search {
+        1 => Spec::Search {
             name: Bytes::new(alloc),
             kind: 65_535,
             class: 255,
         },
-        every_step(alloc)?,
-    ))?;
-    entries.push(accept(
-        2,
-        0,
-        3,
-        Spec::Address {
-            host: Bytes::of(alloc, b"localhost")?,
-            family: Family::Any,
-            nosort: false,
-        },
-        blank(),
-    ))?;
-    entries.push(accept(
-        2,
-        0,
-        4,
-        Spec::Address {
-            host: Bytes::of(alloc, b".")?,
-            family: Family::V4,
-            nosort: true,
-        },
-        blank(),
-    ))?;
-    entries.push(accept(
-        2,
-        0,
-        5,
-        Spec::Address {
-            host: Bytes::of(alloc, b"\xff")?,
-            family: Family::V6,
-            nosort: false,
-        },
-        blank(),
-    ))?;
-    entries.push(accept(
-        2,
-        0,
-        6,
-        Spec::Reverse {
+        2 => addresses(alloc, b"localhost", Family::Any, false)?,
+        3 => addresses(alloc, b".", Family::V4, true)?,
+        4 => addresses(alloc, b"\xff", Family::V6, false)?,
+        _ => Spec::Reverse {
             address: Addr::V6(0x2001_0db8_0000_0000_0000_0000_0000_0001),
         },
-        nested(alloc, u64::MAX)?,
-    ))?;
-    entries.push(own(What::Cancel))?;
-    entries.push(own(What::Take { number: u64::MAX }))?;
-    entries.push(own(What::Start {
-        number: 1,
-        leg: 255,
-        server: u32::MAX,
-        link: 0,
-        id: 65_535,
-        mix: None,
-        moment: u64::MAX,
-    }))?;
-    entries.push(own(What::Start {
-        number: 2,
-        leg: 0,
-        server: 1,
-        link: 9,
-        id: 0x1234,
-        mix: Some(0x8001),
-        moment: 1000,
-    }))?;
-    entries.push(own(What::Arrive {
-        server: 0,
-        link: 0,
-        bytes: Bytes::new(alloc),
-    }))?;
-    entries.push(own(What::Arrive {
-        server: 1,
-        link: 9,
-        bytes: Bytes::of(alloc, &[10, 11, 12])?,
-    }))?;
-    entries.push(own(What::Expire {
-        number: 1,
-        leg: 0,
-        moment: 2000,
-    }))?;
-    entries.push(own(What::Fault {
-        server: 1,
-        link: 9,
-        moment: 3000,
-    }))?;
+    })
+}
+
+/// The addresses of a host.
+fn addresses(alloc: Global, host: &[u8], family: Family, nosort: bool) -> Result<Spec, Fail> {
+    Ok(Spec::Address {
+        host: Bytes::of(alloc, host)?,
+        family,
+        nosort,
+    })
+}
+
+/// The script of the entry at this index.
+fn script_at(alloc: Global, index: usize) -> Result<Script, Fail> {
+    match index {
+        1 => every_step(alloc),
+        5 => nested(alloc, u64::MAX),
+        _ => Ok(Script::blank(alloc, 0)),
+    }
+}
+
+/// The entry at this index, from 0 to 5: a request of each kind.
+fn accepted(alloc: Global, index: usize) -> Result<What, Fail> {
+    Ok(What::Accept {
+        number: (index as u64).saturating_add(1),
+        spec: spec(alloc, index)?,
+        script: script_at(alloc, index)?,
+    })
+}
+
+/// The servers that the second text sets.
+fn servers(alloc: Global) -> Result<What, Fail> {
+    let [first, second] = SERVERS;
     let list = [
         ServerKey {
             key: 0,
-            address: SERVERS[0],
+            address: first,
         },
         ServerKey {
             key: 7,
-            address: SERVERS[1],
+            address: second,
         },
     ];
-    entries.push(own(What::Servers {
-        list: chan_types::KeyList::of(alloc, &list)?,
-    }))?;
-    entries.push(Entry {
-        seat: 3,
-        by: 6,
-        what: What::Destroy,
-    })?;
+    Ok(What::Servers {
+        list: KeyList::of(alloc, &list)?,
+    })
+}
+
+/// The entry at this index of the second text.
+fn what(alloc: Global, index: usize) -> Result<What, Fail> {
+    Ok(match index {
+        0..=5 => accepted(alloc, index)?,
+        6 => What::Cancel,
+        7 => What::Take { number: u64::MAX },
+        8 => What::Start {
+            number: 1,
+            leg: 255,
+            server: u32::MAX,
+            link: 0,
+            id: 65_535,
+            mix: None,
+            moment: u64::MAX,
+        },
+        9 => What::Start {
+            number: 2,
+            leg: 0,
+            server: 1,
+            link: 9,
+            id: 0x1234,
+            mix: Some(0x8001),
+            moment: 1000,
+        },
+        10 => What::Arrive {
+            server: 0,
+            link: 0,
+            bytes: Bytes::new(alloc),
+        },
+        11 => What::Arrive {
+            server: 1,
+            link: 9,
+            bytes: Bytes::of(alloc, &[10, 11, 12])?,
+        },
+        12 => What::Expire {
+            number: 1,
+            leg: 0,
+            moment: 2000,
+        },
+        13 => What::Fault {
+            server: 1,
+            link: 9,
+            moment: 3000,
+        },
+        14 => servers(alloc)?,
+        _ => What::Destroy,
+    })
+}
+
+/// The seats that made the entries of the second text, and the requests whose callbacks commanded them.
+const MAKERS: [(u64, u64); 16] = [
+    (0, 0),
+    (1, 2),
+    (2, 0),
+    (2, 0),
+    (2, 0),
+    (2, 0),
+    (0, 0),
+    (0, 0),
+    (0, 0),
+    (0, 0),
+    (0, 0),
+    (0, 0),
+    (0, 0),
+    (0, 0),
+    (0, 0),
+    (3, 6),
+];
+
+/// The entries of the second text.
+fn all_entries(alloc: Global) -> Result<Vec<Entry>, Fail> {
+    let mut entries = Vec::new(alloc);
+    for (index, (seat, by)) in MAKERS.iter().enumerate() {
+        entries.push(Entry {
+            seat: *seat,
+            by: *by,
+            what: what(alloc, index)?,
+        })?;
+    }
     Ok(entries)
 }

@@ -1,0 +1,81 @@
+//! A lawful journal of requests that are answered one behind the other.
+
+use crate::failed::Failed;
+use chan_types::{Bytes, Entry, Journal, Script, Spec, What};
+use dns_message::numbers::{CLASS_IN, KIND_A};
+use journal_text::Book;
+use resolv_options::read_resolv;
+use std::alloc::Global;
+
+/// One server (resolv.conf(5)).
+const RESOLV: &[u8] = b"nameserver 192.0.2.53\n";
+
+/// The reply with identifier 7 and the address 192.0.2.1 to a query for example.com (RFC 1035, section 4.1).
+const REPLY: &[u8] =
+    b"\0\x07\x81\x80\0\x01\0\x01\0\0\0\0\x07example\x03com\0\0\x01\0\x01\xc0\x0c\0\x01\0\x01\0\0\0\x3c\0\x04\xc0\0\x02\x01";
+
+/// The entry of this, by seat 0 and on nobody's command.
+fn entry(what: What) -> Entry {
+    Entry {
+        seat: 0,
+        by: 0,
+        what,
+    }
+}
+
+/// The entry that accepts the request of this number.
+fn accept(alloc: Global, number: u64) -> Result<Entry, Failed> {
+    Ok(entry(What::Accept {
+        number,
+        spec: Spec::Query {
+            name: Bytes::of(alloc, b"example.com")?,
+            kind: KIND_A,
+            class: CLASS_IN,
+        },
+        script: Script::blank(alloc, 0),
+    }))
+}
+
+/// The entry that begins its attempt.
+fn start(number: u64) -> Entry {
+    entry(What::Start {
+        number,
+        leg: 0,
+        server: 0,
+        link: 0,
+        id: 7,
+        mix: None,
+        moment: 0,
+    })
+}
+
+/// The entry of its reply.
+fn reply(alloc: Global) -> Result<Entry, Failed> {
+    Ok(entry(What::Arrive {
+        server: 0,
+        link: 0,
+        bytes: Bytes::of(alloc, REPLY)?,
+    }))
+}
+
+/// The entries in which so many requests are accepted, begun, answered and taken, one behind the other.
+fn answered(alloc: Global, requests: u64) -> Result<Vec<Entry>, Failed> {
+    let mut journal = Vec::new(alloc);
+    for index in 0..requests {
+        let number = index + 1;
+        journal.push(accept(alloc, number)?)?;
+        journal.push(start(number))?;
+        journal.push(reply(alloc)?)?;
+        journal.push(entry(What::Take { number }))?;
+    }
+    Ok(journal)
+}
+
+/// The run of a channel with one server and an empty hosts file, in which so many requests are answered.
+pub fn run_of(alloc: Global, requests: u64) -> Result<Book, Failed> {
+    Ok(Book {
+        options: read_resolv(alloc, RESOLV).map_err(|_| Failed)?,
+        hosts: Bytes::of(alloc, b"")?,
+        journal: Journal::from_vec(answered(alloc, requests)?),
+    })
+}

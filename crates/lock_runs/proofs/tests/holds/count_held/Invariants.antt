@@ -1,5 +1,0 @@
-use Rattle.seat_lock.specs.History.{IsSameSeat}
-use Rattle.lock_runs.proofs.tests.holds.count_held.Given as goal
-
-abbrev pub invariant-loop : goal.invariant-loop
-invariant-loop g l = IsSameSeat l.fn.seat l.hold

@@ -1,6 +1,0 @@
-use Rattle.std.proofs.Common.{◌≡◌}
-use Rattle.seat_lock.specs.History.{IsSameSeat}
-use Rattle.lock_runs.proofs.tests.holds.count_often.Given as goal
-
-abbrev pub invariant-loop : goal.invariant-loop
-invariant-loop g l = (l.seat.lock ≡ l.lock) × IsSameSeat l.fn.seat l.seat

@@ -1,2 +1,0 @@
-mod PassLemmas
-mod RoundLemmas

@@ -1,9 +1,0 @@
-use Rattle.std.proofs.Common.{◌≡◌, vec_len}
-use Rattle.pool_runs.proofs.PassLemmas.{IsHiring}
-use Rattle.pool_runs.proofs.tests.whole.crew_at.Given as goal
-
-abbrev pub invariant-loop-pass : goal.invariant-loop-pass
-invariant-loop-pass g l = (vec_len l.passes ≡ vec_len l.spenders) × IsHiring l.pool.queue l.fn.passes.items l.passes.items l.crew.items
-
-abbrev pub decreases-loop-pass : goal.decreases-loop-pass
-decreases-loop-pass g l = vec_len l.passes

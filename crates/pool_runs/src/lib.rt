@@ -1,5 +1,0 @@
-//! Runs of a pool of workers. All of it is tests.
-#![tactic(auto)]
-
-#[cfg(test)]
-mod tests;

@@ -1,0 +1,3 @@
+mod PassLemmas
+mod RoundLemmas
+mod SeatRowLemmas
