@@ -1,6 +1,6 @@
 #!/usr/bin/env bash
 # Tries the wrong bodies that the gate leaves out: bench/wrong_bodies.sh [NAME ..]
-# A trial proves its crate anew first, so a crate that takes more than two processor minutes has its wrong bodies in crates/NAME/wrong-bodies/, which the gate doesn't read.
+# A trial proves its crate anew first, so a crate that takes more than some 70 processor seconds has its wrong bodies in crates/NAME/wrong-bodies/, which the gate doesn't read.
 # Here they stand for must-fail/ as long as the trial lasts. No NAME: all of them. Each must be refused; the status is 0 where each is.
 cd "$(dirname "$0")/.." || exit 1
 names=("$@")
