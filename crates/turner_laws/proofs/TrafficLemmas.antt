@@ -14,11 +14,11 @@ use Rattle.net_addr.specs.declared.addr.ServerAddr.{ServerAddr}
 use Rattle.net_world.specs.Logs.{LogGets}
 use Rattle.net_world.specs.declared.log.WorldCall.{WorldCall}
 use Rattle.owner_laws.specs.Sessions.{EndsWithFailedWait}
-use Rattle.turner_laws.specs.Traffic.{GoesOnBehind, IsTrafficBeside, OwesNone}
+use Rattle.turner_laws.specs.Traffic.{GoesOnBehind, IsTrafficBeside}
 use Rattle.worker_session.proofs.Theorems.{sets_more, so_far_more}
 use Rattle.worker_session.specs.Setting.{SetsBehindFirst, SetsSoFar}
 use Rattle.worker_session.specs.Standing.{AreDone, AreLeft, HasCome, HasSet, StandsIn, Told}
-use Rattle.worker_session.specs.Turning.{Turning, longest_pause, pending_of}
+use Rattle.worker_session.specs.Turning.{OwesNone, Turning, longest_pause, pending_of}
 use Rattle.worker_session.specs.declared.coming.Coming.{Coming}
 use Rattle.worker_session.specs.declared.coming.Coming.TheVariants.{OutOfMemory, Stalled, UnderWay, WaitFault}
 
@@ -49,17 +49,17 @@ module _ (later : Option (List ServerAddr)) (began : Option (List WorldCall)) (t
   left_or_done (Some addresses) is (inr rested) W log done left = told_as W SetSo (λ calls w owner. unset_yet addresses later made t calls (left addresses refl) rested) began t.log log
 
   -- by how it came, but for want of memory
-  pub sets_told : (coming : Coming) → coming ≢ OutOfMemory → OwesNone t → HasSet coming t.later later made began t → (W : List WorldCall → Type 0) → LogGets W began t.log → LogGets SetSo began t.log
-  sets_told coming served owes sets W log = by coming served t.later refl sets
+  pub sets_told : (coming : Coming) → coming ≢ OutOfMemory → (coming ≡ UnderWay → OwesNone t) → HasSet coming t.later later made began t → (W : List WorldCall → Type 0) → LogGets W began t.log → LogGets SetSo began t.log
+  sets_told coming served owes sets W log = by coming served owes t.later refl sets
     where
-      by : (c : Coming) → c ≢ OutOfMemory → (left : Option (List ServerAddr)) → t.later ≡ left → HasSet c left later made began t → LogGets SetSo began t.log
-      by UnderWay served None is sets = sets.1
-      by UnderWay served (Some addresses) is sets = left_or_done (Some addresses) is owes W log (λ none. absurd (cc none)) (λ other same. subst (λ a. AreLeft a later made t) (cc same) sets)
-      by WaitFault served None is sets = sets.1
-      by WaitFault served (Some addresses) is sets = absurd sets
-      by Stalled served None is sets = sets.1
-      by Stalled served (Some addresses) is sets = left_or_done (Some addresses) is owes W log (λ none. absurd (cc none)) (λ other same. subst (λ a. AreLeft a later made t) (cc same) sets)
-      by OutOfMemory served left is sets = absurd (served refl)
+      by : (c : Coming) → c ≢ OutOfMemory → (c ≡ UnderWay → OwesNone t) → (left : Option (List ServerAddr)) → t.later ≡ left → HasSet c left later made began t → LogGets SetSo began t.log
+      by UnderWay served owes None is sets = sets.1
+      by UnderWay served owes (Some addresses) is sets = left_or_done (Some addresses) is (owes refl) W log (λ none. absurd (cc none)) (λ other same. subst (λ a. AreLeft a later made t) (cc same) sets)
+      by WaitFault served owes None is sets = sets.1
+      by WaitFault served owes (Some addresses) is sets = absurd sets
+      by Stalled served owes None is sets = sets.1
+      by Stalled served owes (Some addresses) is sets = left_or_done (Some addresses) is (inr sets.1) W log (λ none. absurd (cc none)) (λ other same. subst (λ a. AreLeft a later made t) (cc same) sets.0)
+      by OutOfMemory served owes left is sets = absurd (served refl)
 
 -- ---- the traffic
 
@@ -118,7 +118,7 @@ module _ (turns : ℕ) (later : Option (List ServerAddr)) (t : Turning) (more : 
         stalled = λ is. absurd (cc is);
       }
 
-  module _ (began : Option (List WorldCall)) (made : ℕ) (counts : made + t.left ≡ turns) (owes : OwesNone t) where
+  module _ (began : Option (List WorldCall)) (made : ℕ) (counts : made + t.left ≡ turns) where
     abbrev few : made ≤ turns
     few = omega (arith, counts)
 
@@ -126,10 +126,10 @@ module _ (turns : ℕ) (later : Option (List ServerAddr)) (t : Turning) (more : 
     WayBy reach calls = IsTurnOwner t.known → IsUnderWay longest_pause made 0 reach t.known t.running calls
 
     -- a run that came so far, with what its log tells
-    told_so : (coming : Coming) (reach : Reach) → RunsSince longest_pause made 0 reach t.known t.running began t.log → (F : List WorldCall → Type 0) → Told F began t → coming ≢ OutOfMemory → HasSet coming t.later later made began t →
+    told_so : (coming : Coming) (reach : Reach) → RunsSince longest_pause made 0 reach t.known t.running began t.log → (F : List WorldCall → Type 0) → Told F began t → coming ≢ OutOfMemory → (coming ≡ UnderWay → OwesNone t) → HasSet coming t.later later made began t →
         ((calls : List WorldCall) → F calls → (NoWaitFailed calls ⊎ EndsWithFailedWait calls) × (coming ≡ WaitFault → EndsWithFailedWait calls) × (coming ≢ WaitFault → NoWaitFailed calls)) →
         (coming ≡ Stalled → (made ≡ turns) × (pending_of t.known ≢ [])) → LogGets (IsTrafficBeside setting seat later turns coming whole) began t.log
-    told_so coming reach runs F facts served sets shows stalls =
+    told_so coming reach runs F facts served owes sets shows stalls =
         let all = told_both (WayBy reach) (λ calls. (IsTurnOwner t.known → F calls) × SetSo later began t made calls) began t.log runs
         (told_both (λ calls. IsTurnOwner t.known → F calls) (SetSo later began t made) began t.log facts (sets_told later began t made coming served owes sets (WayBy reach) runs)) in
         told_as (λ calls. WayBy reach calls × ((IsTurnOwner t.known → F calls) × SetSo later began t made calls)) (IsTrafficBeside setting seat later turns coming whole)
@@ -137,20 +137,20 @@ module _ (turns : ℕ) (later : Option (List ServerAddr)) (t : Turning) (more : 
         let shown = shows calls (a.1.0 behind.owner) in
         traffic_whole coming made reach calls few (a.0 behind.owner) (a.1.1 behind.owner) shown.0 shown.1 shown.2 stalls) began t.log all
 
-    by_coming : (coming : Coming) → HasCome coming made began t → HasSet coming t.later later made began t → LogGets (IsTrafficBeside setting seat later turns coming whole) began t.log
-    by_coming UnderWay come sets =
-        told_so UnderWay _ come.1 NoWaitFailed come.2 (λ is. cc is) sets (λ calls none. (inl none, λ is. absurd (cc is), λ other. none)) (λ is. absurd (cc is))
-    by_coming WaitFault come sets =
-        told_so WaitFault _ come.0 EndsWithFailedWait come.1 (λ is. cc is) sets (λ calls last. (inr last, λ is. last, λ other. absurd (other refl))) (λ is. absurd (cc is))
-    by_coming Stalled come sets =
-        told_so Stalled _ come.2 NoWaitFailed come.3 (λ is. cc is) sets (λ calls none. (inl none, λ is. absurd (cc is), λ other. none)) (λ is. (omega (arith, counts, come.0), come.1))
-    by_coming OutOfMemory come sets =
+    by_coming : (coming : Coming) → (coming ≡ UnderWay → OwesNone t) → HasCome coming made began t → HasSet coming t.later later made began t → LogGets (IsTrafficBeside setting seat later turns coming whole) began t.log
+    by_coming UnderWay owes come sets =
+        told_so UnderWay _ come.1 NoWaitFailed come.2 (λ is. cc is) owes sets (λ calls none. (inl none, λ is. absurd (cc is), λ other. none)) (λ is. absurd (cc is))
+    by_coming WaitFault owes come sets =
+        told_so WaitFault _ come.0 EndsWithFailedWait come.1 (λ is. cc is) owes sets (λ calls last. (inr last, λ is. last, λ other. absurd (other refl))) (λ is. absurd (cc is))
+    by_coming Stalled owes come sets =
+        told_so Stalled _ come.2 NoWaitFailed come.3 (λ is. cc is) owes sets (λ calls none. (inl none, λ is. absurd (cc is), λ other. none)) (λ is. (omega (arith, counts, come.0), come.1))
+    by_coming OutOfMemory owes come sets =
         told_as (λ calls. (IsTurnOwner t.known → IsSoFar longest_pause made 0 t.known calls) × ((IsTurnOwner t.known → NoWaitFailed calls) × (IsTurnOwner t.known → SetsSoFar setting seat later made t.known.seen calls)))
         (IsTrafficBeside setting seat later turns OutOfMemory whole)
         (λ calls a. traffic_cut made calls few (a.0 behind.owner) (a.1.1 behind.owner) (a.1.0 behind.owner)) began t.log
         (told_both (λ calls. IsTurnOwner t.known → IsSoFar longest_pause made 0 t.known calls) (λ calls. (IsTurnOwner t.known → NoWaitFailed calls) × (IsTurnOwner t.known → SetsSoFar setting seat later made t.known.seen calls)) began t.log come.0
         (told_both (λ calls. IsTurnOwner t.known → NoWaitFailed calls) (λ calls. IsTurnOwner t.known → SetsSoFar setting seat later made t.known.seen calls) began t.log come.1 sets))
 
-pub traffic_kept : (turns : ℕ) (later : Option (List ServerAddr)) (began : Option (List WorldCall)) (t : Turning) (more : List Entry) → StandsIn turns later began t → OwesNone t → GoesOnBehind t more →
+pub traffic_kept : (turns : ℕ) (later : Option (List ServerAddr)) (began : Option (List WorldCall)) (t : Turning) (more : List Entry) → StandsIn turns later began t → (t.coming ≡ UnderWay → OwesNone t) → GoesOnBehind t more →
     LogGets (IsTrafficBeside t.known.setting t.known.seat later turns t.coming (t.known.seen ++ more)) began t.log
-traffic_kept turns later began t more stands owes behind = by_coming turns later t more behind began stands.made stands.counts owes t.coming stands.come stands.sets
+traffic_kept turns later began t more stands owes behind = by_coming turns later t more behind began stands.made stands.counts t.coming owes stands.come stands.sets

@@ -1,5 +1,5 @@
 -- What a run calls of the network whose turns are made through a desk of their own, while others use the channel.
-use Rattle.std.specs.Prelude.{IsFalse, IsTrue, List, None, Option, ℕ, ◌≡◌, ◌≢◌, ◌≤◌, ◌⊎◌}
+use Rattle.std.specs.Prelude.{IsTrue, List, Option, ℕ, ◌≡◌, ◌≢◌, ◌≤◌, ◌⊎◌}
 use Rattle.chan_types.specs.declared.journal.Entry.{Entry}
 use Rattle.channel_model.specs.Course.{IsCourse, IsCourseSoFar, has_no_turn}
 use Rattle.channel_model.specs.CutShort.{NearlyAgrees}
@@ -16,10 +16,6 @@ use Rattle.worker_session.specs.Setting.{SetsBehindFirst, SetsNone, SetsSoFar}
 use Rattle.worker_session.specs.Turning.{Turning, longest_pause}
 use Rattle.worker_session.specs.declared.coming.Coming.{Coming}
 use Rattle.worker_session.specs.declared.coming.Coming.TheVariants.{OutOfMemory, Stalled, WaitFault}
-
--- no servers are to be set behind the turn that was made
-abbrev pub OwesNone : Turning → Type 0
-OwesNone t = (t.later ≡ None) ⊎ IsFalse t.behind_turn
 
 -- no other seat made entries of turns so far; and behind that the journal goes on with no turn's, and the seat sets no servers there
 pub record GoesOnBehind (t : Turning) (more : List Entry) : Type 0 where

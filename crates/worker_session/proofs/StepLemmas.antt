@@ -411,7 +411,7 @@ steps_stalled t under_way is_rested some_pending none = record {
   where
     by : (later : Option (List ServerAddr)) (began : Option (List WorldCall)) (made : ℕ) (left : Option (List ServerAddr)) → HasSet UnderWay left later made began t → HasSet Stalled left later made began (record t { coming = Stalled })
     by later began made None done = done
-    by later began made (Some addresses) left = record { same = left.same; none = left.none; few = left.few; behind = left.behind }
+    by later began made (Some addresses) left = (record { same = left.same; none = left.none; few = left.few; behind = left.behind }, is_rested)
 
 -- ---- servers that are set
 

@@ -1,5 +1,5 @@
 -- Where a run stands whose turns are made through a desk of their own, since it began with this log of its network.
-use Rattle.std.specs.Prelude.{Bool, List, None, Option, Some, [], false, true, ℕ, ⊤, ◌+◌, ◌≡◌, ◌≢◌, ◌≤◌}
+use Rattle.std.specs.Prelude.{Bool, IsFalse, List, None, Option, Some, [], false, true, ℕ, ⊤, ◌+◌, ◌≡◌, ◌≢◌, ◌≤◌}
 use Rattle.channel_progress.specs.Waking.{NoWaitFailed}
 use Rattle.channel_session.specs.Sitting.{reach_of}
 use Rattle.event_runner.specs.State.{IsTurnOwner}
@@ -40,7 +40,7 @@ pub record AreLeft (addresses : List ServerAddr) (later : Option (List ServerAdd
 abbrev pub AreDone : Option (List ServerAddr) → ℕ → Option (List WorldCall) → Turning → Type 0
 AreDone later made began t = (made ≡ 0 → later ≡ None) × Told (SetsBehindFirst t.known.setting t.known.seat later made t.known.seen) began t
 
--- of these servers, by how far it came: those that are left are still to be set, and where none are left they were set
+-- of these servers, by how far it came: those that are left are still to be set, and a run that stalled rested since its last turn, so that it owes none; and where none are left they were set
 abbrev pub HasSet : Coming → Option (List ServerAddr) → Option (List ServerAddr) → ℕ → Option (List WorldCall) → Turning → Type 0
 HasSet OutOfMemory left later made began t = Told (SetsSoFar t.known.setting t.known.seat later made t.known.seen) began t
 HasSet UnderWay None later made began t = AreDone later made began t
@@ -48,7 +48,7 @@ HasSet UnderWay (Some addresses) later made began t = AreLeft addresses later ma
 HasSet WaitFault None later made began t = AreDone later made began t
 HasSet WaitFault (Some addresses) later made began t = ⊥
 HasSet Stalled None later made began t = AreDone later made began t
-HasSet Stalled (Some addresses) later made began t = AreLeft addresses later made t
+HasSet Stalled (Some addresses) later made began t = AreLeft addresses later made t × IsFalse t.behind_turn
 
 -- a run of so many turns, with these servers to be set, stands here
 pub record StandsIn (turns : ℕ) (later : Option (List ServerAddr)) (began : Option (List WorldCall)) (t : Turning) : Type 0 where

@@ -1,5 +1,5 @@
 -- What makes a channel's turns beside others who use it: a runner with a desk of its own, its network, and how far it has come.
-use Rattle.std.specs.Prelude.{Bool, List, Option, [], ℕ, ◌≡◌, ◌≢◌}
+use Rattle.std.specs.Prelude.{Bool, IsFalse, List, None, Option, [], ℕ, ◌≡◌, ◌≢◌, ◌⊎◌}
 use Rattle.channel_model.specs.Completion.{pending, ready}
 use Rattle.channel_model.specs.Journal.{past_of}
 use Rattle.channel_model.specs.Known.{Known}
@@ -36,6 +36,10 @@ turning_of known running left behind_turn later coming log wait_faults = record 
   log = log;
   wait_faults = wait_faults;
 }
+
+-- no servers are to be set behind the turn that was made
+abbrev pub OwesNone : Turning → Type 0
+OwesNone t = (t.later ≡ None) ⊎ IsFalse t.behind_turn
 
 -- the requests that are pending, and those that are ready, where a desk stands
 abbrev pub pending_of : Known → List ℕ

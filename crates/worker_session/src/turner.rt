@@ -96,6 +96,8 @@ impl<D: Desk + Drop, W: World + Drop> Turner<D, W> {
         ensures ended { IsTrue result → (self.new.coming ≢ UnderWay)
             ⊎ ((ready_of (D.known self.new.desk) ≡ []) × (pending_of (D.known self.new.desk) ≡ [])
             × ((self.new.later ≡ None) ⊎ IsFalse self.new.behind_turn)) }
+        ensures kept { (self.new.later ≡ self.old.later) × (self.new.behind_turn ≡ self.old.behind_turn)
+            × (self.new.coming ≡ self.old.coming) }
     {
         match self.coming {
             Coming::UnderWay => self.is_over(),
@@ -117,6 +119,8 @@ impl<D: Desk + Drop, W: World + Drop> Turner<D, W> {
         ensures ended { IsTrue result →
             (ready_of (D.known self.new.desk) ≡ []) × (pending_of (D.known self.new.desk) ≡ [])
             × ((self.new.later ≡ None) ⊎ IsFalse self.new.behind_turn) }
+        ensures kept { (self.new.later ≡ self.old.later) × (self.new.behind_turn ≡ self.old.behind_turn)
+            × (self.new.coming ≡ self.old.coming) }
     {
         match look_at(&mut self.desk) {
             Look::Nothing => self.owes_none(),
