@@ -1,7 +1,7 @@
 -- A journal that is made once more up to an index: what happened in it, and what its next entry comes to.
 use Rattle.std.proofs.Common.{ap, arith, subst, sym, ◌∙◌}
-use Rattle.std.proofs.lemmas.List.{length-take-le, take-append-drop, take_all, take_more}
-use Rattle.std.specs.Prelude.{List, [], drop, get_or, length, refl, suc, take, zero, ℕ, ◌++◌, ◌+◌, ◌<◌, ◌↔◌, ◌∷◌, ◌≡◌, ◌≤◌}
+use Rattle.std.proofs.lemmas.List.{length-take-le, take_more}
+use Rattle.std.specs.Prelude.{List, [], drop, get_or, length, refl, suc, take, zero, ℕ, ◌++◌, ◌+◌, ◌<◌, ◌↔◌, ◌∷◌, ◌≡◌}
 use Rattle.chan_types.specs.declared.journal.Entry.{Entry}
 use Rattle.channel_model.proofs.Theorems.{IsLawfulPast-before, followed_by-append, past_of-push}
 use Rattle.channel_model.specs.Journal.{Past, past_of}

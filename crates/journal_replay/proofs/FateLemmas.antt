@@ -1,7 +1,7 @@
 -- The fate of a request, by what was taken and what is ready.
 use Rattle.std.proofs.Common.{ap, ap₂, arith, ne_eqb, subst, sym, ◌∙◌}
 use Rattle.std.proofs.lemmas.List.{append-nil, take-append-drop, take_all}
-use Rattle.std.specs.Prelude.{Bool, Err, IfOk, List, None, Ok, Result, Option, Some, [], cond, drop, false, is_some, length, option_to_list, refl, suc, take, true, ℕ, ◌++◌, ◌+◌, ◌<◌, ◌≤◌, ◌==◌, ◌∷◌, ◌≡◌, ◌≢◌}
+use Rattle.std.specs.Prelude.{Err, IfOk, List, None, Ok, Result, Option, Some, [], cond, drop, is_some, length, option_to_list, refl, suc, take, ℕ, ◌++◌, ◌<◌, ◌≤◌, ◌∷◌, ◌≡◌, ◌≢◌}
 use Rattle.item_list.specs.declared.no_memory.NoMemory.{NoMemory}
 use Rattle.chan_types.specs.declared.answer.Answer.{Answer}
 use Rattle.chan_types.specs.declared.journal.Entry.{Entry}
@@ -10,7 +10,7 @@ use Rattle.chan_types.specs.declared.journal.What.TheVariants.{Take}
 use Rattle.chan_types.specs.declared.ticket.Ticket.{Ticket}
 use Rattle.channel_model.proofs.JournalLemmas.{fate_stays}
 use Rattle.channel_model.proofs.Theorems.{completes_once, fate-kept, front_number, occurrences-append, take-ready, taken_then_ready}
-use Rattle.channel_model.specs.Completion.{fate, occurrences, ready, taken, taken_by, without}
+use Rattle.channel_model.specs.Completion.{fate, occurrences, ready, taken, taken_by}
 use Rattle.channel_model.specs.Journal.{Past, past_of}
 use Rattle.channel_model.specs.Lawful.{IsLawfulPast, first}
 use Rattle.channel_model.specs.Meanings.{Takes}

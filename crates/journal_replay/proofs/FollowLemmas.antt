@@ -1,9 +1,9 @@
 -- An entry that is made once more: what the table's call answers says whether it is the one that was wanted.
 use Rattle.std.proofs.Common.{ap, ap₂, arith, eq-eqb, eqb-true, subst, sym, true≢false, ⊎_elim, ◌∙◌}
 use Rattle.std.proofs.lemmas.Bool.{cases_Bool}
-use Rattle.std.specs.Prelude.{if◌then◌else◌, Bool, Decides, Err, IfSome, IsTrue, List, None, Ok, Option, Some, [], false, length, map, not, refl, suc, true, unwrap_or, ℕ, ◌+◌, ◌<◌, ◌++◌, ◌==◌, ◌∷◌, ◌≡◌, ◌≢◌}
+use Rattle.std.specs.Prelude.{if◌then◌else◌, Bool, Decides, Err, IfSome, List, None, Ok, Option, Some, [], false, length, map, not, refl, true, unwrap_or, ℕ, ◌<◌, ◌++◌, ◌==◌, ◌∷◌, ◌≡◌, ◌≢◌}
 use Rattle.chan_types.specs.declared.journal.What.{What}
-use Rattle.chan_types.specs.declared.journal.What.TheVariants.{Accept, Arrive, Cancel, Destroy, Expire, Fault, Servers, Start, Take}
+use Rattle.chan_types.specs.declared.journal.What.TheVariants.{Accept, Arrive, Cancel, Destroy, Expire, Fault, Servers, Take}
 use Rattle.chan_types.specs.declared.refusal.Refusal.TheVariants.{Closed}
 use Rattle.chan_types.specs.declared.script.Script.{Script}
 use Rattle.chan_types.specs.declared.server_key.ServerKey.{ServerKey}
@@ -22,7 +22,6 @@ use Rattle.channel_model.specs.declared.answers.Landed.{Landed}
 use Rattle.channel_model.specs.declared.answers.Landed.TheVariants.{Matched, Stray}
 use Rattle.channel_model.specs.declared.answers.Lapse.TheVariants.{Expired, NotDue}
 use Rattle.channel_model.specs.declared.answers.Refused.{Refused}
-use Rattle.channel_model.specs.declared.answers.SetFault.TheVariants.{Closed as ChannelClosed}
 use Rattle.net_addr.specs.declared.addr.ServerAddr.{ServerAddr}
 use Rattle.journal_replay.specs.Kept.{KnowsKeys}
 use Rattle.journal_replay.specs.Replays.{Follows, IsMade, plan_of}

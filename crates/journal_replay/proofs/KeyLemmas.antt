@@ -1,7 +1,7 @@
 -- Whether servers have the keys that they get by the rule, server by server.
-use Rattle.std.proofs.Common.{ap, subst, sym, true≢false, ⊎_elim, ◌∙◌}
+use Rattle.std.proofs.Common.{ap, subst, sym, ⊎_elim, ◌∙◌}
 use Rattle.std.proofs.lemmas.Bool.{cases_Bool}
-use Rattle.std.specs.Prelude.{Bool, Decides, Err, IfOk, List, None, Ok, Option, Result, Some, [], cond, false, find, map, refl, true, ℕ, ◌+◌, ◌∷◌, ◌≡◌, ◌≢◌}
+use Rattle.std.specs.Prelude.{Bool, Decides, Err, IfOk, List, Ok, Result, Some, [], cond, false, find, map, true, ℕ, ◌∷◌, ◌≡◌}
 use Rattle.chan_types.specs.declared.server_key.ServerKey.{ServerKey}
 use Rattle.channel_model.proofs.ListLemmas.{none_is_some}
 use Rattle.channel_model.proofs.TestLemmas.{server_decided}

@@ -2,17 +2,16 @@
 use Rattle.std.proofs.Common.{ap, ap₂, arith, subst, sym, true≢false, ◌∙◌}
 use Rattle.std.proofs.Math.Nat.{mod-eq_of_lt}
 use Rattle.std.specs.Bool.{then_some}
-use Rattle.std.specs.Prelude.{Bool, Decides, IsFalse, IsTrue, List, None, Ok, Option, Some, [], false, is_some, refl, suc, true, unwrap_or, zero, ℕ, ◌%◌, ◌&&◌, ◌+◌, ◌<◌, ◌==◌, ◌^◌, ◌≡◌}
+use Rattle.std.specs.Prelude.{Bool, Decides, IsFalse, IsTrue, List, None, Ok, Option, Some, false, is_some, suc, true, unwrap_or, zero, ℕ, ◌%◌, ◌+◌, ◌<◌, ◌^◌, ◌≡◌}
 use Rattle.chan_types.specs.declared.journal.What.{What}
 use Rattle.chan_types.specs.declared.journal.What.TheVariants.{Start}
 use Rattle.channel_model.proofs.ListLemmas.{none_is_some}
 use Rattle.channel_model.specs.Choice.{chosen_link, chosen_server}
-use Rattle.channel_model.specs.Completion.{waiting}
 use Rattle.channel_model.specs.Flight.{begun_by}
 use Rattle.channel_model.specs.Identifiers.{IsFirstFree}
 use Rattle.channel_model.specs.Journal.{Past, past_of}
 use Rattle.channel_model.specs.Lawful.{IsAllowed, MayStart, first, is_mixed, is_used}
-use Rattle.channel_model.specs.Legs.{Leg, leg_of}
+use Rattle.channel_model.specs.Legs.{leg_of}
 use Rattle.channel_model.specs.Meanings.{Starts}
 use Rattle.channel_model.specs.Seen.{Happens, Seen}
 use Rattle.channel_model.specs.Setting.{Setting}

@@ -1,6 +1,6 @@
 //! What a request of a stored journal came to.
 
-ghost use Rattle.std.specs.Prelude.{◌≡◌, ◌≤◌, IfOk, None, length};
+ghost use Rattle.std.specs.Prelude.{◌≡◌, ◌≤◌, [], IfOk, None, length};
 ghost use Rattle.channel_model.specs.Completion.{fate, occurrences, taken};
 ghost use Rattle.channel_model.specs.Journal.{past_of};
 ghost use Rattle.channel_model.specs.Lawful.{IsAllowed, IsLawful};
@@ -29,13 +29,30 @@ pub fn fate_of(
         ≡ fate (setting_of options.now hosts.now) number (past_of journal.now)) }
 {
     let mut replay = Replay::make(alloc, options, hosts)?;
+    replayed_answer(alloc, &mut replay, journal, number)
+}
+
+/// The answer of the request with this number in a lawful journal: by a replay in which nothing has happened yet. The
+/// replay is lent here, as in `first_unlawful`.
+fn replayed_answer(
+    alloc: Global,
+    replay: &mut Replay,
+    journal: &[Entry],
+    number: u64,
+) -> Result<Option<Answer>, NoMemory>
+    requires empty { replay.old.table.journal ≡ [] }
+    requires kept { IsKept replay.old }
+    requires lawful { IsLawful replay.old.table.setting journal.now }
+    ensures { IfOk result (λ answer. answer
+        ≡ fate replay.old.table.setting number (past_of journal.now)) }
+{
     for index in 0..journal.len() {
-        match next(alloc, &mut replay, &journal[index].what, number)? {
+        match next(alloc, replay, &journal[index].what, number)? {
             Some(answer) => return Ok(Some(answer)),
             None => {}
         }
     }
-    ready_answer(alloc, &mut replay, number)
+    ready_answer(alloc, replay, number)
 }
 
 /// Makes an entry once more that is allowed, unless it takes the request with this number: then the request's answer.

@@ -2,7 +2,7 @@ use Rattle.std.proofs.Common.{arith, length, ◌<◌}
 use Rattle.channel_table.specs.Tokens.{seen}
 use Rattle.journal_replay.proofs.CheckLemmas.{at_fault, at_next, unlawful_checked}
 use Rattle.journal_replay.proofs.FollowLemmas.{not_allowed}
-use Rattle.journal_replay.proofs.checking.check.Goals as goal
+use Rattle.journal_replay.proofs.checking.first_unlawful.Goals as goal
 
 pub returns-then-not-branch-clause-first : goal.returns-then-not-branch-clause-first
 returns-then-not-branch-clause-first c =

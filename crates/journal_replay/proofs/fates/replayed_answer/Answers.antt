@@ -2,7 +2,7 @@ use Rattle.std.proofs.Common.{arith, length, ◌<◌, ◌≤◌}
 use Rattle.channel_table.specs.Tokens.{seen}
 use Rattle.journal_replay.proofs.CheckLemmas.{at_next, lawful_at}
 use Rattle.journal_replay.proofs.FateLemmas.{found_at, found_at_end, untaken_next}
-use Rattle.journal_replay.proofs.fates.fate_of.Goals as goal
+use Rattle.journal_replay.proofs.fates.replayed_answer.Goals as goal
 
 pub next-requires-clause-allowed : goal.next-requires-clause-allowed
 next-requires-clause-allowed c =
