@@ -131,6 +131,59 @@ const NO_SUCH_NAME: Spoiling<'static> = Spoiling {
     spoiled: &[(3, "0 0 start 1 0 0 0 8 - 1")],
 };
 
+/// A server doesn't implement the question (NOTIMP), and it is asked again; then a reply has another response code
+/// (YXDOMAIN), which ends the leg.
+const ANOTHER_CODE: Spoiling<'static> = Spoiling {
+    head: ONE,
+    entries: &[
+        "0 0 accept 1 q 782e746573742e 1 1 ( 0 )",
+        "0 0 start 1 0 0 0 7 - 0",
+        "0 0 arrive 0 0 000781840001000000000001017804746573740000010001\
+00002904d0000000000000",
+        "0 0 start 1 0 0 0 8 - 1",
+        "0 0 arrive 0 0 000881860001000000000001017804746573740000010001\
+00002904d0000000000000",
+        "0 0 take 1",
+    ],
+    page: "lawful 6 entries 1 accepted\n1 10 EBADRESP\n",
+    spoiled: &[(5, "0 0 start 1 0 0 0 9 - 2")],
+};
+
+/// The reply with identifier 7 that refuses the OPT record and is truncated.
+const TRUNCATED_REFUSAL: &str = "0 0 arrive 0 0 000783810001000000000000017804746573740000010001";
+
+/// A reply refuses the OPT record and is truncated: over UDP it has the question asked over TCP, and there without one.
+const REFUSED_AND_TRUNCATED: Spoiling<'static> = Spoiling {
+    head: ONE,
+    entries: &[
+        "0 0 accept 1 q 782e746573742e 1 1 ( 0 )",
+        "0 0 start 1 0 0 0 7 - 0",
+        TRUNCATED_REFUSAL,
+        "0 0 start 1 0 0 1 8 - 1",
+        "0 0 arrive 0 1 000883810001000000000000017804746573740000010001",
+        "0 0 start 1 0 0 2 9 - 2",
+    ],
+    page: "lawful 6 entries 1 accepted\n1 pending\n",
+    spoiled: &[(3, "0 0 start 1 0 0 0 8 - 1")],
+};
+
+/// Where truncation is ignored, the refusal counts over UDP, and the question is asked again there.
+const TRUNCATION_IGNORED: Spoiling<'static> = Spoiling {
+    head: "journal 1
+option 2000 3 1 0 00100010 0 0 1232
+server 192.0.2.53 53
+hosts -
+",
+    entries: &[
+        "0 0 accept 1 q 782e746573742e 1 1 ( 0 )",
+        "0 0 start 1 0 0 0 7 - 0",
+        TRUNCATED_REFUSAL,
+        "0 0 start 1 0 0 0 8 - 1",
+    ],
+    page: "lawful 4 entries 1 accepted\n1 pending\n",
+    spoiled: &[(3, "0 0 start 1 0 0 1 8 - 1")],
+};
+
 /// A name is searched for: by each domain, and then as it is.
 const SEARCHED: Spoiling<'static> = Spoiling {
     head: "journal 1
@@ -225,7 +278,7 @@ hosts -
     spoiled: &[(1, "0 0 start 1 0 0 1 7 5 0")],
 };
 
-const RUNS: [Spoiling<'static>; 12] = [
+const RUNS: [Spoiling<'static>; 15] = [
     TRUNCATED,
     STAYS_ON_TCP,
     BESIDE_UDP,
@@ -233,6 +286,9 @@ const RUNS: [Spoiling<'static>; 12] = [
     REFUSED_OPT,
     REFUSED_OPT_IN_TURN,
     NO_SUCH_NAME,
+    ANOTHER_CODE,
+    REFUSED_AND_TRUNCATED,
+    TRUNCATION_IGNORED,
     SEARCHED,
     HALF_ENDED,
     MIXED_CASE,
