@@ -1,8 +1,8 @@
 #!/usr/bin/env bash
 # The channel for C: builds examples/c with the system's C compiler against the static library, and tries it against tns on a
 # loopback of its own, under valgrind: 10,000 queries, and a fault of each kind, answered as adig answers it on the same server. A
-# journal that was kept is looked at by areplay; words without a channel are tried (bench/c_words.c). Then it asks one name from
-# Python, over a shared library.
+# journal that was kept is looked at by areplay. Words without a channel are tried (bench/c_words.c), lengths (bench/c_lengths.c)
+# and the text of a kept journal (bench/c_journal.c). Then it asks one name from Python, over a shared library.
 #
 # Build first: (cd crates/channel_c && rt lib). It takes the programs tns, adig and areplay as they were built in crates/NAME/out,
 # and where one wasn't, tries it unproved (rt try). It wants `valgrind`, `python3`, and root for `unshare -rn`.
@@ -36,8 +36,9 @@ runs() {
   cd "crates/$name" && exec "${RT:-rt}" try --seconds 600 --data "zone=$work/zone" --data "journal=$work/journal" -- "$@"
 }
 
-${CC:-cc} -std=c11 -Wall -Wextra -Werror -O2 -g -o "$work/adns" examples/c/adns.c "$library" "$memory"
-${CC:-cc} -std=c11 -Wall -Wextra -Werror -O2 -g -o "$work/words" bench/c_words.c "$library" "$memory"
+for source in examples/c/adns.c bench/c_words.c bench/c_lengths.c bench/c_journal.c; do
+  ${CC:-cc} -std=c11 -Wall -Wextra -Werror -O2 -g -o "$work/$(basename "$source" .c)" "$source" "$library" "$memory"
+done
 ${CC:-cc} -shared -o "$work/libdachumvi.so" -Wl,--whole-archive "$library" -Wl,--no-whole-archive "$memory"
 
 # one name of two addresses, and one of so many that its reply is cut short over UDP
@@ -80,10 +81,12 @@ as_adig() {
     | sed -n 's/^;; status \([0-9]*\) .*/\1/p' || true)"
 }
 
-# words without a channel: each call on one says so
-status=0
-valgrind -q --leak-check=full --show-leak-kinds=all --errors-for-leak-kinds=all --error-exitcode=9 "$work/words" || status=$?
-says 'words without a channel, under valgrind' 0 "$status"
+# words without a channel, of which each call says so; lengths; and the text of a kept journal
+for program in c_words c_lengths c_journal; do
+  status=0
+  valgrind -q --leak-check=full --show-leak-kinds=all --errors-for-leak-kinds=all --error-exitcode=9 "$work/$program" || status=$?
+  says "$program, under valgrind" 0 "$status"
+done
 
 begin=$(date +%s%N)
 asks 0 -s 127.0.0.1 -f 4 -n "$queries" www.example

@@ -21,20 +21,12 @@ def numbers(enum):
     return {name: int(number) for name, number in re.findall(r'DACHUMVI_(\w+) = (\d+)', body)}
 
 
-def snake(name):
-    return re.sub(r'(?<=[a-z0-9])(?=[A-Z])', '_', name).upper()
-
-
-# answers: the constants of the calls, and the numbers of the faults of making
+# answers: the constants of the calls
 answers = {}
 for source in (boxed / 'src/state.rt', top / 'crates/channel_c/src/answers.rt'):
     for name, number in re.findall(r'^(?:pub )?const (\w+): u32 = (\d+);', source.read_text(), re.M):
         if answers.setdefault(name, int(number)) != int(number):
             differences.append(f'{name} has two numbers')
-faults = re.findall(r'Err\(MakeFault::(\w+)\) => (\d+),', (top / 'crates/channel_c/src/making.rt').read_text())
-for name, number in faults:
-    if answers.setdefault(snake(name), int(number)) != int(number):
-        differences.append(f'{name} has two numbers')
 differs('answers', numbers('answer'), answers)
 
 # what each number stands for in the definitions
@@ -43,6 +35,7 @@ state = (boxed / 'specs/State.antt').read_text()
 texts_told = (top / 'crates/channel_c/specs/Texts.antt').read_text()
 yes_or_no = (top / 'crates/channel_c/specs/Told.antt').read_text()
 on_word = (top / 'crates/channel_word/specs/Calls.antt').read_text()
+on_pointers = (top / 'crates/channel_c/specs/Pointers.antt').read_text()
 making = (top / 'crates/channel_c/src/making.rt').read_text()
 names = [('refusal.Closed', 'CLOSED'), ('Err wanted', 'NO_MEMORY'), ('Ok NoId', 'NO_ID'), ('Ok Idle', 'NOTHING'), ('Ok Stray', 'NOTHING'),
          ('Ok NotDue', 'NOTHING'), ('Some None', 'NOTHING'), ('Ok ', 'DONE'), ('Some at', 'DONE'), ('token = tt; call = taken', 'DONE')]
@@ -54,12 +47,12 @@ rows += [('BAD_LENGTH', number) for number in re.findall(r'^AsksReverse .* (\d+)
 rows += [('NOT_KEPT', number) for number in re.findall(r'^TellsText None .* = answer ≡ (\d+)$', state, re.M)]
 rows += [('NO_MEMORY', number) for number in re.findall(r'^TellsText \(Some .* MatchBool \(answer == (\d+)\) ⊤', state, re.M)]
 rows += [('DONE', number) for number in re.findall(r'^TellsText \(Some .* \(\(answer ≡ (\d+)\)', state, re.M)]
-rows += [('DONE', number) for number in re.findall(r'answer == (\d+)\) \(AreReadable', texts_told)]
-rows += [('NO_MEMORY', number) for number in re.findall(r'answer == (\d+)\) \(length resolv ≤ 65536\)', texts_told)]
+rows += list(zip(('DONE', 'NO_MEMORY'), re.findall(r'answer == (\d+)\) \(AreReadable', texts_told)))
 rows += [('LARGE_RESOLV', number) for number in re.findall(r'answer == (\d+)\) \(65536 < length resolv\)', texts_told)]
 rows += [('LARGE_HOSTS', number) for number in re.findall(r'answer ≡ (\d+)\) × \(length resolv ≤ 65536\) × \(4194304 < length hosts\)', texts_told)]
 rows += [(name, number) for of, names in (('busy', ('DONE', 'NOTHING')), ('first', ('DONE', 'CLOSED')))
          for name, number in zip(names, re.findall(r'answer == (\d+)', re.search(r'^%s_told answer = (.*)$' % of, yes_or_no, re.M).group(1)))]
+rows += [('NULL', number) for number in re.findall(r'^Leaves .* true .* \(feq ℕ answer (\d+)\)', on_pointers, re.M)]
 rows += [('NO_CHANNEL', number) for number in re.findall(r'^OnState None .* \(answer ≡ (\d+)\)', on_word, re.M)]
 rows += [('HAS_CHANNEL', number) for number in re.findall(r'is_some channel\.old\.pointer\.state\) \(result ≡ (\d+)\)\n', making)]
 rows += list(zip(('DONE', 'NO_CHANNEL'), re.search(r'told \{ .* \(result ≡ (\d+)\) \(result ≡ (\d+)\) \}', making).groups()))
@@ -83,18 +76,17 @@ differs('kinds', numbers('kind'), {name: int(defined.get(word, -1)) for name, wo
 
 # structs and calls, by their types in C
 types = {'u8': 'uint8_t', 'u16': 'uint16_t', 'u32': 'uint32_t', 'u64': 'uint64_t', 'usize': 'size_t', 'bool': 'bool',
-         '&mut u64': 'uint64_t *', '&mut usize': 'size_t *', '&[u8]': 'const uint8_t *, size_t', '&mut [u8]': 'uint8_t *, size_t',
-         '&mut ChannelWord': 'dachumvi_channel *',
-         '&mut ToldAttempt': 'dachumvi_attempt *', '&mut ToldLeg': 'dachumvi_leg *', '&mut ToldRequest': 'dachumvi_request *',
-         '&mut ToldCounts': 'dachumvi_counts *', '': 'void'}
+         'ChannelWord': 'dachumvi_channel', 'ToldAttempt': 'dachumvi_attempt', 'ToldLeg': 'dachumvi_leg',
+         'ToldRequest': 'dachumvi_request', 'ToldCounts': 'dachumvi_counts', '': 'void'}
+types |= {f'*mut {ours}': f'{theirs} *' for ours, theirs in types.items()} | {'*const u8': 'const uint8_t *'}
 for name, body in re.findall(r'pub struct Told(\w+) \{(.*?)\n\}', (types_crate / 'src/told.rt').read_text(), re.S):
     theirs = [(types[kind], field) for field, kind in re.findall(r'^    pub (\w+): (\w+),', body, re.M)]
     ours = re.search(r'typedef struct \{([^}]*)\} dachumvi_%s;' % name.lower(), header).group(1)
     differs(f'struct {name}', re.findall(r'(\w+) (\w+);', ours), theirs)
 
 calls = {}
-for source in sorted((top / 'crates/channel_c/src').glob('*.rt')):
-    for name, words, answer in re.findall(r'extern "C" fn (\w+)\((.*?)\)(?: -> (\w+))?\s*(?:ensures|\{)', source.read_text(), re.S):
+for source in sorted((top / 'crates/channel_c/src').glob('**/*.rt')):
+    for name, words, answer in re.findall(r'extern "C" fn (\w+)\((.*?)\)(?: -> (\w+))?\s*(?:ghost|requires|ensures|\{)', source.read_text(), re.S):
         kinds = [kind.strip() for kind in re.findall(r'\w+: ([^,]+)', words)]
         calls[name] = (types[answer], ', '.join(types[kind] for kind in kinds if kind != 'Global'))
 declared = {}

@@ -2,8 +2,8 @@
 """Compares docs/CONTRACTS.md with the public calls of the library crates, and fails where the page doesn't say what they answer.
 
 A public call is a free function that its crate's lib.rt exports, a method (not one of a foreign trait) of an exported type,
-or a method of an exported trait. Crates of tests, of measurements and of programs have none: those whose name ends in _runs
-or _bench, those without a lib.rt, and those of NOT_LIBRARIES.
+a method of an exported trait, or a function that C may call. Crates of tests, of measurements and of programs have none: those
+whose name ends in _runs or _bench, those without a lib.rt, and those of NOT_LIBRARIES.
 
 The page has a section for each crate, headed `## name`. Its tables have five columns: the call, the answer, when it comes,
 what it leaves, and the clause. A row names calls, or an enum whose variants it tells. Beside the tables, a line that begins
@@ -222,14 +222,20 @@ def read_items(tokens, crate, module, file, owner=None, trait=False):
             at = end
             continue
         tests = any(re.search(r"\bcfg \( test", text) for text in attributes)
+        for_c = any("no_mangle" in text for text in attributes)
         attributes = []
         public, at = visibility(tokens, at)
         word = tokens[at][1]
         while word in ("unsafe", "async", "default") or (word == "const" and tokens[at + 1][1] in ("fn", "unsafe")):
             at += 1
             word = tokens[at][1]
+        if word == "extern" and tokens[at + 2][1] == "fn":
+            at += 2
+            word = tokens[at][1]
         if word == "fn":
             name, parameters, result, clauses, at = function_at(tokens, at + 1)
+            if for_c:
+                crate.exported.setdefault((module, name), set()).add(name)
             text = " ".join(parameters)
             changes, lends = bool(re.match(r"& ('\w+ )?mut self\b", text)), bool(re.search(r"& ('\w+ )?mut\b", text))
             if not tests and (trait or public):

@@ -16,9 +16,8 @@
  * What nothing checks is C's part:
  *   - a word is zero when it is first passed, and C doesn't write to it; it may be moved, but one copy of it is used;
  *   - one call at a time is made on a word, from the thread that made its channel;
- *   - no pointer that is passed is null, not even for no bytes: pass any pointer with a length of 0;
- *   - a pointer with a length leads to so many bytes, at most PTRDIFF_MAX; what a call writes overlaps nothing else
- *     that it is passed;
+ *   - a pointer that isn't null leads to what its type says, and one with a length to so many bytes, at most PTRDIFF_MAX;
+ *     what a call writes overlaps nothing else that it is passed;
  *   - link against out/libchannel_c.a and the toolchain's c/liblibc_c.a (malloc, realloc and free). */
 #ifndef DACHUMVI_H
 #define DACHUMVI_H
@@ -52,7 +51,8 @@ enum dachumvi_answer {
     DACHUMVI_LARGE_HOSTS = 8,  /* the text of the hosts file has more than 4,194,304 bytes */
     DACHUMVI_NOT_KEPT = 9,     /* the channel was made without a kept journal */
     DACHUMVI_NO_CHANNEL = 10,  /* there is no channel in the word: none was made, or it was freed */
-    DACHUMVI_HAS_CHANNEL = 11  /* there is a channel in the word already */
+    DACHUMVI_HAS_CHANNEL = 11, /* there is a channel in the word already */
+    DACHUMVI_NULL = 12         /* a pointer is null */
 };
 
 /* How a request ended: the numbers of c-ares. */
@@ -120,15 +120,16 @@ typedef struct {
     uint64_t flying;  /* attempts that are in flight */
 } dachumvi_counts;
 
-/* Each call answers with one of these numbers. NO_CHANNEL comes exactly where there is no channel in the word, from each
- * call but dachumvi_make, whatever else is passed; nothing is written then. The comments below say the other answers. */
+/* Each call answers with one of these numbers. NULL comes exactly where one of its pointers is null, also one to no bytes;
+ * nothing is written then. Else NO_CHANNEL comes exactly where there is no channel in the word, from each call but
+ * dachumvi_make, and nothing is written. The comments below say the other answers. */
 
 /* Makes a channel by the text of a resolv.conf (resolv.conf(5)) and of a hosts file (hosts(5)), and writes its word.
  * What isn't understood in a text is passed over; no text at all sets the defaults, with a server at 127.0.0.1 port
  * 53. With `keeps` the journal is kept, and the text of the hosts file with it: each entry then takes memory that only
  * dachumvi_free gives back, and so does each message that came, strays too. Answers HAS_CHANNEL exactly where there is a
- * channel in the word; else DONE; LARGE_RESOLV exactly where that text is larger; else LARGE_HOSTS exactly where that one
- * is, but for want of memory; or NO_MEMORY. Where it isn't DONE, nothing is written. */
+ * channel in the word; else LARGE_RESOLV exactly where that text is above its limit; else LARGE_HOSTS exactly where that
+ * one is; else DONE; or NO_MEMORY. Where it isn't DONE, nothing is written. */
 uint32_t dachumvi_make(const uint8_t *resolv, size_t resolv_length, const uint8_t *hosts, size_t hosts_length, bool keeps,
                        dachumvi_channel *channel);
 
@@ -137,9 +138,9 @@ uint32_t dachumvi_make(const uint8_t *resolv, size_t resolv_length, const uint8_
 uint32_t dachumvi_free(dachumvi_channel *channel);
 
 /* Asks for records of this name, which is a text (RFC 1035, section 5.1), and writes the request's number: the next
- * one. A text that is no name is accepted, and completes at once with EBADNAME. Answers DONE; CLOSED exactly where
- * the channel was destroyed, but where memory was wanting before, for a copy of the name; or NO_MEMORY. Behind any other
- * than DONE nothing is written and the journal is as it was. */
+ * one. A text that is no name, of whatever length, is accepted, and completes at once with EBADNAME. Answers DONE;
+ * CLOSED exactly where the channel was destroyed, but where memory was wanting before, for a copy of the name; or
+ * NO_MEMORY. Behind any other than DONE nothing is written and the journal is as it was. */
 uint32_t dachumvi_query(dachumvi_channel *channel, const uint8_t *name, size_t length, uint16_t kind, uint16_t class_,
                         uint64_t *number);
 
@@ -169,12 +170,13 @@ uint32_t dachumvi_start(dachumvi_channel *channel, uint16_t word, uint16_t mix, 
  * many; those behind them stay. Answers DONE. */
 uint32_t dachumvi_copy_bytes(dachumvi_channel *channel, uint8_t *out, size_t length, size_t *copied);
 
-/* Copies the address of its server in the same way: 4 bytes or 16, the highest first. */
+/* Copies the address of its server in the same way: 4 bytes or 16, the highest first. Before the first attempt this is
+ * 0.0.0.0, and no bytes are to be sent. */
 uint32_t dachumvi_copy_server(dachumvi_channel *channel, uint8_t *out, size_t length, size_t *copied);
 
-/* Takes in a message that came from this server over this link, without the two bytes of a stream, and tells the leg
- * whose attempt it answers, by server, link, identifier and question. Answers DONE; NOTHING where it answers no
- * attempt in flight; or NO_MEMORY, and the message was not taken in. */
+/* Takes in a message of any length that came from this server over this link, without the two bytes of a stream, and
+ * tells the leg whose attempt it answers, by server, link, identifier and question. Answers DONE; NOTHING where it
+ * answers no attempt in flight; or NO_MEMORY, and the message was not taken in. */
 uint32_t dachumvi_arrive(dachumvi_channel *channel, uint32_t server, uint64_t link, const uint8_t *message, size_t length,
                          dachumvi_leg *leg);
 
@@ -200,7 +202,8 @@ uint32_t dachumvi_link_busy(dachumvi_channel *channel, uint32_t server, uint64_t
  * Answers DONE, or NOTHING exactly where none is ready. */
 uint32_t dachumvi_take(dachumvi_channel *channel, dachumvi_request *request);
 
-/* Copies the reply (RFC 1035, section 4.1) of the request taken last, as dachumvi_copy_bytes copies. */
+/* Copies the reply (RFC 1035, section 4.1) of the request taken last, as dachumvi_copy_bytes copies: none before the
+ * first was taken. */
 uint32_t dachumvi_copy_message(dachumvi_channel *channel, uint8_t *out, size_t length, size_t *copied);
 
 /* Copies the address at this index, from 0, of the request taken last: 4 bytes or 16, the highest first. There is

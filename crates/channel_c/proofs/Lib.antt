@@ -1,1 +1,3 @@
+pub mod Buffers
 pub mod CallLemmas
+pub mod Steps

@@ -2,10 +2,10 @@
 use Rattle.std.specs.Prelude.{List, MatchBool, length, ℕ, ◌<◌, ◌==◌, ◌≡◌, ◌≤◌}
 use Rattle.c_types.specs.Faults.{AreReadable}
 
--- it is 0, and neither text is above its limit; or 2 for want of memory, where that of resolv.conf isn't; or 7, where it is; or 8, where only that of the hosts file is
+-- it is 0, or 2 for want of memory, where neither text is above its limit; or 7, where that of resolv.conf is; or 8, where only that of the hosts file is
 abbrev pub AnswersTexts : List ℕ → List ℕ → ℕ → Type 0
 AnswersTexts resolv hosts answer =
     MatchBool (answer == 0) (AreReadable resolv hosts)
-    (MatchBool (answer == 2) (length resolv ≤ 65536)
+    (MatchBool (answer == 2) (AreReadable resolv hosts)
     (MatchBool (answer == 7) (65536 < length resolv)
     ((answer ≡ 8) × (length resolv ≤ 65536) × (4194304 < length hosts))))

@@ -12,9 +12,8 @@ use c_types::ToldRequest;
 use channel_word::ChannelWord;
 
 /// Asks for records of this name, and writes the request's number.
-#[unsafe(no_mangle)]
 #[tactic(auto, using(crate::proofs::CallLemmas::on_absent, crate::proofs::CallLemmas::on_there))]
-pub extern "C" fn dachumvi_query(
+pub(crate) fn query(
     channel: &mut ChannelWord,
     name: &[u8],
     kind: u16,
@@ -32,9 +31,8 @@ pub extern "C" fn dachumvi_query(
 }
 
 /// Asks for records of this name, or of its candidates by the search list, and writes the request's number.
-#[unsafe(no_mangle)]
 #[tactic(auto, using(crate::proofs::CallLemmas::on_absent, crate::proofs::CallLemmas::on_there))]
-pub extern "C" fn dachumvi_search(
+pub(crate) fn search(
     channel: &mut ChannelWord,
     name: &[u8],
     kind: u16,
@@ -53,9 +51,8 @@ pub extern "C" fn dachumvi_search(
 
 /// Asks for the addresses of a host, of both families by 0, or of one by 4 or 6, and writes the request's number. Any
 /// other family is answered with 5, and nothing changes.
-#[unsafe(no_mangle)]
 #[tactic(auto, using(crate::proofs::CallLemmas::on_absent, crate::proofs::CallLemmas::on_there))]
-pub extern "C" fn dachumvi_address(
+pub(crate) fn address(
     channel: &mut ChannelWord,
     host: &[u8],
     family: u32,
@@ -77,13 +74,8 @@ pub extern "C" fn dachumvi_address(
 
 /// Asks for the names of an address of four or sixteen bytes, and writes the request's number. Any other length is
 /// answered with 6, and nothing changes.
-#[unsafe(no_mangle)]
 #[tactic(auto, using(crate::proofs::CallLemmas::on_absent, crate::proofs::CallLemmas::on_there))]
-pub extern "C" fn dachumvi_reverse(
-    channel: &mut ChannelWord,
-    address: &[u8],
-    number: &mut u64,
-) -> u32
+pub(crate) fn reverse(channel: &mut ChannelWord, address: &[u8], number: &mut u64) -> u32
     ensures asks { OnChannel channel.old channel.new result (λ old new.
         AsksReverse address.now result number.new old new
         × IfWanting result (IsOpen old) × KeepsBoth old new) }
@@ -96,9 +88,8 @@ pub extern "C" fn dachumvi_reverse(
 }
 
 /// Moves out the first request that has completed, and tells it. Answers 3 where none has.
-#[unsafe(no_mangle)]
 #[tactic(auto, using(crate::proofs::CallLemmas::on_absent, crate::proofs::CallLemmas::on_there, crate::proofs::CallLemmas::unless_first, crate::proofs::CallLemmas::unless_second))]
-pub extern "C" fn dachumvi_take(channel: &mut ChannelWord, request: &mut ToldRequest) -> u32
+pub(crate) fn take(channel: &mut ChannelWord, request: &mut ToldRequest) -> u32
     ensures done { OnChannel channel.old channel.new result (λ old new.
         MeansTold (Takes quiet) (taken_told result new.taken) old new
         × IfDone result (request.new ≡ request_told new.taken)

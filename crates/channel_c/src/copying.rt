@@ -14,13 +14,8 @@ use crate::answers::{DONE, NO_CHANNEL};
 use channel_word::ChannelWord;
 
 /// The bytes that the attempt begun last is to send. Writes how many were copied.
-#[unsafe(no_mangle)]
 #[tactic(auto, using(crate::proofs::CallLemmas::on_absent, crate::proofs::CallLemmas::on_there))]
-pub extern "C" fn dachumvi_copy_bytes(
-    channel: &mut ChannelWord,
-    out: &mut [u8],
-    copied: &mut usize,
-) -> u32
+pub(crate) fn copy_bytes(channel: &mut ChannelWord, out: &mut [u8], copied: &mut usize) -> u32
     ensures laid { OnChannel channel.old channel.new result (λ old new.
         Copies (sending old.begun) result copied.new out.old out.new × (new ≡ old)) }
     ensures stays { UnlessDone result ((copied.new ≡ copied.old) × (out.new ≡ out.old)) }
@@ -33,13 +28,8 @@ pub extern "C" fn dachumvi_copy_bytes(
 }
 
 /// The address of its server: four or sixteen bytes. Writes how many were copied.
-#[unsafe(no_mangle)]
 #[tactic(auto, using(crate::proofs::CallLemmas::on_absent, crate::proofs::CallLemmas::on_there))]
-pub extern "C" fn dachumvi_copy_server(
-    channel: &mut ChannelWord,
-    out: &mut [u8],
-    copied: &mut usize,
-) -> u32
+pub(crate) fn copy_server(channel: &mut ChannelWord, out: &mut [u8], copied: &mut usize) -> u32
     ensures laid { OnChannel channel.old channel.new result (λ old new.
         Copies (address_bytes old.begun.address) result copied.new out.old out.new × (new ≡ old)) }
     ensures stays { UnlessDone result ((copied.new ≡ copied.old) × (out.new ≡ out.old)) }
@@ -52,13 +42,8 @@ pub extern "C" fn dachumvi_copy_server(
 }
 
 /// The reply of the request that was taken last. Writes how many bytes were copied.
-#[unsafe(no_mangle)]
 #[tactic(auto, using(crate::proofs::CallLemmas::on_absent, crate::proofs::CallLemmas::on_there))]
-pub extern "C" fn dachumvi_copy_message(
-    channel: &mut ChannelWord,
-    out: &mut [u8],
-    copied: &mut usize,
-) -> u32
+pub(crate) fn copy_message(channel: &mut ChannelWord, out: &mut [u8], copied: &mut usize) -> u32
     ensures laid { OnChannel channel.old channel.new result (λ old new.
         Copies old.taken.message result copied.new out.old out.new × (new ≡ old)) }
     ensures stays { UnlessDone result ((copied.new ≡ copied.old) × (out.new ≡ out.old)) }
@@ -72,9 +57,8 @@ pub extern "C" fn dachumvi_copy_message(
 
 /// The address at this index of the request that was taken last: four or sixteen bytes, or none where there is no such
 /// address. Writes how many were copied.
-#[unsafe(no_mangle)]
 #[tactic(auto, using(crate::proofs::CallLemmas::on_absent, crate::proofs::CallLemmas::on_there))]
-pub extern "C" fn dachumvi_copy_address(
+pub(crate) fn copy_address(
     channel: &mut ChannelWord,
     index: usize,
     out: &mut [u8],
@@ -93,13 +77,8 @@ pub extern "C" fn dachumvi_copy_address(
 
 /// The text of the journal, if it is kept: writes how many bytes it has. Answers 0; or 9 where the journal isn't kept, or
 /// 2 for want of memory, and then nothing is written.
-#[unsafe(no_mangle)]
 #[tactic(auto, using(crate::proofs::CallLemmas::on_absent, crate::proofs::CallLemmas::on_there))]
-pub extern "C" fn dachumvi_copy_journal(
-    channel: &mut ChannelWord,
-    out: &mut [u8],
-    size: &mut usize,
-) -> u32
+pub(crate) fn copy_journal(channel: &mut ChannelWord, out: &mut [u8], size: &mut usize) -> u32
     ensures text { OnChannel channel.old channel.new result (λ old new.
         TellsText (text_kept old.channel) result size.new out.old out.new × (new ≡ old)) }
     ensures stays { UnlessDone result ((size.new ≡ size.old) × (out.new ≡ out.old)) }

@@ -5,6 +5,7 @@
 mod answers;
 mod asking;
 mod copying;
+mod exports;
 mod looking;
 mod making;
 mod moving;

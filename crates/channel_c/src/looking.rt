@@ -12,9 +12,8 @@ use c_types::ToldCounts;
 use channel_word::ChannelWord;
 
 /// Writes when the next attempt in flight is due. Answers 3 where none is in flight.
-#[unsafe(no_mangle)]
 #[tactic(auto, using(crate::proofs::CallLemmas::on_absent, crate::proofs::CallLemmas::on_there))]
-pub extern "C" fn dachumvi_next_due(channel: &mut ChannelWord, at: &mut u64) -> u32
+pub(crate) fn next_due(channel: &mut ChannelWord, at: &mut u64) -> u32
     ensures done { OnChannel channel.old channel.new result (λ old new.
         MeansTold TellsDue (due_told result at.new) old new × KeepsBoth old new) }
     ensures stays { UnlessDone result (at.new ≡ at.old) }
@@ -26,9 +25,8 @@ pub extern "C" fn dachumvi_next_due(channel: &mut ChannelWord, at: &mut u64) -> 
 }
 
 /// Writes how many requests are pending and ready, and how many legs wait and are in flight.
-#[unsafe(no_mangle)]
 #[tactic(auto, using(crate::proofs::CallLemmas::on_absent, crate::proofs::CallLemmas::on_there))]
-pub extern "C" fn dachumvi_count(channel: &mut ChannelWord, counts: &mut ToldCounts) -> u32
+pub(crate) fn count(channel: &mut ChannelWord, counts: &mut ToldCounts) -> u32
     ensures done { OnChannel channel.old channel.new result (λ old new.
         (result ≡ 0) × Means (TellsCounts (counts_told counts.new)) old new
         × KeepsBoth old new) }
@@ -42,9 +40,8 @@ pub extern "C" fn dachumvi_count(channel: &mut ChannelWord, counts: &mut ToldCou
 }
 
 /// Answers 0 where an attempt is in flight on this server over this link, and 3 where none is.
-#[unsafe(no_mangle)]
 #[tactic(auto, using(crate::proofs::CallLemmas::on_absent, crate::proofs::CallLemmas::on_there))]
-pub extern "C" fn dachumvi_link_busy(channel: &mut ChannelWord, server: u32, link: u64) -> u32
+pub(crate) fn link_busy(channel: &mut ChannelWord, server: u32, link: u64) -> u32
     ensures done { OnChannel channel.old channel.new result (λ old new.
         MeansTold (TellsBusy server link) (busy_told result) old new × KeepsBoth old new) }
 {

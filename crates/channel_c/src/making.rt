@@ -9,17 +9,20 @@ ghost use Rattle.channel_c.specs.Texts.{AnswersTexts};
 ghost use Rattle.channel_c.specs.Told.{first_told};
 ghost use Rattle.channel_word.specs.Calls.{OnChannel};
 
-use crate::answers::{CLOSED, DONE, HAS_CHANNEL, NO_CHANNEL};
-use boxed_channel::make;
-use c_types::MakeFault;
+use crate::answers::{CLOSED, DONE, HAS_CHANNEL, LARGE_HOSTS, LARGE_RESOLV, NO_CHANNEL, NO_MEMORY};
 use channel_word::ChannelWord;
 use std::alloc::Global;
 
+/// The most bytes of a resolv.conf (this project's profile).
+const RESOLV_MOST: usize = 65_536;
+
+/// The most bytes of a hosts file (this project's profile).
+const HOSTS_MOST: usize = 4_194_304;
+
 /// Makes a channel by the texts of a resolv.conf and of a hosts file, whose journal is kept if that is wanted, and writes
 /// its word. Answers 0; or 11 where there is a channel in the word already; or 7 and 8 where the one or the other text is too
-/// large, the first looked at first, or 2 for want of memory; and then nothing is written.
-#[unsafe(no_mangle)]
-pub extern "C" fn dachumvi_make(
+/// large, the first looked at first; or 2 for want of memory, where neither is; and then nothing is written.
+pub(crate) fn make(
     alloc: Global,
     resolv: &[u8],
     hosts: &[u8],
@@ -35,21 +38,25 @@ pub extern "C" fn dachumvi_make(
     if channel.is_there() {
         return HAS_CHANNEL;
     }
-    match make(alloc, resolv, hosts, keeps) {
+    // Both lengths are looked at before any memory is asked for, so that want of it hides no large text.
+    if resolv.len() > RESOLV_MOST {
+        return LARGE_RESOLV;
+    }
+    if hosts.len() > HOSTS_MOST {
+        return LARGE_HOSTS;
+    }
+    match boxed_channel::make(alloc, resolv, hosts, keeps) {
         Ok(boxed) => {
             *channel = ChannelWord::of(boxed);
             DONE
         }
-        Err(MakeFault::NoMemory) => 2,
-        Err(MakeFault::LargeResolv) => 7,
-        Err(MakeFault::LargeHosts) => 8,
+        Err(_) => NO_MEMORY,
     }
 }
 
 /// Completes every pending request as cancelled, and writes how many there were.
-#[unsafe(no_mangle)]
 #[tactic(auto, using(crate::proofs::CallLemmas::on_absent, crate::proofs::CallLemmas::on_there))]
-pub extern "C" fn dachumvi_cancel(channel: &mut ChannelWord, count: &mut u64) -> u32
+pub(crate) fn cancel(channel: &mut ChannelWord, count: &mut u64) -> u32
     ensures done { OnChannel channel.old channel.new result (λ old new.
         (result ≡ 0) × MeansVoiced (Cancels count.new) old new × KeepsBoth old new) }
     ensures stays { UnlessDone result (count.new ≡ count.old) }
@@ -62,9 +69,8 @@ pub extern "C" fn dachumvi_cancel(channel: &mut ChannelWord, count: &mut u64) ->
 }
 
 /// Destroys the channel and completes every pending request so. Answers 0 where it was the first to do so, and else 1.
-#[unsafe(no_mangle)]
 #[tactic(auto, using(crate::proofs::CallLemmas::on_absent, crate::proofs::CallLemmas::on_there))]
-pub extern "C" fn dachumvi_destroy(channel: &mut ChannelWord) -> u32
+pub(crate) fn destroy(channel: &mut ChannelWord) -> u32
     ensures done { OnChannel channel.old channel.new result (λ old new.
         IsSomeAnd (first_told result) (λ first. MeansVoiced (Destroys first) old new)
         × KeepsBoth old new) }
@@ -79,8 +85,7 @@ pub extern "C" fn dachumvi_destroy(channel: &mut ChannelWord) -> u32
 }
 
 /// Gives back all that the channel owns, and leaves a word without a channel.
-#[unsafe(no_mangle)]
-pub extern "C" fn dachumvi_free(alloc: Global, channel: &mut ChannelWord) -> u32
+pub(crate) fn free(alloc: Global, channel: &mut ChannelWord) -> u32
     ensures told { MatchBool (is_some channel.old.pointer.state) (result ≡ 0) (result ≡ 10) }
     ensures gone { channel.new.pointer.state ≡ None }
 {

@@ -12,9 +12,8 @@ use channel_word::ChannelWord;
 
 /// Begins an attempt of the first leg that waits at this moment, with an identifier from this word upwards, and tells
 /// it. Answers 3 where no leg waits, 4 where all identifiers are in flight, and 2 for want of memory.
-#[unsafe(no_mangle)]
 #[tactic(auto, using(crate::proofs::CallLemmas::on_absent, crate::proofs::CallLemmas::on_there, crate::proofs::CallLemmas::unless_first, crate::proofs::CallLemmas::unless_second))]
-pub extern "C" fn dachumvi_start(
+pub(crate) fn start(
     channel: &mut ChannelWord,
     word: u16,
     mix: u16,
@@ -35,9 +34,8 @@ pub extern "C" fn dachumvi_start(
 
 /// Takes in a message that came from this server over this link, and tells which leg's attempt it answers. Answers 3
 /// where it answers none, and 2 for want of memory.
-#[unsafe(no_mangle)]
 #[tactic(auto, using(crate::proofs::CallLemmas::on_absent, crate::proofs::CallLemmas::on_there))]
-pub extern "C" fn dachumvi_arrive(
+pub(crate) fn arrive(
     channel: &mut ChannelWord,
     server: u32,
     link: u64,
@@ -56,9 +54,8 @@ pub extern "C" fn dachumvi_arrive(
 
 /// Lets the attempt that is due first expire, if it is due at this moment, and tells whose it was. Answers 3 where none
 /// is due, and 2 for want of memory.
-#[unsafe(no_mangle)]
 #[tactic(auto, using(crate::proofs::CallLemmas::on_absent, crate::proofs::CallLemmas::on_there))]
-pub extern "C" fn dachumvi_expire(channel: &mut ChannelWord, at: u64, leg: &mut ToldLeg) -> u32
+pub(crate) fn expire(channel: &mut ChannelWord, at: u64, leg: &mut ToldLeg) -> u32
     ensures done { OnChannel channel.old channel.new result (λ old new.
         MeansTold (Expires at) (lapse_told result leg.new) old new × KeepsBoth old new) }
     ensures stays { UnlessDone result (leg.new ≡ leg.old) }
@@ -71,9 +68,8 @@ pub extern "C" fn dachumvi_expire(channel: &mut ChannelWord, at: u64, leg: &mut 
 
 /// Fails the attempts that are in flight on this server over this link, and writes how many there were. Answers 2 for
 /// want of memory.
-#[unsafe(no_mangle)]
 #[tactic(auto, using(crate::proofs::CallLemmas::on_absent, crate::proofs::CallLemmas::on_there))]
-pub extern "C" fn dachumvi_fault(
+pub(crate) fn fault(
     channel: &mut ChannelWord,
     server: u32,
     link: u64,
