@@ -1,0 +1,3 @@
+mod PumpLemmas
+mod ServedLemmas
+pub mod Theorems
