@@ -1,6 +1,7 @@
 pub mod NameLemmas
 pub mod UnitLemmas
 pub mod PieceLemmas
+pub mod PlainNameLemmas
 pub mod FaultLemmas
 pub mod SpellingLemmas
 pub mod PrintingLemmas
@@ -25,3 +26,4 @@ pub mod SpelledLemmas
 pub mod MixingLemmas
 pub mod TextFaultLemmas
 pub mod Theorems
+pub mod PointerLemmas

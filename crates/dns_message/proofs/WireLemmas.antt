@@ -1,5 +1,5 @@
 -- Labels that stand one behind the other in bytes, each behind its length.
-use Rattle.std.proofs.Common.{◌≡◌, ℕ, zero, suc, ◌+◌, ◌-◌, ◌<◌, ◌≤◌, List, [], ◌∷◌, ◌++◌, length, map, take, drop, get_or, refl, ap, sym, ◌∙◌, arith, add-one, drop-cons, append-nil}
+use Rattle.std.proofs.Common.{◌≡◌, ℕ, zero, suc, ◌+◌, ◌-◌, ◌<◌, ◌≤◌, List, [], ◌∷◌, ◌++◌, length, map, take, drop, get_or, refl, ap, sym, ◌∙◌, arith, add-one, drop-cons, append-nil, append_assoc}
 use Rattle.std.specs.Prelude.{slice_range}
 use Rattle.std.specs.List.{AllByRecursion}
 use Rattle.std.specs.Char.{to_ascii_lowercase}
@@ -60,6 +60,13 @@ labels_length (label ∷ labels) =
 -- a label more
 pub spelled_more : (labels : List (List ℕ)) (label : List ℕ) → wire_bytes (labels ++ label ∷ []) ≡ wire_bytes labels ++ label_bytes label
 spelled_more labels label = flat_map-append label_bytes labels (label ∷ []) ∙ ap (λ (last : List ℕ). wire_bytes labels ++ last) (flat_map-cons label_bytes label [] ∙ append-nil (label_bytes label))
+
+-- bytes that are labels, behind those that were written
+pub written_more : (before bytes more : List ℕ) (labels : List (List ℕ)) → bytes ≡ before ++ wire_bytes labels → AreLabels more → bytes ++ more ≡ before ++ wire_bytes (labels ++ labels_in more)
+written_more before bytes more labels written spelled =
+    ap (λ (front : List ℕ). front ++ more) written
+    ∙ append_assoc before (wire_bytes labels) more
+    ∙ ap (λ (all : List ℕ). before ++ all) (ap (λ (last : List ℕ). wire_bytes labels ++ last) spelled ∙ sym (flat_map-append label_bytes labels (labels_in more)))
 
 module _ (bytes : List ℕ) (count : ℕ) (label : List ℕ) (wire : IsWire bytes count) (is : IsLabel label) (room : wire_length (labels_in bytes) + length label + 1 ≤ 255) where
   more_spelled : bytes ++ label_bytes label ≡ wire_bytes (labels_in bytes ++ label ∷ [])

@@ -15,3 +15,4 @@ pub mod Validity
 pub mod Message
 pub mod Grammar
 pub mod MessageFaults
+pub mod Pointers

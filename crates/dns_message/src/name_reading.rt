@@ -4,6 +4,7 @@
 ghost use Rattle.std.specs.Prelude.{◌≡◌, ℕ, List, ◌+◌, ◌-◌, ◌<◌, ◌≤◌, ◌≢◌, ◌++◌, Ok, Err, length, slice_range, IfErr, IfOk, MatchResult};
 ghost use Rattle.dns_message.specs.Reading.{EndsWithin, Gives, byte_at, label_end, run_of, name_of};
 ghost use Rattle.dns_message.specs.Name.{wire_length};
+ghost use Rattle.dns_message.specs.Spelling.{name_bytes};
 ghost use Rattle.dns_message.specs.Wire.{IsWire, labels_in};
 
 use crate::fault::MessageFault;
@@ -161,6 +162,42 @@ pub fn name_end(bytes: &[u8], start: usize) -> Result<usize, MessageFault>
         taken += found.stop - run;
         match found.end {
             RunEnd::Root { next } => return Ok(after.unwrap_or(next)),
+            RunEnd::Pointer { at, target } => {
+                if run <= target {
+                    return Err(MessageFault::BadPointer(at as u64));
+                }
+                after = Some(after.unwrap_or(at + 2));
+                run = target;
+            }
+        }
+    }
+}
+
+/// Adds the name at an offset without pointers, with the root's zero byte, and gives the offset behind the name's own
+/// bytes.
+pub(crate) fn name_onto(
+    bytes: &[u8],
+    start: usize,
+    out: &mut Vec<u8>,
+) -> Result<usize, MessageFault>
+    ensures read { MatchResult result
+        (λ next. (labels : List (List ℕ)) × (name_of bytes.now start ≡ Ok (labels, next))
+        × (out.new.items ≡ out.old.items ++ name_bytes labels))
+        (λ fault. fault ≢ MessageFault.NoMemory → name_of bytes.now start ≡ Err fault) }
+    ensures within { IfOk result (λ next. (start < next) × (next ≤ length bytes.now)) }
+{
+    let mut taken = 1;
+    let mut run = start;
+    let mut after = None;
+    loop {
+        let found = run_at(bytes, start, run, taken)?;
+        out.extend_from_slice(&bytes[run..found.stop])?;
+        taken += found.stop - run;
+        match found.end {
+            RunEnd::Root { next } => {
+                out.push(0)?;
+                return Ok(after.unwrap_or(next));
+            }
             RunEnd::Pointer { at, target } => {
                 if run <= target {
                     return Err(MessageFault::BadPointer(at as u64));

@@ -7,9 +7,10 @@ ghost use Rattle.dns_message.specs.NameFaults.{bad, spot, spots_of, behind_label
 ghost use Rattle.dns_message.specs.NameText.{byte_of_digits, escaped, units_of, label_before, dot_before, HasNoLabel, name_text};
 
 use crate::fault::NameFault;
-use crate::name::{LABEL_MOST, Name, NameText};
+use crate::name::{LABEL_MOST, NAME_MOST, Name, NameText};
 use crate::name_making::add_label;
 use arrayvec::ArrayVec;
+use item_list::NoMemory;
 use std::alloc::Global;
 
 /// What a text is made of: dots that part labels, and bytes of labels.
@@ -129,6 +130,58 @@ fn label_at(text: &[u8], start: usize) -> Result<TextLabel, NameFault>
     })
 }
 
+/// The name of a text without escapes, read in one pass: a label's bytes stand one place further in the name than in the
+/// text, and its length where the dot before it stood. Nothing where the text has an escape, is a dot alone, or is no
+/// name.
+fn plain_name(alloc: Global, text: &[u8]) -> Result<Option<NameText>, NoMemory>
+    ensures { IfOk result (λ found. IfSome found
+        (λ read. name_text text.now ≡ Some (read.name, read.absolute))) }
+{
+    if text.len() >= NAME_MOST || text == b".".as_slice() {
+        return Ok(None);
+    }
+    let mut wire = Vec::with_capacity(alloc, text.len() + 1)?;
+    // The place of a label's length, which is known where the label ends.
+    wire.push_reserved(0);
+    let mut count = 0;
+    let mut start = 0;
+    let mut at = 0;
+    while at < text.len() {
+        let byte = text[at];
+        if byte == b'\\' {
+            return Ok(None);
+        }
+        if byte == b'.' {
+            let len = at - start;
+            if len == 0 || len > LABEL_MOST {
+                return Ok(None);
+            }
+            wire[start] = len as u8;
+            count += 1;
+            start = at + 1;
+            if start == text.len() {
+                return Ok(Some(NameText {
+                    name: Name::of_wire(wire, count),
+                    absolute: true,
+                }));
+            }
+            wire.push_reserved(0);
+        } else {
+            wire.push_reserved(byte);
+        }
+        at += 1;
+    }
+    let len = at - start;
+    if len == 0 || len > LABEL_MOST || at + 1 >= NAME_MOST {
+        return Ok(None);
+    }
+    wire[start] = len as u8;
+    Ok(Some(NameText {
+        name: Name::of_wire(wire, count + 1),
+        absolute: false,
+    }))
+}
+
 impl Name {
     /// The name that a text has: labels with dots between them, and behind the last of an absolute name.
     /// `.` alone is the root. `\DDD` is the byte of that number, and `\` before any other byte is that byte.
@@ -137,6 +190,9 @@ impl Name {
         ensures refused { IfErr result (HasNameCause (name_text text.now ≡ None)) }
         ensures fault { IfErr result (λ fault. fault ≢ NameFault.NoMemory → name_read text.now ≡ Err fault) }
     {
+        if let Some(read) = plain_name(alloc, text)? {
+            return Ok(read);
+        }
         let mut name = Name::root(alloc);
         if text == b".".as_slice() {
             return Ok(NameText {

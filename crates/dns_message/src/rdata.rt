@@ -4,9 +4,8 @@ ghost use Rattle.std.specs.Prelude.{◌≡◌, ◌≢◌, ◌+◌, ◌<◌, ◌�
 ghost use Rattle.dns_message.specs.Reading.{Gives, or_else, expanded_name, names_rdata, rdata_of};
 
 use crate::fault::MessageFault;
-use crate::fields::put_name;
 use crate::name::NAME_ROOM;
-use crate::name_reading::name_at;
+use crate::name_reading::name_onto;
 use crate::shape::{NamesShape, Shape, string_count};
 use item_list::Bytes;
 use std::alloc::Global;
@@ -55,7 +54,7 @@ fn expanded(
     let mut rdata = Vec::with_capacity(alloc, len + NAME_ROOM)?;
     rdata.extend_from_slice(&bytes[at..next])?;
     for _ in 0..shape.names {
-        next = expand(alloc, bytes, next, bad, &mut rdata)?;
+        next = expand(bytes, next, bad, &mut rdata)?;
     }
     if next > at + len || at + len - next != shape.back {
         return Err(bad);
@@ -66,7 +65,6 @@ fn expanded(
 
 /// Adds the name at an offset without pointers, and gives the offset behind it. A name that can't be read is `bad`.
 fn expand(
-    alloc: Global,
     bytes: &[u8],
     at: usize,
     bad: MessageFault,
@@ -79,11 +77,8 @@ fn expand(
         (λ fault. fault ≢ MessageFault.NoMemory → or_else bad (expanded_name bytes.now at) ≡ Err fault) }
     ensures within { IfOk result (λ next. next ≤ length bytes.now) }
 {
-    match name_at(alloc, bytes, at) {
-        Ok((name, next)) => {
-            put_name(rdata, &name)?;
-            Ok(next)
-        }
+    match name_onto(bytes, at, rdata) {
+        Ok(next) => Ok(next),
         Err(fault) => Err(bad_unless_memory(fault, bad)),
     }
 }

@@ -3,13 +3,15 @@ use Rattle.std.proofs.lemmas.Grind.{common_steps}
 use Rattle.std.proofs.lemmas.Result.{err_from_is_err_and}
 use Rattle.dns_message.specs.Reading.{record_of}
 use Rattle.dns_message.proofs.ItemLemmas.{items_more, items_stop, items_end}
+use Rattle.dns_message.proofs.PointerLemmas.{last_pushed}
 use Rattle.dns_message.proofs.decoding.records_at.Goals as goal
 
 pub loop-preserved : goal.loop-preserved
 loop-preserved c = record {
   within = c.in_ok-found.ensures.end;
   counted = grind (arith, common_steps);
-  read = rw c.in_ok-push.ensures.items (sym (items_more (record_of c.args.bytes.now) c.loop.records.items c.args.count c.loop.counter c.loop.next c.in_ok-found.found c.in_ok-found.after c.loop-test.true c.in_ok-found.ensures.read) ∙ c.loop.invariant.read);
+  last = rw (c.in_ok-push.ensures.items, last_pushed c.loop.records.items c.in_ok-found.found.item) c.in_ok-found.ensures.stands;
+  read = rw c.in_ok-push.ensures.items (sym (items_more (record_of c.args.bytes.now) c.loop.records.items c.args.count c.loop.counter c.loop.next c.in_ok-found.found.item c.in_ok-found.found.next c.loop-test.true c.in_ok-found.ensures.read) ∙ c.loop.invariant.read);
 }
 
 pub returns-in_err-found-clause-read : goal.returns-in_err-found-clause-read

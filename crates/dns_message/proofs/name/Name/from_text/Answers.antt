@@ -9,7 +9,7 @@ use Rattle.dns_message.proofs.name.Name.from_text.Goals.{then-not-dotted-via-the
 
 pub returns-in_err-found-clause-refused : goal.returns-in_err-found-clause-refused
 returns-in_err-found-clause-refused c =
-    let p = err_from_is_err_and c.from_residual.result c.from_residual.ensures.1 in
+    let p = err_from_is_err_and c.from_residual-in_err-found.result c.from_residual-in_err-found.ensures.1 in
     rw (p.1, p.2) (name_cause_then _ _ _ (λ h. c.loop-name.invariant.read ∙ continued_none c.loop-name.name _ h) c.in_err-found.ensures.refused)
 
 pub returns-in_err-add_label-clause-refused : goal.returns-in_err-add_label-clause-refused
@@ -20,7 +20,7 @@ returns-in_err-add_label-clause-refused c =
 
 pub returns-in_err-found-clause-fault : goal.returns-in_err-found-clause-fault
 returns-in_err-found-clause-fault c =
-    let p = err_from_is_err_and c.from_residual.result c.from_residual.ensures.1 in
+    let p = err_from_is_err_and c.from_residual-in_err-found.result c.from_residual-in_err-found.ensures.1 in
     rw (p.1, p.2) (λ ne. c.loop-name.invariant.placed ∙ c.in_err-found.ensures.placed ne c.loop-name.name)
 
 pub returns-in_err-add_label-clause-fault : goal.returns-in_err-add_label-clause-fault
