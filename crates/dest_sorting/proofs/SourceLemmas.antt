@@ -1,11 +1,12 @@
 -- The order of sources for one destination is a strict partial order, so among the sources of a family there is one that
 -- no other is before.
-use Rattle.std.proofs.Common.{◌≡◌, ℕ, ◌<◌, ◌≤◌, Bool, true, false, not, ◌&&◌, ◌||◌, ltb, leb, List, [], ◌∷◌, is_some, ◌⊎◌, eqb, le-ltb, refl, sym, ◌∙◌, arith, inl, inr, lt-ltb, true≢false}
+use Rattle.std.proofs.Common.{◌≡◌, ℕ, ◌<◌, ◌≤◌, Bool, true, false, not, ◌&&◌, ◌||◌, ltb, leb, List, [], ◌∷◌, is_some, ◌⊎◌, eqb, le-ltb, refl, sym, ap, subst, ◌∙◌, arith, inl, inr, lt-ltb, true≢false}
 use Rattle.std.specs.Prelude.{find}
 use Rattle.std.specs.List.{list_any}
 use Rattle.std.specs.Cmp.{IsStrictWeakOrder}
-use Rattle.std.proofs.lemmas.Bool.{cases_Bool, both_ways, or_cases, or_parts, or_left, or_right, or_from, and_parts, and_from, and_right, not-true, not_from_false, true_from_ne_false, false_from_ne_true, ltb-true, leb-true, cases_lt, le-leb}
+use Rattle.std.proofs.lemmas.Bool.{cases_Bool, both_ways, or_cases, or_parts, or_left, or_right, or_from, and_parts, and_from, and_right, not-true, not_from_false, true_from_ne_false, false_from_ne_true, ltb-true, leb-true, cases_lt, le-leb, eqb-true}
 use Rattle.net_addr.specs.declared.addr.Addr.{Addr}
+use Rattle.net_addr.specs.declared.addr.Addr.TheVariants.{V4, V6}
 use Rattle.net_addr.specs.Scope.{scope}
 use Rattle.dest_sorting.specs.Policy.{label}
 use Rattle.dest_sorting.specs.Order.{favoured, same, same_family, is_native, shared, is_destination, has_better_scope, has_its_label, is_closer, source_before, is_chosen, source_of}
@@ -132,6 +133,19 @@ sources_order dest =
     ranked_first (is_destination dest) second (flag_ranks (λ s. same s dest))
     (ranked_first (has_better_scope dest) sixth (scope_ranks dest)
     (ranked_first (has_its_label dest) eighth (flag_ranks (λ s. eqb (label s) (label dest))) (closer_orders dest)))
+
+-- addresses that the test calls the same are equal
+same_is : (s t : Addr) → same s t ≡ true → s ≡ t
+same_is (V4 a) (V4 b) e = ap V4 (eqb-true a b e)
+same_is (V6 a) (V6 b) e = ap V6 (eqb-true a b e)
+same_is (V4 a) (V6 b) e = absurd (true≢false (sym e))
+same_is (V6 a) (V4 b) e = absurd (true≢false (sym e))
+
+-- no source is before itself
+pub itself_not_before : (dest s t : Addr) → same t s ≡ true → (same_family dest t && source_before dest t s) ≡ false
+itself_not_before dest s t is =
+    and_right (same_family dest t) (source_before dest t s)
+    (subst (λ u. source_before dest t u ≡ false) (same_is t s is) ((sources_order dest).apart t))
 
 -- what passes a narrower test passes the wider one
 none_narrower : {X : Type 0} (p q : X → Bool) → ((x : X) → p x ≡ true → q x ≡ true) → (xs : List X) → list_any q xs ≡ false → list_any p xs ≡ false

@@ -3,7 +3,7 @@ ghost use Rattle.std.specs.Prelude.{◌≡◌, ◌≤◌, if◌then◌else◌, A
 ghost use Rattle.net_addr.specs.Mapped.{mapped as mapped_of};
 ghost use Rattle.dest_sorting.specs.Policy.{policy_of as policy_of_bits, covers as covers_bits, longer as longer_row, everything};
 
-use net_addr::{Addr, mapped};
+use net_addr::Addr;
 
 /// A row of the policy table: the addresses with a prefix of so many bits, their precedence and their label.
 #[derive(Clone, Copy)]
@@ -20,6 +20,14 @@ const EVERYTHING: Policy = Policy {
     bits: 0,
     precedence: 40,
     label: 1,
+};
+
+/// The row of ::ffff:0:0/96, the longest prefix that an IPv4 address has.
+const MAPPED: Policy = Policy {
+    prefix: 0xffff << 32,
+    bits: 96,
+    precedence: 35,
+    label: 4,
 };
 
 /// The default policy table.
@@ -39,12 +47,7 @@ const TABLE: [Policy; 9] = [
         label: 1,
     },
     // ::ffff:0:0/96
-    Policy {
-        prefix: 0xffff << 32,
-        bits: 96,
-        precedence: 35,
-        label: 4,
-    },
+    MAPPED,
     // 2002::/16
     Policy {
         prefix: 0x2002 << 112,
@@ -93,7 +96,10 @@ const TABLE: [Policy; 9] = [
 pub fn policy_of(address: Addr) -> Policy
     ensures { result ≡ policy_of_bits (mapped_of address) }
 {
-    longest(mapped(address), &TABLE)
+    match address {
+        Addr::V4(_) => MAPPED,
+        Addr::V6(bits) => longest(bits, &TABLE),
+    }
 }
 
 /// Of the rows whose prefix the address has, that with the longest.

@@ -1,5 +1,5 @@
 //! Which source address serves a destination (RFC 6724, section 5).
-ghost use Rattle.std.specs.Prelude.{◌≡◌, is_some};
+ghost use Rattle.std.specs.Prelude.{◌≡◌, ◌&&◌, is_some};
 ghost use Rattle.std.specs.List.{list_any};
 ghost use Rattle.dest_sorting.specs.Order.{is_native as native, same_family as family_test, source_before, is_chosen as chosen, source_of, shared as shared_of, is_destination as first_rule, has_better_scope as second_rule, has_its_label as sixth_rule, is_closer as eighth_rule};
 
@@ -22,8 +22,15 @@ pub fn source_for(dest: Addr, sources: &[Addr]) -> Option<Addr>
 fn is_chosen(dest: Addr, sources: &[Addr], source: Addr) -> bool
     ensures { result ≡ chosen dest sources.now source }
 {
-    same_family(dest, source)
-        && !sources.iter().any(|other| same_family(dest, *other) && is_before(dest, *other, source))
+    same_family(dest, source) && !sources.iter().any(|other| is_behind(dest, source, *other))
+}
+
+/// Whether the source is behind another one of the destination's family. None is behind itself, so where the two are
+/// the same the rules need not be asked.
+fn is_behind(dest: Addr, source: Addr, other: Addr) -> bool
+    ensures { result ≡ (family_test dest other && source_before dest other source) }
+{
+    other != source && same_family(dest, other) && is_before(dest, other, source)
 }
 
 /// Whether two addresses are of one family.
