@@ -71,11 +71,6 @@ tries_hit f g name at a s t l m question some shows reads =
 -- ---- a request
 
 module _ (f g : ℕ) (name : Text) (at : ℕ) (a : Asker) (s : Shown) (m : Option (List WorldCall)) (missed : IsMiss name at s) where
-  -- the channel refused it, for want of memory
-  pub sends_refused : (b : Owned) (result : Result LoopEnd NoMemory) (fault : NoMemory) → is_err result ≡ true → AsksFor name (Err fault) a.alone b → Sends result f g name at (scene_of a s m) (scene_of (with_channel a b) s m) m
-  sends_refused b (Ok end) fault err asks = absurd (cc err)
-  sends_refused b (Err again) fault err asks = inl (record { grows = asks.0; stands = asks.1; asker = refl; no_call = refl })
-
   module _ (b : Owned) (asks : AsksFor name (Ok tt) a.alone b) (n : Scene) where
     abbrev asked : IsAsked name at (scene_of a s m) b
     asked = record { missed = missed; asks = asks }

@@ -2,7 +2,6 @@
 use Rattle.std.proofs.Common.{◌≡◌, ◌∙◌, ℕ, ◌+◌, List, [], ◌∷◌, ◌++◌, length, map, refl, ap, sym, subst, ⊎_elim}
 use Rattle.std.specs.Prelude.{Ok, Option}
 use Rattle.std.proofs.lemmas.List.{append-nil, map-append}
-use Rattle.net_addr.specs.declared.addr.Addr.{Addr}
 use Rattle.net_world.specs.declared.log.WorldCall.{WorldCall}
 use Rattle.channel_model.specs.Completion.{requests, taken}
 use Rattle.channel_model.specs.Journal.{Accepted, accepted, past_of}
@@ -19,14 +18,9 @@ use Rattle.acache_tool.specs.Bringing.{AsksFor}
 use Rattle.acache_tool.specs.Growing.{Grows, HasOpen, IsIdle}
 use Rattle.acache_tool.specs.Naming.{Scene, Tries}
 use Rattle.acache_tool.specs.Parts.{request_for}
-use Rattle.acache_tool.specs.Running.{Begins}
 use Rattle.acache_tool.specs.declared.asking.Asker.{Asker}
 use Rattle.acache_tool.proofs.OwnerLemmas.{grows_on}
 use Rattle.acache_tool.proofs.RequestLemmas.{left_last, takes_last}
-
--- a channel that nobody has used is idle
-pub idle_unused : (server : Addr) (turns : ℕ) (asker : Asker) (l m : Option (List WorldCall)) → Begins server turns (Ok asker) l m → IsIdle asker.alone
-idle_unused server turns asker l m x = subst IsIdle (sym x.0) (record { silent = refl; lawful = record { allowed = tt }; all_taken = refl })
 
 -- behind the Accept of a name its request is open
 pub open_asked : (name : Text) (a b : Owned) → IsIdle a → AsksFor name (Ok tt) a b → HasOpen b

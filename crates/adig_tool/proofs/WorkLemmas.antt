@@ -19,18 +19,17 @@ use Rattle.channel_model.specs.Course.{has_no_turn, is_of_turn}
 use Rattle.channel_model.specs.Journal.{Accepted, Past, accepted, accepted_by, followed_by, own_entries, past_of}
 use Rattle.channel_model.specs.Known.{Calls, GoesOn}
 use Rattle.channel_model.specs.Lawful.{first}
-use Rattle.channel_model.specs.Meanings.{Accepts, Meaning, Takes, TellsCounts}
+use Rattle.channel_model.specs.Meanings.{Accepts, Meaning, Takes}
 use Rattle.channel_model.specs.Names.{NamesBecome, NamesStay}
 use Rattle.channel_model.specs.Seen.{entries_of}
 use Rattle.channel_model.specs.Setting.{Setting}
 use Rattle.channel_model.specs.Turn.{parts_of_entry}
-use Rattle.channel_model.specs.declared.answers.Counts.{Counts}
 use Rattle.channel_model.specs.declared.answers.Refused.{Refused}
 use Rattle.channel_table.specs.Calling.{Owned, known_by_owner}
 use Rattle.event_runner.proofs.PauseLemmas.{names_same}
 use Rattle.event_runner.specs.Goes.{AreMadeInTurns, is_made_in_turn}
 use Rattle.adig_tool.specs.Session.{first_request, is_of_session, leaves_running}
-use Rattle.adig_tool.specs.SessionParts.{Delivers, TellsPending, Works, take_entry}
+use Rattle.adig_tool.specs.SessionParts.{Delivers, Works, take_entry}
 use Rattle.owner_laws.proofs.Owner.{owned_same, owner_called, owner_went_on}
 
 -- ---- lists of entries
@@ -283,15 +282,6 @@ delivers_trans a b c ca cb cc_ x y = record {
   calls_are = y.calls_are ∙ ap (λ l. l ++ y.answers) x.calls_are ∙ append_assoc ca x.answers y.answers;
 }
 
--- no other was ready
-pub delivers_end : {T : Type 0} (plan : T → Plan) (a b c : Owned) (ca cb : List Answer) → Delivers a b ca cb → Calls (Takes plan None) 0 (known_by_owner b) (known_by_owner c) →
-    Delivers a c ca cb × (ready c.setting (past_of c.seen) ≡ [])
-delivers_end {T} plan a b c ca cb x call =
-    let nothing : Option (Ticket T) = None in
-    let same : c ≡ b = nothing_added (Takes plan nothing) 0 b c call call.meant.0 in
-    let none : ready b.setting (past_of b.seen) ≡ [] = (owner_called (Takes plan nothing) 0 b c call).meant.1 in
-    (subst (λ d. Delivers a d ca cb) (sym same) x, subst (λ d. ready d.setting (past_of d.seen) ≡ []) (sym same) none)
-
 -- the first of a list taken out leaves a shorter one
 less_by : (number : ℕ) (xs : List ℕ) → first xs ≡ Some number → length (without number xs) < length xs
 less_by number [] is = absurd (cc is)
@@ -306,10 +296,3 @@ fewer_ready plan ticket a b call =
     let left : ready b.setting (past_of b.seen) ≡ without number (ready a.setting (past_of a.seen)) =
     ap (λ setting. ready setting (past_of b.seen)) call.desk.setting ∙ ap (ready a.setting) (past_behind a b (take_entry ticket.call ∷ []) seen) ∙ take-ready a.setting (past_of a.seen) number in
     subst (λ l. length l < length (ready a.setting (past_of a.seen))) (sym left) (less_by number (ready a.setting (past_of a.seen)) happens.meant.1)
-
--- how many are pending
-pub tells_pending : (counts : Counts) (a b : Owned) → Calls (TellsCounts counts) 0 (known_by_owner a) (known_by_owner b) → TellsPending counts.pending a b
-tells_pending counts a b call = record {
-  same = nothing_added (TellsCounts counts) 0 a b call call.meant.nothing;
-  count_is = (owner_called (TellsCounts counts) 0 a b call).meant.requests_pending;
-}

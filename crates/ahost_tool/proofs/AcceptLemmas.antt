@@ -1,5 +1,5 @@
 -- Requests that are accepted one behind the other on nobody's command.
-use Rattle.std.proofs.Common.{◌≡◌, ◌∙◌, ℕ, ◌+◌, suc, true, false, List, [], ◌∷◌, ◌++◌, drop, is_err, length, map, refl, ap, sym, subst, arith}
+use Rattle.std.proofs.Common.{◌≡◌, ◌∙◌, ℕ, ◌+◌, suc, true, false, List, [], ◌∷◌, ◌++◌, drop, is_err, length, refl, ap, sym, subst, arith}
 use Rattle.std.specs.FinMap as finite
 use Rattle.std.specs.Option.{unwrap_or}
 use Rattle.std.specs.Prelude.{All, Err, None, Ok, Option, Result, Some}
@@ -231,11 +231,6 @@ none_scripted specs plans none = ap (askings specs) none ∙ by specs
 pub none_left : (specs : List Spec) (plans : List Plan) → specs ≡ drop 1 specs → askings specs plans ≡ []
 none_left [] plans none = refl
 none_left (spec ∷ specs) plans none = absurd (omega (arith, ap length none))
-
-pub none_paired : {T : Type 0} (plan : T → Plan) (specs : List Spec) (bodies : List T) → bodies ≡ drop 1 bodies → askings specs (map plan bodies) ≡ []
-none_paired plan [] bodies none = refl
-none_paired plan (spec ∷ specs) [] none = refl
-none_paired plan (spec ∷ specs) (body ∷ bodies) none = absurd (omega (arith, ap length none))
 
 -- what holds of each of a list holds of each behind the first
 pub each_behind : {T : Type 0} (P : T → Type 0) (first : T) (all behind : List T) → all ≡ first ∷ behind → All P all → All P behind

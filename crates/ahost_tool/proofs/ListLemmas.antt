@@ -62,11 +62,6 @@ pub each_passes : {A : Type 0} (P : A → Type 0) (q : A → Bool) → ((x : A) 
 each_passes P q follows [] h = refl
 each_passes P q follows (x ∷ xs) h = and_from (q x) (list_all q xs) (follows x h.0) (each_passes P q follows xs h.1)
 
--- and back
-pub each_holds : {A : Type 0} (q : A → Bool) (P : A → Type 0) → ((x : A) → q x ≡ true → P x) → (xs : List A) → list_all q xs ≡ true → AllByRecursion P xs
-each_holds q P follows [] h = tt
-each_holds q P follows (x ∷ xs) h = let now = first_passes q x xs h in (follows x now.0, each_holds q P follows xs now.1)
-
 -- what holds of each, and what follows from that
 pub each_follows : {A : Type 0} (P Q : A → Type 0) → ((x : A) → P x → Q x) → (xs : List A) → AllByRecursion P xs → AllByRecursion Q xs
 each_follows P Q follows [] h = tt

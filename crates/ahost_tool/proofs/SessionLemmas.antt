@@ -107,9 +107,6 @@ module _ {B : Type 0} (a : Caller B) (new : IsNew a) (l m : Option (List WorldCa
       (subst (λ cs. HasObeyed a.alone.setting a.alone.seen a.hand.orders cs 0) (sym new.uncalled)
       (subst (λ j. HasObeyed a.alone.setting j a.hand.orders [] 0) (sym new.empty) (nothing_yet a.alone.setting a.hand.orders)))
 
-  unset_new : has_servers a.alone.seen ≡ false
-  unset_new = ap has_servers new.empty
-
   no_turn_new : has_no_turn a.alone.seen ≡ true
   no_turn_new = ap has_no_turn new.empty
 

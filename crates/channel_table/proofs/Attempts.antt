@@ -1,6 +1,5 @@
 -- How many servers a list has, and how many attempts a leg may spend.
-use Rattle.std.proofs.Common.{◌≡◌, ℕ, suc, ◌+◌, ◌*◌, ◌≤◌, Bool, true, false, List, [], ◌∷◌, Option, Some, None, refl, ap, subst, take, length, cond, arith}
-use Rattle.std.proofs.lemmas.Nat.{mul-le}
+use Rattle.std.proofs.Common.{◌≡◌, ℕ, suc, ◌+◌, ◌*◌, ◌≤◌, List, [], ◌∷◌, Option, Some, None, refl, ap, subst, take, length, arith}
 use Rattle.std.specs.Prelude.{IfSome, if◌then◌else◌, unwrap_or}
 use Rattle.chan_types.specs.declared.server_key.ServerKey.{ServerKey}
 use Rattle.net_addr.specs.declared.addr.ServerAddr.{ServerAddr}
@@ -38,19 +37,3 @@ module _ (setting : Setting) (past : Past) (list : List ServerKey) (counts : Lis
   -- a leg may spend so many attempts
   pub attempts_are : attempts setting past ≡ attempts_with setting.options list
   attempts_are = ap (λ (l : List ServerKey). length (if setting.options.flags.primary then take 1 l else l) * setting.options.tries) counted.listed
-
--- the servers in use are 8 at most
-pub used_few : (primary : Bool) (list : List ServerKey) → length list ≤ 8 → length (cond primary (take 1 list) list) ≤ 8
-used_few true [] few = omega arith
-used_few true (server ∷ list) few = omega arith
-used_few false list few = few
-
--- they are the first one, or all
-pub used_count : (primary : Bool) (list : List ServerKey) → 1 ≤ length list → cond primary 1 (length list) ≡ length (cond primary (take 1 list) list)
-used_count true [] some = absurd (omega (arith, some))
-used_count true (server ∷ list) some = refl
-used_count false list some = refl
-
--- 10 tries of 8 servers are 80
-pub few_attempts : (used tries : ℕ) → used ≤ 8 → tries ≤ 10 → used * tries ≤ 80
-few_attempts used tries few fewer = mul-le used tries 8 10 few fewer

@@ -1,8 +1,8 @@
 -- What a table has of a past beside its requests, behind one entry more.
-use Rattle.std.proofs.Common.{◌≡◌, ◌∙◌, ℕ, suc, ◌+◌, false, List, [], ◌∷◌, Some, None, refl, ap, sym, map, length, arith}
+use Rattle.std.proofs.Common.{◌≡◌, ◌∙◌, ℕ, ◌+◌, false, List, [], ◌∷◌, Some, None, refl, ap, sym, map, length, arith}
 use Rattle.std.specs.List.{range_with_len}
 use Rattle.std.specs.Option.{option_map_or}
-use Rattle.std.specs.Prelude.{max, ◌++◌, ◌≤◌}
+use Rattle.std.specs.Prelude.{max, ◌≤◌}
 use Rattle.chan_types.specs.declared.journal.What.{What}
 use Rattle.chan_types.specs.declared.server_key.ServerKey.{ServerKey}
 use Rattle.net_addr.specs.declared.addr.ServerAddr.{ServerAddr}
@@ -55,17 +55,6 @@ greatest_opening (server ∷ servers) some = ap (λ k. k + 1) (greatest_keyed 0 
 fresh_opening : (key : ℕ) (servers : List ServerAddr) → ◌≡◌ {A = List Failing} (map (λ (s : ServerKey). record { server = s.key; count = 0 }) (keyed_from key servers)) (map fresh_server (range_with_len key (length servers)))
 fresh_opening key [] = refl
 fresh_opening key (server ∷ servers) = ap (λ rest. fresh_server key ∷ rest) (fresh_opening (key + 1) servers)
-
--- one server more behind those with keys
-pub keyed-more : (key : ℕ) (servers : List ServerAddr) (server : ServerAddr) → keyed_from key (servers ++ server ∷ []) ≡ keyed_from key servers ++ record { key = key + length servers; address = server } ∷ []
-keyed-more key [] server = ap (λ k. record { key = k; address = server } ∷ []) (no_more key)
-  where
-    no_more : (k : ℕ) → k ≡ k + 0
-    no_more k = omega arith
-keyed-more key (first ∷ servers) server = ap (λ rest. record { key = key; address = first } ∷ rest) (keyed-more (key + 1) servers server ∙ ap (λ k. keyed_from (key + 1) servers ++ record { key = k; address = server } ∷ []) (onwards key (length servers)))
-  where
-    onwards : (k n : ℕ) → k + 1 + n ≡ k + suc n
-    onwards k n = omega arith
 
 -- a channel begins with the servers of its options, none of which has failed
 pub counted_first : (setting : Setting) (list : List ServerKey) (counts : List Failing) (key count : ℕ) → AreWithinLimits setting.options → list ≡ keyed_from 0 setting.options.servers → counts ≡ fresh_servers count

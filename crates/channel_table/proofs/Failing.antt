@@ -1,11 +1,10 @@
 -- How a table follows a Fault.
-use Rattle.std.proofs.Common.{◌≡◌, ◌∙◌, ℕ, ◌+◌, ◌<◌, ◌≤◌, ◌^◌, Bool, true, false, List, [], ◌∷◌, ◌++◌, Option, Some, None, Result, Ok, Err, refl, ap, sym, subst, map, length, cond, arith, drop, eq-eqb, eqb-true, get_or, true≢false}
+use Rattle.std.proofs.Common.{◌≡◌, ◌∙◌, ℕ, ◌+◌, ◌<◌, ◌≤◌, ◌^◌, Bool, true, false, List, [], ◌∷◌, ◌++◌, Option, Some, None, refl, ap, sym, subst, map, length, cond, arith, drop, eq-eqb, eqb-true, get_or, true≢false}
 use Rattle.std.proofs.lemmas.Bool.{and_parts}
 use Rattle.std.proofs.lemmas.List.{append-nil, map-append}
 use Rattle.std.proofs.lemmas.List.Elements.{filter_map-append}
 use Rattle.std.proofs.lemmas.List.Sums.{sum_by-cons}
 use Rattle.std.specs.List.{AllByRecursion, cons_option, list_any, sum_by}
-use Rattle.std.specs.Result.{IsErr}
 use Rattle.std.specs.Prelude.{IfSome, IsFalse, count_by, filter, filter_map, flat_map, if◌then◌else◌, option_map, option_to_list, ◌==◌, ◌||◌, ◌≢◌}
 use Rattle.chan_types.specs.declared.journal.What.TheVariants.{Fault}
 use Rattle.chan_types.specs.declared.script.Script.{Script}
@@ -19,11 +18,9 @@ use Rattle.channel_model.specs.Journal.{Past}
 use Rattle.channel_model.specs.Lawful.{IsLawfulPast}
 use Rattle.channel_model.specs.LegFacts.{LegFacts}
 use Rattle.channel_model.specs.Legs.{Leg}
-use Rattle.channel_model.specs.Meanings.{Fails}
 use Rattle.channel_model.specs.Servers.{attempts, has_key, servers_at}
 use Rattle.channel_model.specs.Setting.{Setting}
 use Rattle.channel_model.specs.declared.judged.Judged.TheVariants.{Failed}
-use Rattle.item_list.specs.declared.no_memory.NoMemory.{NoMemory}
 use Rattle.query_machine.specs.Servers.{one_more, recounted}
 use Rattle.query_machine.specs.declared.leg.Flying.{Flying}
 use Rattle.resolv_options.specs.Values.{AreWithinLimits}
@@ -181,11 +178,6 @@ module _ {T : Type 0} (plan : T → Script) (setting : Setting) (past : Past) (s
           counted_changed setting (Fault server link moment) past list counts key greatest starts counted refl refl server (Some (Failed ConnRefused)) one_more one.attempt (λ n few. one_more-is n (length past) few small) one.flies
           (eqb-true one.attempt.server server (and_parts (one.attempt.server == server) (one.attempt.link == link) one.over).0) one.over
           (λ b flies closed. (eqb-true b.server server (and_parts (b.server == server) (b.link == link) closed).0, refl))
-
--- a fault that found no memory
-pub fails_failed : (server link at : ℕ) (result : Result ℕ NoMemory) (setting : Setting) (past : Past) → IsErr result → Fails server link at result setting past None
-fails_failed server link at (Ok count) setting past failed = absurd (cc failed)
-fails_failed server link at (Err fault) setting past failed = refl
 
 -- what was made of each row begins with what was made of the first
 pub answers_left : {X Y : Type 0} (f : X → Y) {answers left : List Y} {rows rest : List X} {x : X} (answer : Y) → answers ≡ answer ∷ left → answers ≡ map f rows → rows ≡ x ∷ rest → (answer ≡ f x) × (left ≡ map f rest)

@@ -1,32 +1,25 @@
 -- What a table has by what it keeps of its fields, where a call begins.
-use Rattle.std.proofs.Common.{◌≡◌, ◌∙◌, ℕ, ◌+◌, ◌<◌, ◌≤◌, ◌^◌, List, [], ◌∷◌, ◌++◌, Some, None, Ok, Result, ap, length, refl, sym}
+use Rattle.std.proofs.Common.{◌≡◌, ◌∙◌, ℕ, ◌+◌, ◌<◌, ◌≤◌, ◌^◌, List, [], ◌∷◌, ◌++◌, Some, Ok, ap, length, refl, sym}
 use Rattle.std.specs.List.{list_any, sum_by}
 use Rattle.std.specs.Prelude.{if◌then◌else◌, true, ◌==◌, ◌≢◌}
-use Rattle.std.specs.Result.{IsErr}
 use Rattle.chan_types.specs.declared.journal.Entry.{Entry}
 use Rattle.chan_types.specs.declared.journal.What.TheVariants.{Fault}
 use Rattle.chan_types.specs.declared.script.Script.{Script}
 use Rattle.chan_types.specs.declared.ticket.Ticket.{Ticket}
 use Rattle.channel_model.specs.Choice.{Failing}
 use Rattle.channel_model.specs.Journal.{past_of}
-use Rattle.channel_model.specs.Legs.{leg_of}
-use Rattle.channel_model.specs.Meanings.{Fails, Starts}
+use Rattle.channel_model.specs.Meanings.{Fails}
 use Rattle.channel_model.specs.Servers.{attempts}
-use Rattle.channel_model.specs.declared.answers.Begun.{Begun}
-use Rattle.item_list.specs.declared.no_memory.NoMemory.{NoMemory}
 use Rattle.query_machine.specs.Servers.{one_more, recounted}
 use Rattle.channel_table.proofs.Attempts.{attempts_are, list_few, list_some}
-use Rattle.channel_table.proofs.Begins.{some_free, some_wait, starts_failed}
 use Rattle.channel_table.proofs.Failing.{counted_faulted, counted_over, failed_count, table_failed}
 use Rattle.channel_table.specs.Counted.{AreCounted}
 use Rattle.channel_table.specs.Ends.{attempts_with}
 use Rattle.channel_table.specs.Failing.{FailsOver}
 use Rattle.channel_table.specs.Kept.{IsKept, setting_of}
 use Rattle.channel_table.specs.Rows.{TableStands, over_in}
-use Rattle.channel_table.specs.Starting.{FindsAt, IsFree}
 use Rattle.channel_table.specs.declared.row.Row.{Row}
 use Rattle.channel_table.specs.declared.table.Table.TheInside.{Inside}
-use Rattle.channel_table.specs.declared.table.starting.Idle.{Idle}
 
 -- an entry came behind those of before, where room was made for it
 pub entry_added : {old room new : List Entry} (entry : Entry) → new ≡ room ++ entry ∷ [] → room ≡ old → new ≡ old ++ entry ∷ []
@@ -39,13 +32,6 @@ module _ {T J : Type 0} (plan : T → Script) (told : J → List Entry) (room_of
 
   pub servers_few : length t.list ≤ 8
   servers_few = list_few (setting_of t) (past_of (told t.journal)) t.list t.servers t.greatest_key t.greatest_link t.started kept.counted kept.limits kept.lawful.allowed
-
-  -- a Start that found no memory had found a leg that waits and an identifier
-  pub start_failed : (word bits at : ℕ) (result : Result Begun NoMemory) (idle : Idle) (id : ℕ) → FindsAt t.rows idle → IsFree t.rows word (Some id) → IsErr result → Starts word bits at result (setting_of t) (past_of (told t.journal)) None
-  start_failed word bits at result idle id found free failed =
-      starts_failed word bits at result (setting_of t) (past_of (told t.journal)) failed
-      (some_wait plan (setting_of t) (past_of (told t.journal)) t.rows t.ready.items kept.stands (leg_of idle.number idle.leg_number) found.firsts)
-      (some_free plan (setting_of t) (past_of (told t.journal)) t.rows t.ready.items kept.stands word id free)
 
   -- a Fault of this server's link, where a leg may spend so many attempts
   module _ (server link moment : ℕ) {most : ℕ} (value : most ≡ attempts_with t.options t.list) (few : most ≤ 80) where

@@ -199,9 +199,6 @@ has_landed setting server link bytes aim side judged (Some flying) is e = by_tes
 pub landed_says : (setting : Setting) (server link : ℕ) (bytes : List ℕ) (aim : Aim) (side : Side) (judged : Judged) → judged_of setting.options.flags server link bytes aim side ≡ Some judged → HasLanded setting server link bytes aim side judged
 landed_says setting server link bytes aim side judged e = has_landed setting server link bytes aim side judged (flying_of side) refl e
 
-is_some_of : (o : Option Judged) (judged : Judged) → o ≡ Some judged → is_some o ≡ true
-is_some_of o judged e = ap is_some e
-
 reply_of : (o : Option Reply) → is_some o ≡ true → (reply : Reply) × (o ≡ Some reply)
 reply_of None e = absurd cc
 reply_of (Some reply) e = (reply, refl)

@@ -111,9 +111,6 @@ module _ {T : Type 0} where
 
   -- ---- the row of a number
 
-  pub none_with : (rows : List (Row T)) (number : ℕ) → AllByRecursion (λ (row : Row T). row.number ≢ number) rows → AllByRecursion (λ (row : Row T). row.number ≡ number → some_waits row ≡ false) rows
-  none_with rows number none = each-then (λ (row : Row T). row.number ≢ number) (λ (row : Row T). row.number ≡ number → some_waits row ≡ false) rows (λ row other same. absurd (other same)) none
-
   above_with : (n number : ℕ) (rows : List (Row T)) → n ≡ number → AllByRecursion (λ (m : ℕ). n < m) (map number_of rows) → AllByRecursion (λ (row : Row T). row.number ≡ number → some_waits row ≡ false) rows
   above_with n number [] is all = tt
   above_with n number (row ∷ rows) is all = (λ same. absurd (omega (arith, same, is, all.0)), above_with n number rows is all.1)

@@ -60,9 +60,6 @@ module _ (list : List ServerKey) (leg : Leg) (state : machine.Leg) where
   no_sum : (n : ℕ) → 0 + n ≡ n
   no_sum n = omega arith
 
-  set_as : (o : Option Flying) → flying_in state.phase ≡ o → (P : machine.Leg → Type 0) → P (cond (flying_left list o) (record state { phase = phases.Waiting; forced = None }) (record state { forced = kept_in list state.forced })) → P (leg_set list state)
-  set_as o is P p = subst (λ f. P (cond (flying_left list f) (record state { phase = phases.Waiting; forced = None }) (record state { forced = kept_in list state.forced }))) (sym is) p
-
   facts_after : (o : Option Flying) → flying_in state.phase ≡ o
       → facts_set list (flown_by leg o) (facts_of leg state) ≡ facts_of leg (cond (flying_left list o) (record state { phase = phases.Waiting; forced = None }) (record state { forced = kept_in list state.forced }))
   facts_after None is = refl

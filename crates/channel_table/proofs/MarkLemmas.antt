@@ -70,9 +70,6 @@ module _ {T : Type 0} (options : Options) (server link most : ℕ) where
     pub low : count ≤ sum_by (over_in server link) (take from rows)
     pub have : sum_by (over_in server link) (take from rows) ≤ count → HaveMarked marks legs (take from rows)
 
-  pub none_marked : (legs : Legs) (rows : List (Row T)) → MarkedUpTo [] legs 0 0 rows
-  none_marked legs rows = record { low = omega arith; have = λ full. record { marked = refl; listed = tt } }
-
   module _ (marks : List Mark) (legs : Legs) (count from : ℕ) (rows : List (Row T)) (upto : MarkedUpTo marks legs count from rows) where
     -- one more row is marked, at this index
     module _ (index : ℕ) (row : Row T) (ahead : from ≤ index) (inside : index < length rows) (is : row ≡ get_or rows index row) where

@@ -2,7 +2,6 @@
 use Rattle.std.proofs.Common.{◌≡◌, ℕ, ◌+◌, ◌-◌, ◌≤◌, List, [], ◌∷◌, ◌++◌, length, Bool, Option, Some, None, Result, Ok, Err, refl, ap, arith}
 use Rattle.std.specs.Prelude.{option_map}
 use Rattle.std.proofs.lemmas.List.{take-append-le, length-append}
-use Rattle.std.proofs.Math.Seq.{take-length}
 use base.Stored.{Gv, gnil, gnum, gcons}
 use Rattle.item_list.specs.declared.no_memory.NoMemory.{NoMemory}
 use Rattle.net_world.specs.declared.log.WorldCall.{WorldCall}
@@ -29,13 +28,6 @@ began_stays call (Err e) count after old new log more =
 pub origin_stays : {T : Type 0} (call : T → WorldCall) (result : Result T NoMemory) (count after : ℕ) (old new : Option (List WorldCall)) (made_old made_new : Gv) → Logs old new result call → after ≡ count + counted result → made_new ≡ made_old
     → begun_origin made_new (calls_ago after new) ≡ begun_origin made_old (calls_ago count old)
 origin_stays call result count after old new made_old made_new log more made = rw (made, began_stays call result count after old new log more) refl
-
--- behind no call, the log began as it is
-pub began_now : (log : Option (List WorldCall)) → calls_ago 0 log ≡ log
-began_now None = refl
-began_now (Some calls) =
-    let all : length calls - 0 ≡ length calls = omega arith in
-    ap (λ (l : List WorldCall). Some l) (rw all (take-length calls))
 
 -- want of memory leaves a count
 pub no_cause : {T : Type 0} (count : ℕ) (fails : T → Bool) (e : NoMemory) → HasCause count count fails (Err e)

@@ -4,17 +4,13 @@ use Rattle.std.specs.Prelude.{option_map, is_err}
 use Rattle.item_list.specs.declared.no_memory.NoMemory.{NoMemory}
 use Rattle.net_world.specs.declared.answers.Got.{Got}
 use Rattle.net_world.specs.declared.log.WorldCall.{WorldCall}
-use Rattle.net_world.specs.declared.log.WorldCall.TheVariants.{Serve, Send, Receive}
-use Rattle.net_world.specs.declared.answers.Sent.{Sent}
+use Rattle.net_world.specs.declared.log.WorldCall.TheVariants.{Serve, Receive}
 use Rattle.net_addr.specs.declared.addr.ServerAddr.{ServerAddr}
 use Rattle.net_world.specs.Logs.{Logs}
 use Rattle.cookie_world.specs.Receiving.{TakesNext, Hands}
 use Rattle.cookie_world.specs.Rounds.{Makes, Passes, Goes, Answers, IsNext, receiving, told, draws_of}
-use Rattle.cookie_world.specs.Sending.{wire_of, noted}
 use Rattle.cookie_world.specs.Serving.{DrawsWords}
-use Rattle.cookie_world.specs.State.{CookieState, state_of, with_peer, with_noted}
-use Rattle.cookie_world.specs.declared.sending.Wire.{Wire}
-use Rattle.cookie_world.specs.declared.state.Query.{Query}
+use Rattle.cookie_world.specs.State.{CookieState, state_of, with_peer}
 use Rattle.cookie_world.specs.declared.state.Kept.{Kept}
 use Rattle.cookie_world.proofs.LogLemmas.{same_more, both_more}
 
@@ -43,20 +39,6 @@ module _ {T : Type 0} (call : T → WorldCall) (before after : Option (List Worl
   -- the call was passed on alone
   pub goes_alone : (answer : T) → Logs before after (Ok answer) call → new ≡ told (call answer) old → (Passes (call answer) old (call answer ∷ []) new → Makes (call answer) old (call answer ∷ []) new) → Goes call (Ok answer) before after old new
   goes_alone answer log state is = goes_once answer (call answer) log (is (record { alone = refl; state = state }))
-
--- a query was sent as it goes to its server
-pub goes_sending : (server : ℕ) (bytes : List ℕ) (sent : Sent) (before after : Option (List WorldCall)) (old room new : CookieState) (wire : Wire) (query : Option Query) → room ≡ old → wire ≡ wire_of room.peers server bytes → query ≡ noted server bytes wire.way
-    → after ≡ option_map (λ calls. calls ++ Send server wire.bytes sent ∷ []) before → new ≡ told (Send server bytes sent) (record room { queries = with_noted query room.queries }) → Goes (λ sent. Send server bytes sent) (Ok sent) before after old new
-goes_sending server bytes sent before after old room new wire query same goes is log state =
-    subst (λ (s : CookieState). Goes (λ sent. Send server bytes sent) (Ok sent) before after s new) same
-    (record {
-      inner = Send server wire.bytes sent ∷ [];
-      log = log;
-      makes = record {
-        calls = ap (λ (w : Wire). Send server w.bytes sent ∷ []) goes;
-        state = state ∙ ap (λ (q : Option Query). told (Send server bytes sent) (record room { queries = with_noted q room.queries })) (is ∙ ap (λ (w : Wire). noted server bytes w.way) goes);
-      };
-    })
 
 -- a server was told, behind the words of its client cookie
 pub goes_serving : (server : ℕ) (address : ServerAddr) (before middle after : Option (List WorldCall)) (old room new : CookieState) (bytes : List ℕ) → room ≡ old → DrawsWords 4 (Ok tt) before middle [] bytes → after ≡ option_map (λ calls. calls ++ Serve server address ∷ []) middle

@@ -12,7 +12,7 @@ use Rattle.cookie_world.specs.State.{CookieState}
 use Rattle.cookie_world.specs.declared.state.Peer.{Peer}
 use Rattle.cookie_world.specs.declared.state.Query.{Query}
 use Rattle.cookie_world.specs.declared.verdict.Verdict.{Verdict}
-use Rattle.cookie_world.specs.declared.verdict.Verdict.TheVariants.{Lose, Again}
+use Rattle.cookie_world.specs.declared.verdict.Verdict.TheVariants.{Again}
 use Rattle.cookie_world.proofs.LogLemmas.{none_more}
 
 module _ (log : Option (List WorldCall)) (old new : CookieState) where
@@ -31,10 +31,6 @@ module _ (log : Option (List WorldCall)) (old new : CookieState) where
       → IfOk result (λ got. (got ≡ Datagram server bytes) × (new ≡ told (Receive got) judged)) → IfErr result (λ back. (back ≡ Datagram server bytes) × (new ≡ old)) → Carries server bytes verdict result log log old new
   carries_on server bytes verdict judged (Ok got) becomes ok err = ([], judged, none_more log, subst (λ (g : Got). Becomes server bytes verdict g [] old judged) (sym ok.0) becomes, ok.1)
   carries_on server bytes verdict judged (Err back) becomes ok err = (err.0, refl, err.1)
-
-  -- a datagram is dropped
-  pub carries_lost : (server : ℕ) (bytes : List ℕ) → new ≡ told (Receive (Datagram server [])) old → Carries server bytes Lose (Ok (Datagram server [])) log log old new
-  carries_lost server bytes state = ([], old, none_more log, (refl, refl, refl), state)
 
 -- a query was sent again
 pub carries_again : (before after : Option (List WorldCall)) (old new : CookieState) (server : ℕ) (bytes : List ℕ) (peer : Peer) (query : Query) (sent : List ℕ) (outcome : Sent) (got : Got)

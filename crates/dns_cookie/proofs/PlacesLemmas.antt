@@ -1,21 +1,13 @@
 -- Records that stand one behind the other, of which the first OPT record is looked for.
-use Rattle.std.proofs.Common.{◌≡◌, ◌≢◌, ℕ, suc, ◌+◌, ◌-◌, ◌<◌, ◌≤◌, false, List, [], ◌∷◌, Some, None, Result, Ok, refl, sym, ap, ◌∙◌, arith}
-use Rattle.std.specs.Prelude.{find, slice_range}
+use Rattle.std.proofs.Common.{◌≡◌, ◌≢◌, ℕ, suc, ◌+◌, ◌-◌, ◌<◌, false, List, ◌∷◌, Some, Result, Ok, refl, sym, ap, ◌∙◌, arith}
+use Rattle.std.specs.Prelude.{find}
 use Rattle.std.proofs.lemmas.Bool.{ne_eqb}
 use Rattle.dns_message.proofs.Theorems.{bind_ok}
 use Rattle.dns_message.specs.Numbers.{kind_opt}
-use Rattle.dns_message.specs.Reading.{items_of, rdata_of}
-use Rattle.dns_message.specs.Shapes.{shape_by}
+use Rattle.dns_message.specs.Reading.{items_of}
 use Rattle.dns_message.specs.declared.fault.MessageFault.{MessageFault}
 use Rattle.dns_message.specs.declared.message.Record.{Record}
 use Rattle.edns_opt.specs.Opt.{is_opt}
-
--- the rdata of an OPT record is kept as it stands
-pub opt_kept : (bytes rdata : List ℕ) (p len kind class : ℕ) → rdata_of bytes p len (shape_by kind class) ≡ Ok rdata → kind ≡ kind_opt → rdata ≡ slice_range bytes p (p + len)
-opt_kept bytes rdata p len kind class e is =
-    let read : rdata_of bytes p len (shape_by 41 class) ≡ Ok rdata = rw is at e in
-    let same : slice_range bytes p (p + len) ≡ rdata = cc in
-    sym same
 
 -- pairs that are one have the same parts
 pair_is : (xs ys : List Record) (p q : ℕ) → ◌≡◌ {A = Result (List Record × ℕ) MessageFault} (Ok (xs, p)) (Ok (ys, q)) → (xs ≡ ys) × (p ≡ q)
@@ -41,14 +33,6 @@ module _ (item : ℕ → Result (Record × ℕ) MessageFault) (records : List Re
             let others = bind_ok (items_of item (count - (i + 1)) first.0.1) _ (l.0, end) first.2 in
             let same = pair_is (first.0.0 ∷ others.0.0) l.0 others.0.1 end others.2 in
             (first.0.0, first.0.1, others.0.0, first.1, others.1 ∙ ap (λ (n : ℕ). Ok (others.0.0, n)) same.1, l.2 ∙ ap (find is_opt) (sym same.0))
-
-  -- none is left
-  pub left_none : (count i p : ℕ) → count ≤ i → Left item records end (count - i) p → find is_opt records ≡ None
-  left_none count i p past l =
-      let k : count - i ≡ 0 = omega arith in
-      let e : items_of item 0 p ≡ Ok (l.0, end) = rw k at l.1 in
-      let same = pair_is [] l.0 p end e in
-      l.2 ∙ ap (find is_opt) (sym same.0)
 
 -- a record of another kind isn't found
 pub find_on : (rr : Record) (rest : List Record) → rr.kind ≢ kind_opt → find is_opt (rr ∷ rest) ≡ find is_opt rest

@@ -1,18 +1,12 @@
 -- A list of items: one of them, and those behind it.
-use Rattle.std.proofs.Common.{◌≡◌, ◌≢◌, ℕ, suc, ◌+◌, ◌-◌, ◌<◌, ◌≤◌, List, [], ◌∷◌, ◌++◌, Result, Ok, Err, inl, inr, refl, sym, ap, append_assoc, arith}
+use Rattle.std.proofs.Common.{◌≡◌, ℕ, suc, ◌+◌, ◌-◌, ◌<◌, ◌≤◌, List, [], ◌∷◌, ◌++◌, Result, Ok, Err, refl, sym, ap, append_assoc, arith}
 use Rattle.std.proofs.lemmas.List.{append-nil}
-use Rattle.std.specs.Prelude.{◌⊎◌}
 use Rattle.dns_message.specs.declared.fault.MessageFault.{MessageFault}
-use Rattle.dns_message.specs.declared.fault.MessageFault.TheVariants.{ShortHeader, ShortPart, BadLabel, BadPointer, LongName, BadRdata, TrailingBytes, NoMemory}
 use Rattle.dns_message.specs.Reading.{◌>>=◌, items_of, joined_of, appended}
 
 -- items in front of those that are read
 abbrev pub prefixed : {A : Type 0} → List A → Result (List A × ℕ) MessageFault → Result (List A × ℕ) MessageFault
 prefixed front read = read >>= λ found. Ok (front ++ found.0, found.1)
-
-pub prefixed_none : {A : Type 0} (read : Result (List A × ℕ) MessageFault) → prefixed [] read ≡ read
-prefixed_none (Ok found) = refl
-prefixed_none (Err fault) = refl
 
 prefixed_one : {A : Type 0} (front : List A) (x : A) (read : Result (List A × ℕ) MessageFault) → prefixed front (read >>= λ found. Ok (x ∷ found.0, found.1)) ≡ prefixed (front ++ x ∷ []) read
 prefixed_one front x (Ok found) = ap (λ all. Ok (all, found.1)) (sym (append_assoc front (x ∷ []) found.0))
@@ -45,18 +39,4 @@ module _ (item : ℕ → Result (List ℕ × ℕ) MessageFault) where
   pub joined_stop : (front : List ℕ) (count i p : ℕ) (fault : MessageFault) → i < count → item p ≡ Err fault → appended front (joined_of item (count - i) p) ≡ Err fault
   joined_stop front count i p fault lt e = let k : count - i ≡ suc (count - (i + 1)) = omega arith in rw (k, e) refl
 
-  pub joined_end : (front : List ℕ) (count i p : ℕ) → count ≤ i → appended front (joined_of item (count - i) p) ≡ Ok (front, p)
-  joined_end front count i p past = let k : count - i ≡ 0 = omega arith in rw k (ap (λ (all : List ℕ). Ok (all, p)) (append-nil front))
-
 -- ---- one fault in place of any
-
--- a fault is want of memory, or it isn't
-pub memory_or : (fault : MessageFault) → (fault ≡ NoMemory) ⊎ (fault ≢ NoMemory)
-memory_or ShortHeader = inr (λ e. cc)
-memory_or (ShortPart at) = inr (λ e. cc)
-memory_or (BadLabel at) = inr (λ e. cc)
-memory_or (BadPointer at) = inr (λ e. cc)
-memory_or (LongName at) = inr (λ e. cc)
-memory_or (BadRdata at) = inr (λ e. cc)
-memory_or (TrailingBytes at) = inr (λ e. cc)
-memory_or NoMemory = inl refl

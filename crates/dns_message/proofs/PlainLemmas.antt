@@ -61,7 +61,3 @@ module _ (bytes : List ℕ) (at room : ℕ) (lt : at < length bytes) (some : roo
 pub names_more : (n left : ℕ) (bytes rest : List ℕ) → n ≡ left + 1 → behind_room 255 bytes ≡ Some rest → behind_names n bytes ≡ behind_names left rest
 names_more zero left bytes rest one e = absurd (omega arith)
 names_more (suc n) left bytes rest one e = let same : left ≡ n = omega arith in rw (same, e) refl
-
-pub names_none : (n : ℕ) (bytes : List ℕ) → 0 < n → behind_room 255 bytes ≡ None → behind_names n bytes ≡ None
-names_none zero bytes lt e = absurd (omega arith)
-names_none (suc n) bytes lt e = rw e refl

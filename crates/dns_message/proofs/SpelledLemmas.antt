@@ -21,7 +21,6 @@ use Rattle.dns_message.specs.Reading.{Gives, message_read}
 use Rattle.dns_message.specs.Grammar.{IsRun, root, label, pointer, SpellsName, SpellsAll, SpellsQuestion, SpellsNames, SpellsRdata, SpellsRecord, Spells}
 use Rattle.dns_message.proofs.SpellingLemmas.{name_length}
 use Rattle.dns_message.proofs.RdataGrammarLemmas.{names_after}
-use Rattle.dns_message.proofs.RunGrammarLemmas.{run_within_bytes}
 use Rattle.dns_message.proofs.GrammarLemmas.{message_is_spelled}
 
 run_has_labels : (bytes : List ℕ) (run p : ℕ) (labels : List (List ℕ)) (next : ℕ) → IsRun bytes run p labels next → AllByRecursion IsLabel labels
@@ -42,10 +41,6 @@ all_are Item P one p (x ∷ xs) next s = (one p x s.0 s.1, all_are Item P one s.
 -- how long a part is
 slice_length : (bytes : List ℕ) (p next : ℕ) → next ≤ length bytes → length (slice_range bytes p next) ≡ next - p
 slice_length bytes p next fits = omega (arith, length-take (next - p) (drop p bytes), length-drop p bytes)
-
-names_within : (bytes : List ℕ) (p : ℕ) (names : List (List (List ℕ))) (next : ℕ) → p ≤ length bytes → SpellsAll (SpellsName bytes) p names next → next ≤ length bytes
-names_within bytes p [] next lt s = omega (arith, s)
-names_within bytes p (labels ∷ names) next lt s = names_within bytes s.0 names next (run_within_bytes bytes p p labels s.0 s.1.run).1 s.2
 
 names_hold : (bytes : List ℕ) (p next : ℕ) (s : NamesShape) (rdata : List ℕ) → next ≤ length bytes → SpellsNames bytes p next s rdata → HoldsNames s rdata
 names_hold bytes p next s rdata fits x =

@@ -17,8 +17,8 @@ use Rattle.edns_opt.specs.declared.fault.EdnsFault.TheVariants as edns_fault
 use Rattle.edns_opt.specs.Options.{option_spelling, spelling, AreOptions}
 use Rattle.dns_message.specs.Numbers.{kind_opt}
 use Rattle.edns_opt.specs.Opt.{is_opt, opt_records, FitsOpt, FitsRecord, Says, IsOptOf, HasCause, opt_record, message_with}
-use Rattle.edns_opt.specs.Reading.{options_in, options_of, opt_with, said_by, said_once, opt_of, EndsWith}
-use Rattle.edns_opt.proofs.OptionsLemmas.{spelling_more, options_again, stop_again, Holds, options_hold}
+use Rattle.edns_opt.specs.Reading.{options_in, opt_with, said_by, said_once, opt_of, EndsWith}
+use Rattle.edns_opt.proofs.OptionsLemmas.{options_again, stop_again, Holds, options_hold}
 
 -- what passes at an index is one more than what passes before it
 filter_here : {X : Type 0} (p : X → Bool) (xs : List X) (i : ℕ) (x : X) → i < length xs → x ≡ get_or xs i x → p x ≡ true → length (filter p (take i xs)) < length (filter p xs)
@@ -43,10 +43,6 @@ spelling_here items i item within here =
     let split : spelling items ≡ spelling (take i items) ++ spelling (drop i items) = ap spelling (sym (take-append-drop i items)) ∙ flat_map-append option_spelling (take i items) (drop i items) in
     let rest : spelling (drop i items) ≡ option_spelling item ++ spelling (drop (suc i) items) = rw (drop-cons items i item, ← here) refl in
     omega (arith, ap length split, length-append (spelling (take i items)) (spelling (drop i items)), ap length rest, length-append item.content (spelling (drop (suc i) items)))
-
--- the same counted up to the next option
-pub length_spelling_more : (items : List EdnsItem) (i : ℕ) (item : EdnsItem) → i < length items → item ≡ get_or items i item → length (spelling (take (i + 1) items)) ≡ length (spelling (take i items)) + 4 + length item.content
-length_spelling_more items i item within here = omega (arith, ap length (spelling_more items i item within here), length-append (spelling (take i items)) (option_spelling item))
 
 -- the bit DO is the highest bit of its byte
 pub do_in_byte : (ttl : ℕ) → leb 128 (ttl / 256 % 256) ≡ eqb (ttl / 32768 % 2) 1
@@ -74,16 +70,6 @@ says rr items class_fits ttl_fits are = record {
   ttl = ttl_parts rr.ttl;
   options = are.parts;
 }
-
--- what is computed of a record whose options were read
-pub said_from : (rr : Record) (bytes : List ℕ) (items : List EdnsItem) → bytes ≡ rr.rdata → options_of bytes ≡ Ok items → said_by rr ≡ Ok (opt_with rr.class rr.ttl items)
-said_from rr bytes items same read = ap (result_map_both (opt_with rr.class rr.ttl) (λ (e : EdnsFault). e)) (ap options_of (sym same) ∙ read)
-
--- the fault of a part is the fault of the whole
-pub fault_goes_on : {X Y : Type 0} (f : X → Y) (fault : EdnsFault) (read : Result X EdnsFault) → EndsWith fault read → EndsWith fault (result_map_both f (λ (e : EdnsFault). e) read)
-fault_goes_on f edns_fault.DoubleOpt read ends = ap (result_map_both f (λ (e : EdnsFault). e)) ends
-fault_goes_on f (edns_fault.BadOptions offset) read ends = ap (result_map_both f (λ (e : EdnsFault). e)) ends
-fault_goes_on f edns_fault.NoMemory read ends = tt
 
 -- two records or more are a fault
 pub double_again : (rrs : List Record) → 1 < length rrs → said_once rrs ≡ Err edns_fault.DoubleOpt

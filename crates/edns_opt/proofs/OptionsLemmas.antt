@@ -91,18 +91,6 @@ read_more bytes rest behind items item fits far first =
 pub read_all : (bytes rest : List ℕ) (items : List EdnsItem) → Read bytes rest items → rest ≡ [] → AreOptions bytes items
 read_all bytes rest items far end = record { each = far.each; parts = far.parts ∙ ap (λ (x : List ℕ). spelling items ++ x) end ∙ append-nil (spelling items) }
 
--- where no option can be read, and it isn't the end
-pub read_stops : (bytes rest : List ℕ) (items : List EdnsItem) → Read bytes rest items → rest ≢ [] → first_option rest ≡ None → StopsFitting bytes (length bytes - length rest)
-read_stops bytes rest items far more none = record {
-  items = items;
-  rest = rest;
-  each = far.each;
-  parts = far.parts;
-  here = omega (arith, ap length far.parts, length-append (spelling items) rest);
-  more = more;
-  none = first_none rest none;
-}
-
 -- what is spelled is read again
 pub spelled_again : (items : List EdnsItem) (steps : ℕ) → AllByRecursion FitsOption items → length (spelling items) ≤ steps → options_in steps (spelling items) ≡ Ok items
 spelled_again [] zero each enough = refl

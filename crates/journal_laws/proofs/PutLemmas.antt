@@ -47,10 +47,3 @@ module _ (status : ℕ) (before after : OutputTold) (has_put : HasPut status) wh
   pub whole_put : (text : Text) (at : Option Text) (end : Exit) → (IsPageEnd end → at ≡ Some text) → PutsText at end status before after → IsWhole text before after
   whole_put text None end page nothing = absurd (greater status (omega (arith, nothing.0)) has_put)
   whole_put text (Some put) end page told = some_put text put end page told
-
-  -- and the end was none without a page
-  pub ended_with_page : (at : Option Text) (end : Exit) → PutsText at end status before after → IsPageEnd end
-  ended_with_page None end nothing = absurd (greater status (omega (arith, nothing.0)) has_put)
-  ended_with_page (Some put) end (inl done) = page_end end (subst HasPut done.0 has_put)
-  ended_with_page (Some put) end (inr (inl failed)) = absurd (greater status (omega (arith, failed.0)) has_put)
-  ended_with_page (Some put) end (inr (inr wanting)) = absurd (greater status (omega (arith, wanting.0)) has_put)

@@ -27,8 +27,5 @@ module _ (item : ℕ → Result (List ℕ × ℕ) MessageFault) (count i p : ℕ
       let k : count - i ≡ suc (count - (i + 1)) = omega arith in
       rw (k, e) (end_behind added (joined_of item (count - (i + 1)) next))
 
-  pub ends_stop : (fault : MessageFault) → i < count → item p ≡ Err fault → end_of (joined_of item (count - i) p) ≡ Err fault
-  ends_stop fault lt e = let k : count - i ≡ suc (count - (i + 1)) = omega arith in rw (k, e) refl
-
   pub ends_last : count ≤ i → end_of (joined_of item (count - i) p) ≡ Ok p
   ends_last past = let k : count - i ≡ 0 = omega arith in rw k refl

@@ -2,11 +2,9 @@
 use Rattle.std.proofs.Common.{◌≡◌, ℕ, zero, suc, ◌<◌, ◌≤◌, Bool, true, false, cond, ltb, List, [], ◌∷◌, length, take, drop, Option, Some, None, Result, Ok, Err, refl, sym, ap, ◌∙◌, arith}
 use Rattle.std.specs.Prelude.{is_ok, option_map}
 use Rattle.std.specs.Int.{w16, from_be_bytes}
-use Rattle.std.specs.Result.{result_map_both}
 use Rattle.std.proofs.lemmas.List.{length-drop}
 use Rattle.edns_opt.specs.declared.opt.EdnsItem.{EdnsItem}
-use Rattle.edns_opt.specs.declared.fault.EdnsFault.TheVariants.{BadOptions}
-use Rattle.edns_opt.specs.Reading.{first_option, followed_by, options_in, options_of, then_read}
+use Rattle.edns_opt.specs.Reading.{first_option, followed_by, options_in, then_read}
 
 -- the bytes are options, in so many steps at most
 abbrev pub reads_in : ℕ → List ℕ → Bool
@@ -15,12 +13,6 @@ reads_in steps bytes = is_ok (options_in steps bytes)
 -- the bytes are options
 abbrev pub are_read : List ℕ → Bool
 are_read bytes = reads_in (length bytes) bytes
-
-pub options_read : (bytes : List ℕ) → is_ok (options_of bytes) ≡ are_read bytes
-options_read bytes = by_read (options_in (length bytes) bytes) where
-  by_read : (read : Result (List EdnsItem) ℕ) → is_ok (result_map_both (λ (x : List EdnsItem). x) BadOptions read) ≡ is_ok read
-  by_read (Ok items) = refl
-  by_read (Err offset) = refl
 
 -- an option in front doesn't change whether the others can be read
 followed : (item : EdnsItem) (read : Result (List EdnsItem) ℕ) → is_ok (followed_by item read) ≡ is_ok read
@@ -70,13 +62,3 @@ read_behind bytes rest e = by_first (first_option bytes) refl e where
   by_first : (first : Option (EdnsItem × List ℕ)) → first_option bytes ≡ first → Some rest ≡ option_map (λ first. first.1) first → are_read bytes ≡ are_read rest
   by_first None is same = absurd cc
   by_first (Some first) is same = let behind : first.1 ≡ rest = cc in read_on bytes first.0 first.1 is ∙ ap are_read behind
-
--- where no option stands, and it isn't the end, the bytes aren't options
-pub read_none : (bytes : List ℕ) → 0 < length bytes → first_option bytes ≡ None → are_read bytes ≡ false
-read_none [] some e = absurd (omega arith)
-read_none (x ∷ bytes) some e = ap (λ first. is_ok (then_read (options_in (length bytes)) first)) e
-
--- at the end they were
-pub read_end : (bytes : List ℕ) → length bytes ≡ 0 → are_read bytes ≡ true
-read_end [] none = refl
-read_end (x ∷ bytes) none = absurd (omega arith)

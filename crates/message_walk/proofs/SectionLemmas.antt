@@ -1,5 +1,5 @@
 -- What the records of a section say, record by record.
-use Rattle.std.proofs.Common.{◌≡◌, ◌≢◌, ℕ, suc, ◌+◌, ◌-◌, ◌/◌, ◌^◌, ◌<◌, ◌≤◌, ◌==◌, Bool, true, false, cond, List, [], ◌∷◌, filter, Option, Some, Result, Ok, Err, refl, sym, ap, ◌∙◌, arith}
+use Rattle.std.proofs.Common.{◌≡◌, ◌≢◌, ℕ, suc, ◌+◌, ◌-◌, ◌/◌, ◌^◌, ◌<◌, ◌==◌, Bool, true, false, cond, List, [], ◌∷◌, filter, Option, Some, Result, Ok, Err, refl, sym, ap, ◌∙◌, arith}
 use Rattle.std.specs.Prelude.{◌||◌, is_ok, slice_range}
 use Rattle.std.specs.List.{list_any}
 use Rattle.std.specs.Result.{result_map_both}
@@ -108,9 +108,6 @@ pair_is {A} {B} x y e = let same : x ≡ y = cc in (ap (λ (pair : A × B). pair
 abbrev pub nothing : Section
 nothing = record { wanted = false; opt = Absent }
 
-together_none : (section : Section) → together section nothing ≡ section
-together_none section = made _ _ _ _ (or_none section.wanted) (both_none section.opt)
-
 together_assoc : (a b c : Section) → together (together a b) c ≡ together a (together b c)
 together_assoc a b c = made _ _ _ _ (or_assoc a.wanted b.wanted c.wanted) (both_assoc a.opt b.opt c.opt)
 
@@ -136,21 +133,3 @@ module _ (wanted : Option ℕ) (item : ℕ → Result (Record × ℕ) MessageFau
   after_more rr next lt e =
       let k : count - i ≡ suc (count - (i + 1)) = omega arith in
       rw (k, e) (after_one wanted section rr (items_of item (count - (i + 1)) next))
-
-  pub after_stop : (fault : MessageFault) → i < count → item p ≡ Err fault → after wanted section (items_of item (count - i) p) ≡ Err fault
-  after_stop fault lt e = let k : count - i ≡ suc (count - (i + 1)) = omega arith in rw (k, e) refl
-
-  pub after_end : count ≤ i → after wanted section (items_of item (count - i) p) ≡ Ok (section, p)
-  after_end past = let k : count - i ≡ 0 = omega arith in rw k (ap (λ (told : Section). Ok (told, p)) (together_none section))
-
--- what was told of all records
-pub after_all : (wanted : Option ℕ) (read : Result (List Record × ℕ) MessageFault) (section : Section) (next : ℕ) → after wanted nothing read ≡ Ok (section, next)
-    → (records : List Record) × (read ≡ Ok (records, next)) × (section ≡ section_of wanted records)
-after_all wanted (Ok found) section next e =
-    let both = pair_is (section_of wanted found.0, found.1) (section, next) e in
-    (found.0, ap (λ (end : ℕ). Ok (found.0, end)) both.1, sym both.0)
-after_all wanted (Err fault) section next e = absurd cc
-
-pub after_fault : (wanted : Option ℕ) (read : Result (List Record × ℕ) MessageFault) (fault : MessageFault) → after wanted nothing read ≡ Err fault → read ≡ Err fault
-after_fault wanted (Ok found) fault e = absurd cc
-after_fault wanted (Err other) fault e = let is : other ≡ fault = cc in ap (λ (d : MessageFault). Err d) is

@@ -26,7 +26,7 @@ use Rattle.message_walk.specs.Matching as walk
 use Rattle.message_walk.specs.Outlines.{outline_of, outlined}
 use Rattle.message_walk.specs.Sections.{is_wanted, opt_told}
 use Rattle.resolv_options.specs.declared.flags.Flags.{Flags}
-use Rattle.query_machine.specs.Replies.{may_answer, outline_seen, verdict_by}
+use Rattle.query_machine.specs.Replies.{may_answer, verdict_by}
 
 -- what says whether names are equal is the test of it
 pub equal_is : (r : Bool) (name other : Name) → (IsTrue r ↔ (name ≡ other)) → r ≡ equal_name name other
@@ -124,13 +124,3 @@ module _ (id : ℕ) (exact : Bool) (asked : Question) (flags : Flags) (tcp edns 
       by_read : (read : Result Message MessageFault) → message_read bytes ≡ read → option_map (verdict_by flags tcp edns (big_from 2 2 bytes)) (outline_of exact asked wanted (message_read bytes)) ≡ by_reply (answer_to id exact (Some asked) bytes)
       by_read (Ok m) is = rw (is, same_asks exact asked m.questions, same_answers wanted m.answers) (by_opt m (opt_of m) (message_is_spelled bytes m is))
       by_read (Err fault) is = rw is refl
-
--- a reply read whole means what its outline does
-pub whole_means : (flags : Flags) (tcp edns : Bool) (wanted : Option ℕ) (reply : Reply)
-    → verdict_by flags tcp edns reply.message.flags (outline_seen wanted reply) ≡ verdict_of flags tcp edns wanted reply
-whole_means flags tcp edns wanted reply = by_opt reply.message reply.opt
-  where
-    by_opt : (m : Message) (opt : Option Opt)
-        → verdict_by flags tcp edns m.flags (outline_seen wanted (record { message = m; opt = opt })) ≡ verdict_of flags tcp edns wanted (record { message = m; opt = opt })
-    by_opt m None = refl
-    by_opt m (Some opt) = refl

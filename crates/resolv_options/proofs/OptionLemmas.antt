@@ -5,7 +5,6 @@ use Rattle.std.specs.List.{cons_option, list_any}
 use Rattle.std.proofs.lemmas.List.{map_more}
 use Rattle.std.proofs.lemmas.List.Elements.{filter_map-append}
 use Rattle.std.proofs.lemmas.List.Folds.{list_any-append}
-use Rattle.std.proofs.lemmas.List.Sums.{fold_push}
 use denote.Ref.{Bor}
 use Rattle.net_addr.specs.Reading as reading
 use Rattle.resolv_options.specs.Values.{OptionValues}
@@ -59,12 +58,3 @@ option_more options words i d lt =
 -- a number that is cut at each digit is cut at the end
 cut_more : (most n d : ℕ) → min (min most n * 10 + d) most ≡ min most (n * 10 + d)
 cut_more most n d = omega arith
-
--- one digit more
-pub digit_more : (most : ℕ) (digits : List ℕ) (i d : ℕ) → i < length digits
-    → min (min most (reading.number_of 10 (map (λ digit. digit - 48) (take i digits))) * 10 + (get_or digits i d - 48)) most
-    ≡ min most (reading.number_of 10 (map (λ digit. digit - 48) (take (i + 1) digits)))
-digit_more most digits i d lt =
-    let value : ℕ = reading.number_of 10 (map (λ digit. digit - 48) (take i digits)) in
-    rw (map_more (λ (digit : ℕ). digit - 48) digits i d lt, fold_push (λ number digit. number * 10 + digit) 0 (map (λ digit. digit - 48) (take i digits)) (get_or digits i d - 48))
-    (cut_more most (reading.number_of 10 (map (λ digit. digit - 48) (take i digits))) (get_or digits i d - 48))

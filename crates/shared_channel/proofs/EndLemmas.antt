@@ -19,7 +19,7 @@ use Rattle.hosts_file.specs.declared.hosts.Hosts.{Hosts}
 use Rattle.resolv_options.specs.declared.options.Options.{Options}
 use Rattle.seat_lock.specs.History.{HasAll, IsAccounted, IsWholeHistory, SeatView}
 use Rattle.seat_lock.specs.declared.view.Left.{Left}
-use Rattle.shared_channel.specs.Finishing.{AnswersAll, AreAllPasses, EmptiesChannel, Finishes, HasSeenOwn, IsAlone, IsFirstOfAll, IsJoined, IsJournalOfAll, IsNumberOfOne, IsOneOf, LeavesNothing, Share, TellsBehind, behind_first, share_left, share_of}
+use Rattle.shared_channel.specs.Finishing.{AnswersAll, AreAllPasses, EmptiesChannel, Finishes, HasSeenOwn, IsFirstOfAll, IsJoined, IsJournalOfAll, IsNumberOfOne, IsOneOf, LeavesNothing, Share, TellsBehind, behind_first, share_left, share_of}
 use Rattle.shared_channel.specs.Passes.{PassView, pass_of}
 use Rattle.shared_channel.specs.Settling.{AreSettled, IsFateSeen, IsSeenByOne, taken_in, taken_through, told_through}
 use Rattle.shared_channel.specs.declared.finishing.Finished.{Finished}
@@ -229,7 +229,3 @@ module _ (orders : Orders) (lock : TableId) (passes : List PassView) (all last :
             accepted_are = accepts ∙ ap (λ l. length (accepted (past_of l))) (sym journal);
             answers = subst (λ l. AnswersAll all.setting l finished.accepted finished.calls) (sym journal) (subst (AnswersAll all.setting log finished.accepted) (sym calls_are) (answered finished.accepted accepts));
           }
-
--- the passes of a channel are alone at its lock
-pub all_alone : (lock : TableId) (passes : List PassView) → AreAllPasses lock passes → AllByRecursion (IsAlone lock) passes
-all_alone lock passes are = each_of (IsOneOf lock are.setting (length passes)) (IsAlone lock) passes (λ p one. (one.lock_is, one.alone)) are.each

@@ -205,6 +205,3 @@ none_delivered orders pass = record { called = []; some = refl }
 
 pub one_delivered : (orders : Orders) (called : CalledState) (old middle new : PassView) → HasDelivered orders old middle → DeliversOne orders middle (Some called) new → HasDelivered orders old new
 one_delivered orders called old middle new has one = record { called = has.called ++ called ∷ []; some = delivers_more orders has.called called old middle new has.some one }
-
-pub all_delivered : (orders : Orders) (old middle new : PassView) → HasDelivered orders old middle → DeliversOne orders middle None new → DeliversAll orders old new
-all_delivered orders old middle new has none = record { called = has.called; middle = middle; some = has.some; none = none }

@@ -4,56 +4,19 @@ use Rattle.std.proofs.lemmas.List.{append-nil}
 use Rattle.std.proofs.lemmas.List.Concat.{flat_map-cons}
 use Rattle.std.proofs.lemmas.List.Sums.{sum_by-cons}
 use Rattle.std.specs.List.{AllByRecursion}
-use Rattle.std.specs.Prelude.{IsSome, min, sum_by}
+use Rattle.std.specs.Prelude.{min, sum_by}
 use mathlib.Core.List.{IsPrefix}
 use Rattle.atomic_table.specs.Seated.{TableId}
-use Rattle.chan_types.specs.declared.answer.Answer.{Answer}
-use Rattle.chan_types.specs.declared.journal.Entry.{Entry}
 use Rattle.hosts_file.specs.declared.hosts.Hosts.{Hosts}
 use Rattle.resolv_options.specs.declared.options.Options.{Options}
-use Rattle.seat_lock.specs.History.{IsJoin, SeatView}
 use Rattle.shared_channel.specs.Finishing.{HasSeenOwn, IsAlone, IsJoined, JoinsPass, left_by_pass, share_left, share_of}
-use Rattle.shared_channel.specs.Passes.{PassView, pass_of, the}
-use Rattle.shared_channel.specs.Under.{setting_by}
-use Rattle.shared_channel.proofs.Telling.{the_same}
+use Rattle.shared_channel.specs.Passes.{PassView, the}
 
 abbrev Both : Type 0
 Both = Options × Hosts
 
 pub prefix_trans : {A : Type 0} (xs ys zs : List A) → IsPrefix xs ys → IsPrefix ys zs → IsPrefix xs zs
 prefix_trans xs ys zs p q = (p.0 ++ q.0, sym (append_assoc xs p.0 q.0) ∙ (ap (λ l. l ++ q.0) p.1 ∙ q.1))
-
--- a join of seats joins the passes that have them
-pub joins_pass : (left right now : SeatView Entry Both) (p : IsSome left.setting) (q : IsSome right.setting) (r : IsSome now.setting) (calls more : List Answer) (lost further : ℕ) → IsJoin left right now
-    → JoinsPass (pass_of left p calls lost) (pass_of right q more further) (pass_of now r (calls ++ more) (min (lost + further) (2 ^ 64 - 1)))
-joins_pass left right now p q r calls more lost further join =
-    let same : the now.setting r ≡ the left.setting p = the_same left.setting now.setting p r (ap (λ k. k.setting) join.rest) in
-    record {
-      seen_left = join.seen_left;
-      seen_right = join.seen_right;
-      joined = join.joined;
-      calls = refl;
-      lost = refl;
-      rest = λ i. record {
-        lock = (join.rest i).lock;
-        seats = (join.rest i).seats;
-        number = (join.rest i).number;
-        setting = setting_by (same i);
-        own = (join.rest i).own;
-        seen = now.seen;
-        joined = now.joined;
-        calls = calls ++ more;
-        lost = min (lost + further) (2 ^ 64 - 1);
-      };
-    }
-
--- the same, where the passes and what they told and lost are named
-pub joined_accounts : (left right now : SeatView Entry Both) (p : IsSome left.setting) (q : IsSome right.setting) (r : IsSome now.setting) (calls more calls_now : List Answer) (lost further lost_now : ℕ) (l k : PassView) → pass_of left p calls lost ≡ l → pass_of right q more further ≡ k
-    → calls_now ≡ calls ++ more → lost_now ≡ min (lost + further) (2 ^ 64 - 1) → IsJoin left right now → JoinsPass l k (pass_of now r calls_now lost_now)
-joined_accounts left right now p q r calls more calls_now lost further lost_now l k left_is right_is calls_is lost_is join =
-    subst (λ (x : PassView). JoinsPass x k (pass_of now r calls_now lost_now)) left_is (subst (λ (y : PassView). JoinsPass (pass_of left p calls lost) y (pass_of now r calls_now lost_now)) right_is
-    (subst (λ (cs : List Answer). JoinsPass (pass_of left p calls lost) (pass_of right q more further) (pass_of now r cs lost_now)) (sym calls_is)
-    (subst (λ (n : ℕ). JoinsPass (pass_of left p calls lost) (pass_of right q more further) (pass_of now r (calls ++ more) n)) (sym lost_is) (joins_pass left right now p q r calls more lost further join))))
 
 -- one pass alone
 pub joined_one : (lock : TableId) (pass : PassView) → pass.lost < 2 ^ 64 → HasSeenOwn pass → IsAlone lock pass → IsJoined (pass ∷ []) pass
@@ -113,9 +76,6 @@ joins_go_on lock passes left front next all now is has own joins =
       lock_is = ap (λ p. p.lock) joins.rest ∙ parts.1.0;
       alone = parts.0;
     }
-
-pub joins_end : (lock : TableId) (passes : List PassView) (all : PassView) → HasJoined lock passes [] all → IsJoined passes all
-joins_end lock passes all has = subst (λ ps. IsJoined ps all) (sym has.parts) has.joined
 
 -- the next pass of a row that is left is at the lock
 pub next_at : (lock : TableId) (left front : List PassView) (next : PassView) → left ≡ front ++ next ∷ [] → AllByRecursion (IsAlone lock) left → next.lock ≡ lock

@@ -5,7 +5,3 @@ use Rattle.std.proofs.lemmas.List.{length-take, take_all}
 -- a part that is shorter than it might be is the whole list
 pub take_short : (limit : ℕ) (xs : List ℕ) → length (take limit xs) < limit → take limit xs ≡ xs
 take_short limit xs short = take_all limit xs (omega (arith, length-take limit xs, short))
-
--- a part isn't longer than the list
-pub take_long : (limit most : ℕ) (xs : List ℕ) → most < length (take limit xs) → most < length xs
-take_long limit most xs long = omega (arith, length-take limit xs, long)

@@ -15,7 +15,7 @@ use Rattle.test_nameserver.specs.Order.{AreRefused, ForWords, Order, Orders, ord
 use Rattle.test_nameserver.specs.declared.order.Ordered.{Ordered}
 use Rattle.test_nameserver.specs.Service.{GoesOnWith, IsServiceOf, ReadsZone}
 use Rattle.test_nameserver.proofs.TurnLemmas.{logs_as}
-use Rattle.test_nameserver.specs.Turns.{HasCauseOf, Opens, Serves}
+use Rattle.test_nameserver.specs.Turns.{HasCauseOf, Opens}
 
 -- ---- the exit status
 
@@ -197,31 +197,7 @@ end_refused words files files_old files_new sink_old sink_new net_old net_new re
 
 -- ---- calls
 
--- an end behind a zone isn't one without
-served_zone : (end : End) → (end ≡ Served) ⊎ (end ≡ SocketFault) ⊎ (end ≡ NoMemory) → (number_of end ≡ status_file_fault) ⊎ (number_of end ≡ status_bad_zone) → ⊥
-served_zone end (inl a) (inl n) = omega (arith, sym (ap number_of a) ∙ n)
-served_zone end (inl a) (inr n) = omega (arith, sym (ap number_of a) ∙ n)
-served_zone end (inr (inl a)) (inl n) = omega (arith, sym (ap number_of a) ∙ n)
-served_zone end (inr (inl a)) (inr n) = omega (arith, sym (ap number_of a) ∙ n)
-served_zone end (inr (inr a)) (inl n) = omega (arith, sym (ap number_of a) ∙ n)
-served_zone end (inr (inr a)) (inr n) = omega (arith, sym (ap number_of a) ∙ n)
-
 module _ (files : Option (List ℕ → Option (List ℕ))) (order : Order) where
-  -- what serves a zone of the file is a run of the order
-  pub service_of : (zone : List Record) (end : End) (calls : List ListenerCall) → ReadsZone files order.path zone → Serves zone order.port order.count end calls → IsServiceOf files order (number_of end) calls
-  service_of zone end calls reads serves = record {
-    zone = zone;
-    reads = λ some. reads;
-    listens = serves.listens;
-    exchanges = serves.exchanges;
-    part = serves.part;
-    few = serves.few;
-    ends = serves.ends;
-    whole = λ is. serves.whole (is_served end is);
-    fault = λ is. serves.fault (is_socket_fault end is);
-    unserved = λ is. absurd (served_zone end serves.known is);
-  }
-
   -- a run without a zone calls nothing
   pub service_none : (end : End) (old new : ℕ) → Opens files order.path old new (Err end) → IsServiceOf files order (number_of end) []
   service_none end old new opens = record {

@@ -9,9 +9,9 @@ use Rattle.dns_message.specs.declared.message.Record.{Record}
 use Rattle.test_nameserver.specs.declared.query.Query.{Query}
 use Rattle.net_world.specs.declared.log.WorldCall.{WorldCall}
 use Rattle.test_nameserver.specs.Reply.{reply_bytes}
-use Rattle.test_nameserver.specs.Peer.{PeerState, link_reply, messages_in, question_key, noted, is_lost, heard_datagram}
+use Rattle.test_nameserver.specs.Peer.{PeerState, link_reply, question_key, noted, is_lost, heard_datagram}
 use Rattle.test_nameserver.specs.Query.{asked_by}
-use Rattle.test_nameserver.specs.PeerCalls.{Sends, WritesAll, carried, has_number, logged, written}
+use Rattle.test_nameserver.specs.PeerCalls.{Sends, WritesAll, has_number, logged, written}
 use Rattle.test_nameserver.specs.declared.links.OpenLink.{OpenLink}
 use Rattle.net_world.specs.declared.answers.Sent.TheVariants.{Sent as WasSent}
 use Rattle.net_world.specs.declared.log.WorldCall.TheVariants.{Send, Write}
@@ -96,9 +96,3 @@ written_aside link bytes None old call log is none is_call is_log = record {
       ∙ ap (λ (found : Option OpenLink). logged (Write link bytes (Count (length bytes))) (written link bytes found old)) is;
 }
 written_aside link bytes (Some found) old call log is none is_call is_log = absurd (cc none)
-
--- bytes that are written to a link that is open are carried with those that were unread
-pub carried_so : (link : ℕ) (bytes unread : List ℕ) (found : Option OpenLink) (old : PeerState) → option_map (λ open_link. open_link.unread ++ bytes) found ≡ Some unread
-    → written link bytes found old ≡ carried link old (messages_in unread)
-carried_so link bytes unread None old is = absurd (cc is)
-carried_so link bytes unread (Some open_link) old is = let same : open_link.unread ++ bytes ≡ unread = cc in ap (λ (all : List ℕ). carried link old (messages_in all)) same

@@ -107,10 +107,6 @@ turn_failed zone calls is = ((record { heard = NotHeard; sent = WasSent }, is), 
 pub turn_cut : (zone : List Record) (e : Wanting) → AreTurn zone (Err e) []
 turn_cut zone e = ((record { heard = NotHeard; sent = WasSent }, (_, refl)), tt)
 
--- no turn yet
-pub no_turns : (zone : List Record) → AreTurns zone 0 []
-no_turns zone = record { exchanges = []; all = refl; many = refl; good = tt }
-
 -- one turn more
 pub one_more : (zone : List Record) (count : ℕ) (x y : List ListenerCall) → AreTurns zone count x → AreTurn zone (Ok WasSent) y → AreTurns zone (count + 1) (x ++ y)
 one_more zone count x y turns turn = record {
@@ -213,16 +209,3 @@ serves_none zone port count calls is = rw is (record {
   fault = λ is. one_failed (Listen port NotSent) refl;
   known = inr (inl refl);
 })
-
--- memory was wanting before it listened
-pub serves_cut : (zone : List Record) (port count : ℕ) → Serves zone port count NoMemory []
-serves_cut zone port count = record {
-  listens = WasSent;
-  exchanges = [];
-  part = (_, refl);
-  few = omega arith;
-  ends = inl tt;
-  whole = λ is. absurd (cc);
-  fault = λ is. absurd (cc);
-  known = inr (inr refl);
-}

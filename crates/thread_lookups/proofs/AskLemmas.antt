@@ -1,6 +1,6 @@
 -- What entries do on nobody's command, and what a thread that asks does to its pass.
-use Rattle.std.proofs.Common.{◌≡◌, ◌∙◌, ◌≢◌, ◌==◌, ℕ, Bool, true, false, List, [], ◌∷◌, ◌++◌, Some, None, Ok, cond, map, refl, ap, sym, append_assoc, ne_eqb}
-use Rattle.std.proofs.lemmas.List.{append-nil, map-append}
+use Rattle.std.proofs.Common.{◌≡◌, ◌∙◌, ◌≢◌, ◌==◌, ℕ, Bool, true, false, List, [], ◌∷◌, ◌++◌, Some, None, Ok, cond, map, refl, ap, ne_eqb}
+use Rattle.std.proofs.lemmas.List.{append-nil}
 use Rattle.std.proofs.lemmas.List.Elements.{filter_map-append}
 use Rattle.std.specs.List.{AllByRecursion}
 use Rattle.chan_types.specs.Plans.{blank}
@@ -12,8 +12,8 @@ use Rattle.channel_model.specs.Seen.{entries_of}
 use Rattle.completion_ticket.specs.States.{CallbackState}
 use Rattle.shared_channel.specs.Passes.{PassView, desk_of}
 use Rattle.shared_channel.specs.Under.{plan_of}
-use Rattle.shared_channel.proofs.Theorems.{stays_accept, stays_more, stays_none}
-use Rattle.thread_lookups.specs.Asking.{asking, free_use, quiet_ask, use_by, uses_in}
+use Rattle.shared_channel.proofs.Theorems.{stays_accept}
+use Rattle.thread_lookups.specs.Asking.{asking, free_use, use_by, uses_in}
 use Rattle.thread_lookups.specs.Passing.{AsksEach}
 
 -- an entry whose event is no use of the channel, and one on a request's command
@@ -35,22 +35,6 @@ none_used (e ∷ es) each = rw each.0 (none_used es each.1)
 -- more entries, of which none is one
 pub uses_kept : (old new more : List Entry) → new ≡ old ++ more → uses_in more ≡ [] → uses_in new ≡ uses_in old
 uses_kept old new more is none = ap uses_in is ∙ filter_map-append free_use old more ∙ ap (λ uses. uses_in old ++ uses) none ∙ append-nil (uses_in old)
-
--- a pass that asked nothing
-pub asks_each_none : (pass : PassView) → AsksEach [] pass pass
-asks_each_none pass = record { entries = []; makes = record { stays = stays_none pass; own = sym (append-nil pass.own) }; asked = refl }
-
--- one that asked more
-pub asks_each_more : (specs more : List Spec) (a b c : PassView) → AsksEach specs a b → AsksEach more b c → AsksEach (specs ++ more) a c
-asks_each_more specs more a b c one two = record {
-  entries = one.entries ++ two.entries;
-  makes = record {
-    stays = stays_more a b c one.makes.stays two.makes.stays;
-    own = two.makes.own ∙ ap (λ es. es ++ two.entries) one.makes.own ∙ append_assoc a.own one.entries two.entries;
-  };
-  asked = map-append free_use one.entries two.entries ∙ ap (λ asks. asks ++ map free_use two.entries) one.asked
-      ∙ ap (λ asks. map (λ spec. Some (quiet_ask spec)) specs ++ asks) two.asked ∙ sym (map-append (λ spec. Some (quiet_ask spec)) specs more);
-}
 
 -- a request that was accepted
 pub asks_accepted : (spec : Spec) (token : CallbackState) (number : ℕ) (old new : PassView) → plan_of token ≡ blank 0 → Calls (Accepts plan_of spec token (Ok number)) 0 (desk_of old) (desk_of new) → AsksEach (spec ∷ []) old new

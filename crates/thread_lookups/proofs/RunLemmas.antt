@@ -20,8 +20,6 @@ use Rattle.channel_model.specs.Seen.{entries_of}
 use Rattle.channel_model.specs.Setting.{Setting}
 use Rattle.channel_model.specs.Turn.{parts_of_entry}
 use Rattle.channel_model.specs.declared.answers.Counts.{Counts}
-use Rattle.channel_session.proofs.LeftLemmas.{left_nothing}
-use Rattle.channel_session.specs.Left.{IsOver}
 use Rattle.channel_table.specs.Commanded.{IsOfCommand}
 use Rattle.completion_ticket.specs.States.{CallbackState, CalledState}
 use Rattle.event_runner.specs.Goes.{AreMadeInTurns, Break, Ends, Stretch, is_made_in_turn}
@@ -106,10 +104,6 @@ counts_ask counts old new call = record {
   stays = stays_counts counts old new call;
   uses = uses_kept old.own new.own (entries_of old.number 0 call.added) call.own (ap (λ added. uses_in (entries_of old.number 0 added)) call.meant.nothing);
 }
-
--- where they are 0 nothing is left
-pub counts_over : (counts : Counts) (old new : PassView) → Calls (TellsCounts counts) 0 (desk_of old) (desk_of new) → counts.pending ≡ 0 → counts.ready ≡ 0 → IsOver (desk_of new)
-counts_over counts old new call none_pending none_ready = (left_nothing counts (desk_of old) (desk_of new) call none_pending none_ready).is_left
 
 -- no request has the number 0
 zero_above : (from count : ℕ) → 0 < from → occurrences 0 (range_with_len from count) ≡ 0

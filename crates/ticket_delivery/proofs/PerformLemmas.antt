@@ -325,6 +325,3 @@ next_performed all rest behind command by old middle new m n is has same one = r
   same = record { setting = same.setting ∙ has.same.setting; home = same.home ∙ has.same.home; seat = same.seat ∙ has.same.seat; voice = same.voice ∙ has.same.voice };
   performed = performs_more has.done (command ∷ []) by old middle new m n has.performed one;
 }
-
-pub all_performed : (all rest : List Command) (by : ℕ) (old new : Known) (count : ℕ) → rest ≡ [] → HasPerformed all rest by old new count → Performs all by old new count
-all_performed all rest by old new count none has = subst (λ cs. Performs cs by old new count) (sym (has.parts ∙ ap (λ cs. has.done ++ cs) none ∙ append-nil has.done)) has.performed

@@ -1,6 +1,6 @@
 -- How many of the words in front may stand.
-use Rattle.std.proofs.Common.{◌≡◌, ◌∙◌, ◌+◌, ◌<◌, ◌≤◌, ◌-◌, Bool, List, false, length, ltb-false, ltb-true, map, refl, subst, sym, take, true, inl, inr, ap, arith, ℕ}
-use Rattle.std.specs.Prelude.{Err, IfOk, MatchBool, Ok, Result, nat_lt}
+use Rattle.std.proofs.Common.{◌≡◌, ◌∙◌, ◌<◌, ◌≤◌, ◌-◌, Bool, List, length, map, refl, subst, sym, take, inl, inr, ap, arith, ℕ}
+use Rattle.std.specs.Prelude.{Err, IfOk, MatchBool, Ok, Result}
 use Rattle.std.proofs.lemmas.List.{length-map, take-map}
 use Rattle.item_list.specs.declared.no_memory.NoMemory.{NoMemory}
 use Rattle.tool_help.specs.Taken.{IsTakenBy, MayStand, Stands}
@@ -25,23 +25,6 @@ pub record StandsAtMost (tool : Tool) {W : Type 0} (text : W → Text) (words : 
   pub no_more : (more : ℕ) → count < more → more ≤ length words → MayStand tool (map text (take more words)) → ⊥
 
 module _ (tool : Tool) {W : Type 0} (text : W → Text) (words : List W) where
-  -- not more than all
-  pub all_at_most : (count : ℕ) → count ≡ length words → StandsAtMost tool text words count
-  all_at_most count is = record { within = omega (arith, is); no_more = λ more above within stands. absurd (omega (arith, is, above, within)) }
-
-  -- not so many either
-  pub fewer_at_most : (count fewer : ℕ) (part : List W) → part ≡ take count words → fewer + 1 ≡ count → (MayStand tool (map text part) → ⊥) → StandsAtMost tool text words count → StandsAtMost tool text words fewer
-  fewer_at_most count fewer part is one none most = record {
-    within = omega (arith, one, most.within);
-    no_more = λ more above within stands. by_more (nat_lt count more) more refl above within stands;
-  }
-    where
-      by_more : (b : Bool) (more : ℕ) → nat_lt count more ≡ b → fewer < more → more ≤ length words → MayStand tool (map text (take more words)) → ⊥
-      by_more true more is_more above within stands = most.no_more more (ltb-true count more is_more) within stands
-      by_more false more is_more above within stands =
-          let same : more ≡ count = omega (arith, ltb-false count more is_more, above, one) in
-          none (subst (λ l. MayStand tool (map text l)) (ap (λ n. take n words) same ∙ sym is) stands)
-
   no_more_of : (count : ℕ) → StandsAtMost tool text words count → (more : ℕ) → count < more → more ≤ length (map text words) → MayStand tool (take more (map text words)) → ⊥
   no_more_of count most more above within stands =
       most.no_more more above (omega (arith, within, length-map words text)) (subst (MayStand tool) (take-map text more words) stands)

@@ -1,7 +1,7 @@
 -- Reads one after another, and reads at a run's end.
 use Rattle.std.proofs.Common.{refl, sym, ap, inr, append_assoc}
 use Rattle.std.proofs.lemmas.List.{append-nil}
-use Rattle.std.specs.Prelude.{List, None, Option, Some, [], ◌++◌, ◌∷◌}
+use Rattle.std.specs.Prelude.{List, None, Option, Some, [], ◌++◌}
 use Rattle.net_world.specs.declared.read_call.ReadCall.{ReadCall}
 use Rattle.tool_line.specs.Read.{HasRead, HasReadAt}
 
@@ -19,8 +19,3 @@ read_then first second (Some earlier) between after one two = rw (two, one) (ap 
 -- memory was wanting before the first read
 pub read_none_at : (calls : List ReadCall) (reads : Option (List ReadCall)) → HasReadAt 5 calls reads reads
 read_none_at calls reads = inr (refl, ([], (calls, refl), read_nothing reads))
-
--- memory was wanting behind the first of two reads
-pub read_one_at : (first second : ReadCall) (before after : Option (List ReadCall)) →
-    HasRead (first ∷ []) before after → HasReadAt 5 (first ∷ second ∷ []) before after
-read_one_at first second before after one = inr (refl, (first ∷ [], (second ∷ [], refl), one))
