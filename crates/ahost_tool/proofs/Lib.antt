@@ -25,3 +25,4 @@ pub mod SettingLemmas
 pub mod LoadingLemmas
 pub mod RunningLemmas
 pub mod LaterLemmas
+pub mod Theorems

@@ -50,7 +50,7 @@ same_item : {A : Type 0} (x y : A) → Some x ≡ Some y → x ≡ y
 same_item x y is = cc
 
 -- a number that was read is not above the greatest that is read
-number_small : (least most : ℕ) (word : Text) (number : ℕ) → number_in least most word ≡ Some number → number ≤ most
+pub number_small : (least most : ℕ) (word : Text) (number : ℕ) → number_in least most word ≡ Some number → number ≤ most
 number_small least most word number is = by_digits (is_plain_number word) is
   where
     by_bounds : (test : Bool) → (nat_le least (digits_value 10 word) && nat_le (digits_value 10 word) most) ≡ test → cond test (Some (digits_value 10 word)) None ≡ Some number → number ≤ most

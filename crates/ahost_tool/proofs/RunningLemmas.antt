@@ -32,7 +32,7 @@ some_same : {A : Type 0} (x y : A) → Some x ≡ Some y → x ≡ y
 some_same x y is = cc
 
 -- settings that are set by the same words are the same
-same_settings : (under : Lookup) (a b : SettingValues) → AreSetBy under a → AreSetBy under b → a ≡ b
+pub same_settings : (under : Lookup) (a b : SettingValues) → AreSetBy under a → AreSetBy under b → a ≡ b
 same_settings under a b x y =
     fields a.servers b.servers a.port b.port a.timeout b.timeout a.tries b.tries a.sources b.sources a.switches b.switches
     (some_same a.servers b.servers (sym x.servers ∙ y.servers)) (some_same a.port b.port (sym x.port ∙ y.port)) (some_same a.timeout b.timeout (sym x.timeout ∙ y.timeout))
@@ -43,8 +43,8 @@ same_settings under a b x y =
         (record { servers = s2; port = p2; timeout = t2; tries = r2; sources = u2; switches = w2 })
     fields s1 s2 p1 p2 t1 t2 r1 r2 u1 u2 w1 w2 a b c d e f = cc
 
--- the same uses
-same_uses : (words : List Text) (a b : AhostAsk) (x : AhostAsks words a) (y : AhostAsks words b) → x.uses ≡ y.uses
+-- by the same uses of options
+pub same_uses : (words : List Text) (a b : AhostAsk) (x : AhostAsks words a) (y : AhostAsks words b) → x.uses ≡ y.uses
 same_uses words a b x y = some_same x.uses y.uses (sym x.are ∙ y.are)
 
 -- words ask for one load

@@ -70,8 +70,9 @@ pub(crate) fn ask<B: Done + Drop, W: World, F: Files, K: Sink>(
     }
 }
 
-/// Ends a run before it has a channel: the line of this end is put.
-pub(crate) fn leave<K: Sink>(alloc: Global, sink: &mut K, end: Exit) -> Ended
+/// Ends a run before it has a channel: the line of this end is put. An end that has no line, as that of a page, puts nothing,
+/// with status 5.
+pub fn leave<K: Sink>(alloc: Global, sink: &mut K, end: Exit) -> Ended
     ensures { (log : Option (List WorldCall)) (wait_faults : ℕ) → EndsEarly end result
         (outside log wait_faults (K.bytes sink.old) (K.faults sink.old) (K.puts sink.old))
         (outside log wait_faults (K.bytes sink.new) (K.faults sink.new) (K.puts sink.new)) }

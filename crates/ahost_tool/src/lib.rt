@@ -19,5 +19,12 @@ mod setting;
 mod summary;
 mod task;
 
+pub use asking::leave;
+pub use loading::prepare;
+pub use outcome::Outcome;
+pub use putting::tell;
+pub use reporting::{Report, report_for};
+pub use resolving::ending_of;
 pub use run_end::Ended;
-pub use running::{run, run_boxed, run_returning_bodies};
+pub use running::{count_names, run, run_boxed, run_returning_bodies};
+pub use setting::read_setting;

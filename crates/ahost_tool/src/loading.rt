@@ -65,8 +65,9 @@ pub(crate) fn load<B: Done + Drop, K: Sink>(
     run
 }
 
-/// The options of a load's channel, its requests, and its network.
-fn prepare(alloc: Global, load: Load) -> Result<(Options, SpecList, PeerWorld), NoMemory>
+/// The options of a load's channel, its requests, and its network in memory, of the load's zone and seed, which has told
+/// nothing yet.
+pub fn prepare(alloc: Global, load: Load) -> Result<(Options, SpecList, PeerWorld), NoMemory>
     requires { IsWithinLimits load }
     ensures { IfOk result (λ made. (made.0 ≡ plain_values) × (made.1 ≡ host_specs load.names)
         × (made.2 ≡ at_start (load_zone load.names) load.seed)) }

@@ -8,7 +8,7 @@ use run_end::Ended;
 
 /// The options of a run's channel, its journal, and the answers that its callbacks were called with.
 #[derive(Drop)]
-pub(crate) struct Outcome {
+pub struct Outcome {
     pub options: Options,
     pub journal: Journal,
     pub calls: Calls,

@@ -83,8 +83,10 @@ fn tell_line<K: Sink>(outcome: Outcome, end: Exit, sink: &mut K) -> Ended
     outcome.ended(status)
 }
 
-/// Puts the text of a run that came to this end: its report, or the line in place of it.
-pub(crate) fn tell<K: Sink>(
+/// Puts the text of a run that came to this end, once: its report, or the line in place of it. The exit status is that of the
+/// end; 4 where the output failed, and 5 where nothing was put, for want of memory. Journal and answers are handed out in any
+/// case.
+pub fn tell<K: Sink>(
     alloc: Global,
     report: Report,
     outcome: Outcome,

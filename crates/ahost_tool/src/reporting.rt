@@ -13,7 +13,7 @@ use tool_line::Load;
 
 /// What a run puts where its requests have their answers.
 #[derive(Drop)]
-pub(crate) enum Report {
+pub enum Report {
     /// What was found.
     Page,
     /// The run itself as text, with the bytes of its hosts file.
@@ -24,7 +24,7 @@ pub(crate) enum Report {
 
 /// What a run for names puts, by whether its book is asked for in place of the page. The bytes of the hosts file are kept for
 /// the book alone.
-pub(crate) fn report_for(journal: bool, hosts: Bytes) -> Report
+pub fn report_for(journal: bool, hosts: Bytes) -> Report
     ensures { result ≡ report_for journal hosts }
 {
     if journal {

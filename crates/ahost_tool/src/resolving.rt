@@ -95,8 +95,8 @@ fn caller_with<B: Done + Drop>(
 }
 
 /// How a run came to its end whose turns ended so, where so many requests were lost, and whose callbacks were called with
-/// these answers.
-fn ending_of(loop_end: Result<LoopEnd, NoMemory>, lost: u64, calls: &Calls) -> Exit
+/// these answers. Where one was lost, memory was wanting.
+pub fn ending_of(loop_end: Result<LoopEnd, NoMemory>, lost: u64, calls: &Calls) -> Exit
     ensures { IsEndOf loop_end lost calls.now result }
 {
     if lost != 0 {

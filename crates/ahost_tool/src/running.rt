@@ -181,8 +181,8 @@ fn is_served(asked: &AhostAsk, bodies: usize) -> bool
     asked.workers == 0 && count_names(asked) <= bodies
 }
 
-/// How many names are asked for.
-fn count_names(asked: &AhostAsk) -> usize
+/// How many names are asked for: those of a load, or those of the words.
+pub fn count_names(asked: &AhostAsk) -> usize
     ensures { result ≡ count_names asked.now.load asked.now.specs }
 {
     match asked.load {

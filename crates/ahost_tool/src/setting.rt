@@ -13,7 +13,8 @@ use tool_line::{FileFault, HOSTS_MOST, RESOLV_MOST, Settings, hosts_read, set_op
 
 /// Reads resolv.conf and then the hosts file, each once, and answers the options, what the hosts file says, and its bytes. The
 /// words' settings stand in place of what resolv.conf sets. A fault of resolv.conf ends it before the hosts file is read.
-pub(crate) fn read_setting<F: Files>(
+/// Where memory is wanting, the first of the two was read, both, or none.
+pub fn read_setting<F: Files>(
     alloc: Global,
     resolv: &str,
     hosts: &str,
