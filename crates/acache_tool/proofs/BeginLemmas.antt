@@ -16,7 +16,7 @@ use Rattle.channel_model.specs.Setting.{Setting}
 use Rattle.run_end.specs.declared.loop_end.LoopEnd.{LoopEnd}
 use Rattle.run_end.specs.declared.loop_end.LoopEnd.TheVariants.{Completed, Stalled, WaitFault}
 use Rattle.tool_line.specs.Words.{Text}
-use Rattle.acache_tool.specs.Growing.{is_plain, leaves_running}
+use Rattle.owner_laws.specs.PlainEntries.{is_plain_entry, leaves_running}
 use Rattle.item_list.specs.declared.no_memory.NoMemory.{NoMemory}
 use Rattle.net_addr.specs.declared.addr.Addr.{Addr}
 use Rattle.net_world.specs.Logs.{LogGets}
@@ -139,10 +139,10 @@ neither : (a b : Bool) → a ≡ false → b ≡ false → (a || b) ≡ false
 neither true b h k = absurd (cc h)
 neither false b h k = k
 
-open_on : (past : Past) (es : List Entry) → is_destroyed past ≡ false → list_all is_plain es ≡ true → is_destroyed (followed_by past es) ≡ false
+open_on : (past : Past) (es : List Entry) → is_destroyed past ≡ false → list_all is_plain_entry es ≡ true → is_destroyed (followed_by past es) ≡ false
 open_on past [] none all = none
 open_on past (e ∷ es) none all =
-    let this = and_parts (is_plain e) (list_all is_plain es) all in
+    let this = and_parts (is_plain_entry e) (list_all is_plain_entry es) all in
     let parts = and_parts ((e.seat == 0) && (e.by == 0)) (leaves_running e.what) this.0 in
     open_on (e.what ∷ past) es (neither (is_destroy e.what) (is_destroyed past) (not_destroy e.what parts.1) none) this.1
 

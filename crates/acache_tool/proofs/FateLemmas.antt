@@ -17,7 +17,7 @@ use Rattle.query_cache.specs.declared.kept.Kept.{Kept}
 use Rattle.acache_tool.specs.Fates.{HasFate, HaveFates, IsRecalled}
 use Rattle.acache_tool.specs.Leaving.{numbers_of}
 use Rattle.acache_tool.specs.Parts.{AreRight, GivesAnswer, IsRightBy, Open, Part, answers_of, cache_calls, calls_by, calls_for, most_seconds, open_requests, question_of, request_for, requests_of, unless_hit}
-use Rattle.acache_tool.proofs.NameLemmas.{heads, tails}
+use Rattle.owner_laws.proofs.ListLemmas.{heads, tails}
 
 -- there is one answer for each request
 as_many : (parts : List Part) → length (answers_of parts) ≡ length (numbers_of (requests_of parts))

@@ -18,18 +18,14 @@ use Rattle.query_cache.proofs.StandLemmas.{answers_given}
 use Rattle.query_cache.specs.Cache.{Cache, given}
 use Rattle.query_cache.specs.Recency.{LeadTo}
 use Rattle.tool_line.specs.Words.{Text}
-use Rattle.acache_tool.specs.Growing.{AreCalled, Grows, IsFate, is_plain}
+use Rattle.acache_tool.specs.Growing.{AreCalled, Grows, IsFate}
 use Rattle.acache_tool.specs.Leaving.{Leaves, numbers_of}
 use Rattle.acache_tool.specs.Parts.{IsMissed, MayAsk, Open, Part, answers_of, cache_calls, journal_of, most_seconds, open_requests, question_of, request_for, requests_of}
+use Rattle.owner_laws.proofs.ListLemmas.{heads, tails}
 use Rattle.acache_tool.proofs.RequestLemmas.{fate_later, past_on, takes_last}
+use Rattle.owner_laws.specs.PlainEntries.{is_plain_entry}
 
 -- ---- answers that were called for
-
-pub heads : {A : Type 0} (x y : A) (xs ys : List A) → x ∷ xs ≡ y ∷ ys → x ≡ y
-heads x y xs ys e = cc
-
-pub tails : {A : Type 0} (x y : A) (xs ys : List A) → x ∷ xs ≡ y ∷ ys → xs ≡ ys
-tails x y xs ys e = cc
 
 -- they stay fates where the journal goes on
 pub fates_stay : (setting : Setting) (past : Past) (es : List Entry) (ns : List ℕ) (calls : List Answer) →
@@ -69,10 +65,10 @@ called_then a b calls answer grows fated called =
 -- ---- the channel's journal
 
 -- entries of the run, and more of them
-plain_on : (accepts : List Accepted) (takes : List ℕ) (a b : Owned) → Grows accepts takes a b → list_all is_plain a.seen ≡ true → list_all is_plain b.seen ≡ true
+plain_on : (accepts : List Accepted) (takes : List ℕ) (a b : Owned) → Grows accepts takes a b → list_all is_plain_entry a.seen ≡ true → list_all is_plain_entry b.seen ≡ true
 plain_on accepts takes a b grows plain =
-    ap (list_all is_plain) grows.seen ∙ list_all-append is_plain a.seen grows.entries
-    ∙ and_from (list_all is_plain a.seen) (list_all is_plain grows.entries) plain grows.plain
+    ap (list_all is_plain_entry) grows.seen ∙ list_all-append is_plain_entry a.seen grows.entries
+    ∙ and_from (list_all is_plain_entry a.seen) (list_all is_plain_entry grows.entries) plain grows.plain
 
 -- the entries of the names that were brought to their answers stand first
 named_on : (accepts : List Accepted) (takes : List ℕ) (parts : List Part) (a b : Owned) → Grows accepts takes a b → IsPrefix (journal_of parts) a.seen → IsPrefix (journal_of parts) b.seen

@@ -25,12 +25,14 @@ use Rattle.channel_session.specs.Progressing.{IsLeftOver}
 use Rattle.channel_session.specs.Sitting.{IsCount, reach_of}
 use Rattle.channel_table.specs.Calling.{Owned, known_by_owner}
 use Rattle.event_runner.proofs.Theorems.{MayStand, runs_behind}
+use Rattle.owner_laws.specs.PlainEntries.{is_plain_entry, leaves_running}
 use Rattle.owner_laws.proofs.Owner.{owner_called, owner_went_on}
 use Rattle.tool_line.specs.Words.{Text}
 use Rattle.acache_tool.specs.Bringing.{AsksFor, StandsStill}
-use Rattle.acache_tool.specs.Growing.{Grows, is_plain, leaves_running}
+use Rattle.acache_tool.specs.Growing.{Grows}
 use Rattle.acache_tool.specs.Parts.{asks_for, spec_for}
 use Rattle.acache_tool.specs.Told.{longest_slice}
+use Rattle.owner_laws.proofs.ListLemmas.{no_items, own_seats}
 use Rattle.acache_tool.proofs.RequestLemmas.{fate_later, past_on}
 
 -- what a session makes leaves the channel running, and accepts nothing
@@ -45,22 +47,13 @@ session_runs (Expire number leg moment) is = (refl, refl)
 session_runs (Fault server link moment) is = (refl, refl)
 session_runs (Servers list) is = absurd (cc is)
 
--- the entries of a seat have it
-own_seats : (seat : ℕ) (es : List Entry) → list_all (λ e. e.seat == seat) (own_entries seat es) ≡ true
-own_seats seat [] = refl
-own_seats seat (e ∷ es) = by_seat (e.seat == seat) refl (own_seats seat es)
-  where
-    by_seat : (b : Bool) → (e.seat == seat) ≡ b → list_all (λ x. x.seat == seat) (own_entries seat es) ≡ true → list_all (λ x. x.seat == seat) (cond b (e ∷ own_entries seat es) (own_entries seat es)) ≡ true
-    by_seat true is rest = and_from (e.seat == seat) (list_all (λ x. x.seat == seat) (own_entries seat es)) is rest
-    by_seat false is rest = rest
-
-all_plain : (es : List Entry) → list_all (λ e. e.seat == 0) es ≡ true → list_all is_of_session es ≡ true → list_all is_plain es ≡ true
+all_plain : (es : List Entry) → list_all (λ e. e.seat == 0) es ≡ true → list_all is_of_session es ≡ true → list_all is_plain_entry es ≡ true
 all_plain [] seats all = refl
 all_plain (e ∷ es) seats all =
     let here = and_parts (e.seat == 0) (list_all (λ x. x.seat == 0) es) seats in
     let this = and_parts (is_of_session e) (list_all is_of_session es) all in
     let parts = and_parts (is_of_turn e || is_some (taken_by e.what)) (e.by == 0) this.0 in
-    and_from (is_plain e) (list_all is_plain es)
+    and_from (is_plain_entry e) (list_all is_plain_entry es)
     (and_from ((e.seat == 0) && (e.by == 0)) (leaves_running e.what) (and_from (e.seat == 0) (e.by == 0) here.0 parts.1) (session_runs e.what parts.0).0)
     (all_plain es here.1 this.1)
 
@@ -203,10 +196,6 @@ own_few seat (e ∷ es) = by (e.seat == seat) (own_few seat es)
     by : (b : Bool) → length (own_entries seat es) ≤ length es → length (cond b (e ∷ own_entries seat es) (own_entries seat es)) ≤ length (e ∷ es)
     by true h = omega (arith, h)
     by false h = omega (arith, h)
-
-no_items : {A : Type 0} (xs : List A) → length xs ≡ 0 → xs ≡ []
-no_items [] none = refl
-no_items (x ∷ xs) none = absurd (omega (arith, none))
 
 -- where nothing was ready and something is left, a request is pending
 pub left_pending : (a b : Owned) → IsLeftOver (known_by_owner a) (known_by_owner b) → pending b.setting (past_of b.seen) ≢ []

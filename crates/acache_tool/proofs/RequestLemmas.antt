@@ -10,6 +10,7 @@ use Rattle.channel_model.specs.Completion.{completed_by, fate, is_open, occurren
 use Rattle.channel_model.specs.Journal.{Accepted, Past, accepted, accepted_by, followed_by, past_of}
 use Rattle.channel_model.specs.Lawful.{IsLawfulPast}
 use Rattle.channel_model.specs.Setting.{Setting}
+use Rattle.owner_laws.proofs.ListLemmas.{stands_first}
 
 -- the past of a journal that goes on
 pub past_on : (old new more : List Entry) → new ≡ old ++ more → past_of new ≡ followed_by (past_of old) more
@@ -32,10 +33,6 @@ one_is n m some = by (m == n) refl some
 
 itself : (n : ℕ) → occurrences n (n ∷ []) ≡ 1
 itself n = rw (eq-eqb n n refl) refl
-
--- the first item stands in a list
-stands_first : (x : ℕ) (xs : List ℕ) → 1 ≤ occurrences x (x ∷ xs)
-stands_first x xs = rw (eq-eqb x x refl) (omega arith)
 
 -- no more items that pass a test stand in a list than items
 filter_less : (test : ℕ → Bool) (n : ℕ) (xs : List ℕ) → occurrences n (filter test xs) ≤ occurrences n xs

@@ -24,19 +24,20 @@ use Rattle.query_cache.proofs.StandLemmas.{answers_given}
 use Rattle.query_cache.specs.Cache.{given}
 use Rattle.query_cache.specs.Recency.{LeadTo}
 use Rattle.tool_line.specs.Words.{Text}
-use Rattle.acache_tool.specs.Growing.{AreCalled, is_plain}
+use Rattle.acache_tool.specs.Growing.{AreCalled}
 use Rattle.acache_tool.specs.Leaving.{AreGoodParts, IsAt, Leaves, numbers_of}
 use Rattle.acache_tool.specs.Naming.{IsHit, IsSent, Reads, Scene}
 use Rattle.acache_tool.specs.Parts.{GivesAnswer, MayAsk, Open, Part, answers_of, asks_for, cache_calls, calls_for, journal_of, most_seconds, open_requests, question_of, requests_of, text_shown}
 use Rattle.acache_tool.specs.Shown.{IsGood, cache_with}
 use Rattle.acache_tool.specs.Told.{AreTold, IsLastReading, longest_slice}
 use Rattle.acache_tool.proofs.NameLemmas.{leaves_answered, leaves_asked, may_ask}
+use Rattle.owner_laws.specs.PlainEntries.{is_plain_entry}
 
 -- the channel's owner makes all entries of turns
-pub owner_alone : (es : List Entry) → list_all is_plain es ≡ true → list_all (λ e. not (is_of_turn e) || (e.seat == 0)) es ≡ true
+pub owner_alone : (es : List Entry) → list_all is_plain_entry es ≡ true → list_all (λ e. not (is_of_turn e) || (e.seat == 0)) es ≡ true
 owner_alone [] plain = refl
 owner_alone (e ∷ es) plain =
-    let this = and_parts (is_plain e) (list_all is_plain es) plain in
+    let this = and_parts (is_plain_entry e) (list_all is_plain_entry es) plain in
     let seat = and_parts (e.seat == 0) (e.by == 0) (and_parts ((e.seat == 0) && (e.by == 0)) _ this.0).0 in
     and_from (not (is_of_turn e) || (e.seat == 0)) (list_all (λ x. not (is_of_turn x) || (x.seat == 0)) es) (either (not (is_of_turn e)) (e.seat == 0) seat.0) (owner_alone es this.1)
   where

@@ -30,7 +30,7 @@ use Rattle.tool_line.specs.declared.ending.Exit.{Exit}
 use Rattle.tool_line.specs.declared.ending.Exit.TheVariants.{Failure, Success}
 use Rattle.acache_tool.specs.Asked.{setting_for}
 use Rattle.acache_tool.specs.Completing.{IsComplete, IsGivenTime}
-use Rattle.acache_tool.specs.Growing.{is_plain}
+use Rattle.owner_laws.specs.PlainEntries.{is_plain_entry}
 use Rattle.acache_tool.specs.Output.{text_at}
 use Rattle.acache_tool.specs.Parts.{Open, Part, names_of, open_requests, page, request_for, requests_of, unless_hit}
 use Rattle.acache_tool.specs.Promise.{IsPageEnd}
@@ -45,10 +45,10 @@ not_last calls setting turns names journal last time =
     })
 
 -- a run's entries are of its channel's one seat
-all_own : (es : List Entry) → list_all is_plain es ≡ true → list_all (λ entry. entry.seat == 0) es ≡ true
+all_own : (es : List Entry) → list_all is_plain_entry es ≡ true → list_all (λ entry. entry.seat == 0) es ≡ true
 all_own [] plain = refl
 all_own (e ∷ es) plain =
-    let this = and_parts (is_plain e) (list_all is_plain es) plain in
+    let this = and_parts (is_plain_entry e) (list_all is_plain_entry es) plain in
     let seat = and_parts (e.seat == 0) (e.by == 0) (and_parts ((e.seat == 0) && (e.by == 0)) _ this.0).0 in
     and_from (e.seat == 0) (list_all (λ entry. entry.seat == 0) es) seat.0 (all_own es this.1)
 
@@ -69,7 +69,7 @@ few_asked parts o names front =
 
 module _ (server : Addr) (turns : ℕ) (names : List Text) (parts : List Part) (o : Open) (channel : Owned) (more : List Entry) where
   -- a run that stalled wasn't given time
-  pub not_stalled : channel.setting ≡ setting_for server → list_all is_plain channel.seen ≡ true → accepted (past_of channel.seen) ≡ requests_of parts ++ open_requests parts (Some o) → IsPrefix (names_of parts ++ o.name ∷ []) names →
+  pub not_stalled : channel.setting ≡ setting_for server → list_all is_plain_entry channel.seen ≡ true → accepted (past_of channel.seen) ≡ requests_of parts ++ open_requests parts (Some o) → IsPrefix (names_of parts ++ o.name ∷ []) names →
       pending channel.setting (past_of channel.seen) ≢ [] → IsLawful channel.setting channel.seen → (calls : List WorldCall) (asides : ℕ) → IsCourse channel.setting 0 longest_slice channel.seen calls turns asides →
       IsGivenTime (setting_for server) turns (length names) (channel.seen ++ more) calls → ⊥
   not_stalled same plain asked front some lawful calls asides course given =

@@ -1,30 +1,13 @@
 -- How the channel of a run goes on.
 use Rattle.std.specs.List.{list_all}
-use Rattle.std.specs.Prelude.{Bool, IsTrue, List, Some, [], false, map, true, ℕ, ◌&&◌, ◌++◌, ◌==◌, ◌∷◌, ◌≡◌}
+use Rattle.std.specs.Prelude.{IsTrue, List, Some, [], map, ℕ, ◌++◌, ◌∷◌, ◌≡◌}
 use Rattle.chan_types.specs.declared.answer.Answer.{Answer}
 use Rattle.chan_types.specs.declared.journal.Entry.{Entry}
-use Rattle.chan_types.specs.declared.journal.What.{What}
-use Rattle.chan_types.specs.declared.journal.What.TheVariants.{Accept, Arrive, Cancel, Destroy, Expire, Fault, Servers, Start, Take}
 use Rattle.channel_model.specs.Completion.{fate, pending, ready, requests, taken}
 use Rattle.channel_model.specs.Journal.{Accepted, accepted, past_of}
 use Rattle.channel_model.specs.Lawful.{IsLawful}
 use Rattle.channel_table.specs.Calling.{Owned}
-
--- the event leaves the channel running: it neither cancels nor destroys, nor does it set servers
-abbrev pub leaves_running : What → Bool
-leaves_running (Accept number spec script) = true
-leaves_running Cancel = false
-leaves_running Destroy = false
-leaves_running (Take number) = true
-leaves_running (Start number leg server link id mix moment) = true
-leaves_running (Arrive server link bytes) = true
-leaves_running (Expire number leg moment) = true
-leaves_running (Fault server link moment) = true
-leaves_running (Servers list) = false
-
--- the entry is of the channel's one seat, no callback commanded it, and it leaves the channel running
-abbrev pub is_plain : Entry → Bool
-is_plain entry = (entry.seat == 0) && (entry.by == 0) && leaves_running entry.what
+use Rattle.owner_laws.specs.PlainEntries.{is_plain_entry}
 
 -- the channel's journal went on, by entries that leave it running, which accept these requests and take those
 pub record Grows (accepts : List Accepted) (takes : List ℕ) (old new : Owned) : Type 0 where
@@ -33,7 +16,7 @@ pub record Grows (accepts : List Accepted) (takes : List ℕ) (old new : Owned) 
   pub setting : new.setting ≡ old.setting
   pub voice : new.voice ≡ old.voice
   pub lawful : IsLawful old.setting old.seen → IsLawful new.setting new.seen
-  pub plain : IsTrue (list_all is_plain entries)
+  pub plain : IsTrue (list_all is_plain_entry entries)
   pub accepts_are : accepted (past_of new.seen) ≡ accepted (past_of old.seen) ++ accepts
   pub takes_are : taken (past_of new.seen) ≡ taken (past_of old.seen) ++ takes
 

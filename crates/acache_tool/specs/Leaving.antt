@@ -21,10 +21,11 @@ use Rattle.query_cache.specs.Recency.{LeadTo}
 use Rattle.run_end.specs.declared.loop_end.LoopEnd.{LoopEnd}
 use Rattle.run_end.specs.declared.loop_end.LoopEnd.TheVariants.{Completed, Stalled, WaitFault}
 use Rattle.tool_line.specs.Words.{Text}
-use Rattle.acache_tool.specs.Growing.{AreCalled, is_plain}
+use Rattle.acache_tool.specs.Growing.{AreCalled}
 use Rattle.acache_tool.specs.Naming.{Scene}
 use Rattle.acache_tool.specs.Parts.{AreRight, MayAsk, Open, Part, answers_of, cache_calls, journal_of, most_seconds, names_of, open_names, open_requests, page, requests_of}
 use Rattle.acache_tool.specs.Told.{AreTold, AreToldThen, longest_slice}
+use Rattle.owner_laws.specs.PlainEntries.{is_plain_entry}
 
 -- the numbers of these requests
 abbrev pub numbers_of : List Accepted → List ℕ
@@ -41,7 +42,7 @@ pub record Leaves (room : ℕ) (setting : Setting) (parts : List Part) (last : O
   pub setting_is : channel.setting ≡ setting
   pub voice : channel.voice ≡ 0
   pub lawful : IsLawful channel.setting channel.seen
-  pub plain : IsTrue (list_all is_plain channel.seen)
+  pub plain : IsTrue (list_all is_plain_entry channel.seen)
   -- the entries of those that were brought to their answers stand first, one name's behind the other's
   pub named : IsPrefix (journal_of parts) channel.seen
   pub accepted_are : accepted (past_of channel.seen) ≡ requests_of parts ++ open_requests parts last

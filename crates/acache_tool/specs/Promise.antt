@@ -24,7 +24,7 @@ use Rattle.acache_tool.specs.Asked.{Asked, setting_for}
 use Rattle.acache_tool.specs.Closing.{closing, take_entry}
 use Rattle.acache_tool.specs.Completing.{IsComplete, IsGivenTime}
 use Rattle.acache_tool.specs.Fates.{HaveFates}
-use Rattle.acache_tool.specs.Growing.{is_plain}
+use Rattle.owner_laws.specs.PlainEntries.{is_plain_entry}
 use Rattle.acache_tool.specs.Leaving.{AreGoodParts}
 use Rattle.acache_tool.specs.Output.{text_at}
 use Rattle.acache_tool.specs.Parts.{AreRight, MayAsk, Open, Part, answers_of, cache_calls, journal_of, names_of, open_names, open_requests, page, requests_of}
@@ -44,7 +44,7 @@ pub record IsClosed (setting : Setting) (end : Exit) (parts : List Part) (journa
   pub later : List Entry
   pub journal_is : journal ≡ earlier ++ closing ∷ later
   -- of the channel's one seat, on nobody's command, Accepts, Takes, and entries of turns
-  pub plain : IsTrue (list_all is_plain earlier)
+  pub plain : IsTrue (list_all is_plain_entry earlier)
   -- first those of the names that have their answers, one name's behind the other's, and where the text is the page no others
   pub by_names : IsPrefix (journal_of parts) earlier
   pub no_others : IsPageEnd end → earlier ≡ journal_of parts

@@ -1,8 +1,8 @@
 //! One run over a network in memory, whose first reply is truncated, so that the question is asked again over a link: what it
 //! leaves where one call fails.
 
-mod called;
 mod failing;
+mod failures;
 mod in_turn;
 mod outside;
 mod wanting;

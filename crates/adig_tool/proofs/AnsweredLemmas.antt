@@ -54,8 +54,9 @@ use Rattle.adig_tool.specs.Promise.{IsTraffic, Promise}
 use Rattle.adig_tool.specs.Session.{first_request}
 use Rattle.owner_laws.specs.Sessions.{longest_slice}
 use Rattle.run_end.specs.declared.ended.Ended.{Ended}
+use Rattle.owner_laws.proofs.ListLemmas.{heads, tails}
 use Rattle.adig_tool.proofs.ExchangeLemmas.{exchanged}
-use Rattle.adig_tool.proofs.ListLemmas.{both_hold, heads, item_passes, one_at_most, tails, three_hold, two_pass}
+use Rattle.adig_tool.proofs.ListLemmas.{both_hold, item_passes, one_at_most, three_hold, two_pass}
 use Rattle.adig_tool.proofs.PromiseLemmas.{log_then}
 use Rattle.adig_tool.proofs.ReplyLemmas.{ToldStatus, replied, search_tells, searched}
 use Rattle.adig_tool.proofs.SentLemmas.{no_fault}

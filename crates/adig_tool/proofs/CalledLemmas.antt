@@ -1,5 +1,5 @@
 -- Who was called for: each accepted request once, with its fate.
-use Rattle.std.proofs.Common.{◌≡◌, ◌≢◌, ℕ, ◌+◌, ◌≤◌, ◌==◌, List, [], ◌∷◌, ◌++◌, refl, sym, ap, subst, ◌∙◌, map, Bool, true, false, if◌then◌else◌, inl, inr, arith, eqb-true, eq-eqb, ne_eqb}
+use Rattle.std.proofs.Common.{◌≡◌, ◌≢◌, ℕ, ◌+◌, ◌==◌, List, [], ◌∷◌, ◌++◌, refl, sym, ap, subst, ◌∙◌, map, Bool, true, false, if◌then◌else◌, inl, inr, arith, eqb-true, eq-eqb, ne_eqb}
 use Rattle.std.specs.Prelude.{Option, Some, None, filter, find, is_none, is_some, option_map, option_and_then, option_to_list, ◌⊎◌}
 use Rattle.std.specs.List.{AllByRecursion}
 use Rattle.std.specs.Option.{option_or}
@@ -21,8 +21,9 @@ use Rattle.channel_model.specs.Setting.{Setting}
 use Rattle.channel_model.proofs.Theorems.{completes_once, taken_then_ready}
 use Rattle.adig_tool.specs.Session.{first_request}
 use Rattle.adig_tool.specs.SessionParts.{take_entry}
+use Rattle.owner_laws.proofs.ListLemmas.{heads, stands_first, tails}
 use Rattle.adig_tool.proofs.FateLemmas.{fate_later}
-use Rattle.adig_tool.proofs.ListLemmas.{heads, one_at_most, tails}
+use Rattle.adig_tool.proofs.ListLemmas.{one_at_most}
 
 -- the request was accepted
 abbrev pub IsKnown : ℕ → Past → Type 0
@@ -107,10 +108,6 @@ module _ (spec : Spec) (past : Past) (at_most : IsPrefix (accepted past) (first_
   fate_number setting n answer is = known_number n (accepted past) (one_at_most (first_request spec) (accepted past) at_most) (fate_known setting n past answer is)
 
 -- ---- lists by how often their items stand in them
-
--- the first item stands in a list
-stands_first : (x : ℕ) (xs : List ℕ) → 1 ≤ occurrences x (x ∷ xs)
-stands_first x xs = rw (eq-eqb x x refl) (omega arith)
 
 -- no item stands in a list without one
 no_item : (xs : List ℕ) → ((n : ℕ) → occurrences n xs ≡ 0) → xs ≡ []

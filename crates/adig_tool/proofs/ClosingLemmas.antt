@@ -19,11 +19,7 @@ use Rattle.owner_laws.proofs.Destroyed.{pending_destroyed}
 use Rattle.adig_tool.specs.Closing.{Closes}
 use Rattle.adig_tool.specs.Entries.{closing}
 use Rattle.adig_tool.specs.SessionParts.{Delivers, take_entry}
-
--- a list without an item
-no_items : {A : Type 0} (xs : List A) → length xs ≡ 0 → xs ≡ []
-no_items [] none = refl
-no_items (x ∷ xs) none = absurd (omega (arith, none))
+use Rattle.owner_laws.proofs.ListLemmas.{no_items}
 
 -- nobody else makes entries of a channel with one owner: his call took effect where he had seen its journal
 here_is : (old new : Owned) (here added : List Entry) → StandsAt (known_by_owner old) here → new.seen ≡ here ++ added → new.seen ≡ old.seen ++ added → here ≡ old.seen

@@ -23,7 +23,8 @@ use Rattle.channel_model.proofs.Theorems.{agrees_none, agrees_trans, noted-appen
 use Rattle.channel_model.proofs.Theorems.{rounds_agree, serves_agree}
 use Rattle.channel_model.proofs.Theorems.{receives_first}
 use Rattle.adig_tool.specs.Answered.{WasExchanged, opens_no_link}
-use Rattle.adig_tool.proofs.ListLemmas.{InFirst, InSecond, first_passes, heads, item_passes, not_there, split_at, tails, two_pass}
+use Rattle.owner_laws.proofs.ListLemmas.{heads, tails}
+use Rattle.adig_tool.proofs.ListLemmas.{InFirst, InSecond, first_passes, item_passes, not_there, split_at, two_pass}
 use Rattle.adig_tool.proofs.SentLemmas.{HasFault, start_first, taken_datagram}
 
 -- ---- calls that begin no link

@@ -1,5 +1,5 @@
 -- Turns of a session with what stands between them, one behind the other, and how they come to their end.
-use Rattle.std.proofs.Common.{◌≡◌, ◌≢◌, ◌∙◌, ℕ, ◌+◌, ◌-◌, ◌≤◌, List, [], ◌∷◌, ◌++◌, Bool, true, length, refl, ap, sym, subst, inl, inr, ⊎_elim, arith}
+use Rattle.std.proofs.Common.{◌≡◌, ◌≢◌, ◌∙◌, ℕ, ◌+◌, ◌-◌, ◌≤◌, List, [], ◌++◌, Bool, true, ap, sym, subst, inl, inr, ⊎_elim, arith}
 use Rattle.std.specs.Prelude.{Err, Ok, Option, Result, is_err, min, ◌^◌, ◌⊎◌}
 use Rattle.std.proofs.lemmas.List.{append-nil, append_assoc}
 use Rattle.item_list.specs.declared.no_memory.NoMemory.{NoMemory}
@@ -31,6 +31,7 @@ use Rattle.adig_tool.specs.SessionParts.{Delivers, MakesTurns, TellsPending, Wor
 use Rattle.owner_laws.proofs.Owner.{looked_same, paused_same, waited_pending}
 use Rattle.owner_laws.proofs.Begun.{IsAsked}
 use Rattle.owner_laws.proofs.Well.{AreBegun, EndsWell, IsBegunSoFar, RunsWell, well_begun, well_behind, well_cut, well_failed, well_paused, well_so_far, well_turned}
+use Rattle.owner_laws.proofs.ListLemmas.{none_counted, some_counted}
 use Rattle.adig_tool.proofs.WorkLemmas.{takes_no_turn, turn_works, works_go_on, works_none, works_own, works_trans}
 
 -- so many turns were made, none behind a failed wait and none first where nothing was pending, and what completed was called; behind the last turn the run has come so far
@@ -40,14 +41,6 @@ pub record Made (reach : Reach) (turns : ℕ) (old new : Owned) (calls_old calls
   pub calls_are : calls_new ≡ calls_old ++ answers
   pub told : (log : Option (List WorldCall)) → RunsSince longest_slice 0 0 rested (known_by_owner old) before log log_old → RunsSince longest_slice turns 0 reach (known_by_owner new) after log log_new
   pub well : (log : Option (List WorldCall)) → RunsSince longest_slice 0 0 rested (known_by_owner old) before log log_old → RunsWell turns new log log_new
-
--- a count of what is pending
-some_counted : (count : ℕ) (xs : List ℕ) → count ≡ length xs → count ≢ 0 → xs ≢ []
-some_counted count xs is some none = some (is ∙ ap length none)
-
-none_counted : (count : ℕ) (xs : List ℕ) → count ≡ length xs → count ≡ 0 → xs ≡ []
-none_counted count [] is none = refl
-none_counted count (x ∷ xs) is none = let h : length (x ∷ xs) ≡ 0 = sym is ∙ none in absurd (omega (arith, h))
 
 -- what was counted is pending, and nothing is ready
 pub asked_here : (count : ℕ) (b c : Owned) → TellsPending count b c → count ≢ 0 → ready b.setting (past_of b.seen) ≡ [] → IsAsked c

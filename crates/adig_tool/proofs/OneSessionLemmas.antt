@@ -22,8 +22,9 @@ use Rattle.event_runner.specs.State.{IsTurnOwner}
 use Rattle.event_runner.specs.UnderWay.{RanSince, RunsSince, rested}
 use Rattle.net_world.specs.Logs.{LogGets}
 use Rattle.run_end.specs.declared.loop_end.LoopEnd.{LoopEnd}
-use Rattle.adig_tool.specs.Session.{FallsIntoTurns, HasAccepted, IsSession, first_request, is_of_session, leaves_running}
+use Rattle.adig_tool.specs.Session.{FallsIntoTurns, HasAccepted, IsSession, first_request}
 use Rattle.adig_tool.specs.SessionParts.{MakesTurns, Works}
+use Rattle.owner_laws.specs.PlainEntries.{is_plain_entry, leaves_running}
 use Rattle.owner_laws.specs.Sessions.{longest_slice}
 use Rattle.adig_tool.proofs.LoopLemmas.{falls_short}
 use Rattle.owner_laws.proofs.Well.{well_unbegun}
@@ -31,10 +32,10 @@ use Rattle.adig_tool.proofs.WorkLemmas.{accepted_in, taken_in, works_go_on, work
 use Rattle.run_end.specs.Left.{LeavesPending}
 
 -- a session's entries are all the owner's
-owner_of_session : (es : List Entry) → list_all is_of_session es ≡ true → list_all (λ e. not (is_of_turn e) || (e.seat == 0)) es ≡ true
+owner_of_session : (es : List Entry) → list_all is_plain_entry es ≡ true → list_all (λ e. not (is_of_turn e) || (e.seat == 0)) es ≡ true
 owner_of_session [] plain = refl
 owner_of_session (e ∷ es) plain =
-    let parts = and_parts (is_of_session e) (list_all is_of_session es) plain in
+    let parts = and_parts (is_plain_entry e) (list_all is_plain_entry es) plain in
     let seat : (e.seat == 0) ≡ true = (and_parts (e.seat == 0) (e.by == 0) (and_parts ((e.seat == 0) && (e.by == 0)) (leaves_running e.what) parts.0).0).0 in
     and_from (not (is_of_turn e) || (e.seat == 0)) (list_all (λ x. not (is_of_turn x) || (x.seat == 0)) es) (second (not (is_of_turn e)) (e.seat == 0) seat) (owner_of_session es parts.1)
   where
@@ -53,7 +54,7 @@ pub session_of : (spec : Spec) (turns : ℕ) (result : Result LoopEnd NoMemory) 
     LogGets (λ told. IsTurnOwner (known_by_owner b) → FallsIntoTurns turns result b told) l n → IsSession spec turns result a b calls l n
 session_of spec turns result accepts answers calls a b l n empty w calls_are requests left told =
     let all : b.seen ≡ w.entries = w.seen ∙ ap (λ journal. journal ++ w.entries) empty in
-    let plain : list_all is_of_session b.seen ≡ true = ap (list_all is_of_session) all ∙ w.plain in
+    let plain : list_all is_plain_entry b.seen ≡ true = ap (list_all is_plain_entry) all ∙ w.plain in
     let asked : accepted (past_of b.seen) ≡ accepts = ap (λ journal. accepted (past_of journal)) all ∙ accepted_in [] w.entries ∙ w.accepts_are in
     let took : taken (past_of b.seen) ≡ map (λ answer. answer.number) answers = ap (λ journal. taken (past_of journal)) all ∙ taken_in [] w.entries ∙ w.takes_are in
     let give : ℕ → Option Answer = λ number. fate b.setting number (past_of b.seen) in

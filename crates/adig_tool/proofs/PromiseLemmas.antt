@@ -41,12 +41,14 @@ use Rattle.journal_text.specs.declared.book.Book.{Book}
 use Rattle.resolv_options.specs.Values.{OptionValues}
 use Rattle.tool_line.specs.Put.{IsPut, PutsText}
 use Rattle.adig_tool.specs.Promise.{IsComplete, IsGivenTime, IsOver, IsPageEnd, IsRunEnd, IsTraffic, Promise}
-use Rattle.adig_tool.specs.Session.{FallsIntoTurns, HasAccepted, IsSession, ShowsEnd, first_request, is_of_session, leaves_running}
+use Rattle.adig_tool.specs.Session.{FallsIntoTurns, HasAccepted, IsSession, ShowsEnd, first_request}
+use Rattle.owner_laws.specs.PlainEntries.{is_plain_entry, leaves_running}
 use Rattle.owner_laws.specs.Sessions.{BeginsPending, BeginsSoFar, EndsWithFailedWait, longest_slice}
 use Rattle.adig_tool.specs.SessionParts.{take_entry}
 use Rattle.run_end.specs.declared.loop_end.LoopEnd.{LoopEnd}
 use Rattle.run_end.specs.declared.loop_end.LoopEnd.TheVariants.{Completed, Stalled, WaitFault}
 use Rattle.owner_laws.proofs.Begun.{begins_behind, so_far_behind}
+use Rattle.owner_laws.proofs.ListLemmas.{log_same}
 use Rattle.adig_tool.proofs.CalledLemmas.{called_then, numbers_of, taken_all, taken_later}
 use Rattle.adig_tool.proofs.ClosingLemmas.{past_on}
 use Rattle.adig_tool.proofs.ListLemmas.{all_pass, one_at_most, three_hold}
@@ -70,18 +72,18 @@ running_is (Expire number leg moment) h = (refl, refl)
 running_is (Fault server link moment) h = (refl, refl)
 running_is (Servers list) h = absurd (cc h)
 
-session_own : (es : List Entry) → list_all is_of_session es ≡ true → list_all is_own es ≡ true
+session_own : (es : List Entry) → list_all is_plain_entry es ≡ true → list_all is_own es ≡ true
 session_own es plain =
-    all_pass is_of_session is_own
+    all_pass is_plain_entry is_own
     (λ e h. let is = three_hold (e.seat == 0) (e.by == 0) (leaves_running e.what) h in rw (is.0, is.1, (running_is e.what is.2).0) refl) es plain
 
-pub session_kept : (es : List Entry) → list_all is_of_session es ≡ true → list_all is_kept es ≡ true
+pub session_kept : (es : List Entry) → list_all is_plain_entry es ≡ true → list_all is_kept es ≡ true
 session_kept es plain =
-    all_pass is_of_session is_kept
+    all_pass is_plain_entry is_kept
     (λ e h. let is = three_hold (e.seat == 0) (e.by == 0) (leaves_running e.what) h in (running_is e.what is.2).1) es plain
 
 -- so a session leaves its channel open
-pub session_open : (es : List Entry) → list_all is_of_session es ≡ true → is_destroyed (past_of es) ≡ false
+pub session_open : (es : List Entry) → list_all is_plain_entry es ≡ true → is_destroyed (past_of es) ≡ false
 session_open es plain = kept_open [] es (session_kept es plain)
 
 -- ---- ends
@@ -415,11 +417,6 @@ nothing_called setting turns =
       none_failed = λ other. refl;
       all_turns = λ is. absurd (cc is);
     }
-
--- a log that nothing was added to
-pub log_same : (P : List WorldCall → Type 0) → P [] → (log : Option (List WorldCall)) → LogGets P log log
-log_same P holds None = refl
-log_same P holds (Some log) = ([], ap Some (sym (append-nil log)), holds)
 
 pub promise_early : (spec : Spec) (as_book : Bool) (setting : Setting) (turns : ℕ) (outside : Outside) → Promise spec as_book setting turns (record { status = 5; journal = []; calls = [] }) outside outside
 promise_early spec as_book setting turns outside = record {

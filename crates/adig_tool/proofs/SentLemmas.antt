@@ -17,7 +17,8 @@ use Rattle.channel_model.specs.Legs.{leg_of}
 use Rattle.channel_model.specs.Links.{Link, held_by, told}
 use Rattle.channel_model.specs.Setting.{Setting}
 use Rattle.channel_model.specs.Traffic.{Notice, Parcel, Route, connects, fault_received, fault_sent, fault_written, faults, is_start_on, messages, noted, noticed, notices, notices_of, of_datagram, of_fault, of_link, of_message, query_bytes}
-use Rattle.adig_tool.proofs.ListLemmas.{InFirst, InSecond, heads, not_there, split_at, tails}
+use Rattle.owner_laws.proofs.ListLemmas.{heads, tails}
+use Rattle.adig_tool.proofs.ListLemmas.{InFirst, InSecond, not_there, split_at}
 
 -- ---- what calls tell of one datagram
 

@@ -14,7 +14,8 @@ use Rattle.channel_model.proofs.Theorems.{followed_by-append}
 use Rattle.adig_tool.specs.SessionParts.{take_entry}
 use Rattle.adig_tool.specs.Entries.{closing, is_own}
 use Rattle.adig_tool.specs.Promise.{IsClosed}
-use Rattle.adig_tool.proofs.ListLemmas.{denies, first_passes, take_front}
+use Rattle.owner_laws.proofs.ListLemmas.{denies, take_front}
+use Rattle.adig_tool.proofs.ListLemmas.{first_passes}
 
 -- the entry is no Destroy
 abbrev pub is_kept : Entry → Bool

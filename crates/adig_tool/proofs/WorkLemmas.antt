@@ -1,5 +1,5 @@
 -- Parts of a session: what the channel's journal gets by one call or turn, and by one part behind another.
-use Rattle.std.proofs.Common.{◌≡◌, ◌∙◌, ℕ, ◌+◌, ◌<◌, ◌==◌, ◌&&◌, Bool, true, false, cond, List, [], ◌∷◌, ◌++◌, length, map, not, refl, ap, sym, subst, arith, eq-eqb}
+use Rattle.std.proofs.Common.{◌≡◌, ◌∙◌, ℕ, ◌+◌, ◌<◌, ◌==◌, ◌&&◌, Bool, true, List, [], ◌∷◌, ◌++◌, length, map, not, refl, ap, sym, subst, arith, eq-eqb}
 use Rattle.std.specs.Prelude.{Err, Ok, Option, Some, None, filter_map, option_to_list}
 use Rattle.std.specs.List.{cons_option, list_all}
 use Rattle.std.proofs.lemmas.Bool.{and_from, and_parts}
@@ -28,9 +28,11 @@ use Rattle.channel_model.specs.declared.answers.Refused.{Refused}
 use Rattle.channel_table.specs.Calling.{Owned, known_by_owner}
 use Rattle.event_runner.proofs.PauseLemmas.{names_same}
 use Rattle.event_runner.specs.Goes.{AreMadeInTurns, is_made_in_turn}
-use Rattle.adig_tool.specs.Session.{first_request, is_of_session, leaves_running}
+use Rattle.adig_tool.specs.Session.{first_request}
 use Rattle.adig_tool.specs.SessionParts.{Delivers, Works, take_entry}
+use Rattle.owner_laws.specs.PlainEntries.{is_plain_entry, leaves_running}
 use Rattle.owner_laws.proofs.Owner.{owned_same, owner_called, owner_went_on}
+use Rattle.owner_laws.proofs.ListLemmas.{own_seats}
 
 -- ---- lists of entries
 
@@ -40,15 +42,6 @@ all_then p q then_ [] all = refl
 all_then p q then_ (e ∷ es) all =
     let parts = and_parts (p e) (list_all p es) all in
     and_from (q e) (list_all q es) (then_ e parts.0) (all_then p q then_ es parts.1)
-
--- the entries of a seat have it
-own_seats : (seat : ℕ) (es : List Entry) → list_all (λ e. e.seat == seat) (own_entries seat es) ≡ true
-own_seats seat [] = refl
-own_seats seat (e ∷ es) = by_seat (e.seat == seat) refl (own_seats seat es)
-  where
-    by_seat : (b : Bool) → (e.seat == seat) ≡ b → list_all (λ x. x.seat == seat) (own_entries seat es) ≡ true → list_all (λ x. x.seat == seat) (cond b (e ∷ own_entries seat es) (own_entries seat es)) ≡ true
-    by_seat true is rest = and_from (e.seat == seat) (list_all (λ x. x.seat == seat) (own_entries seat es)) is rest
-    by_seat false is rest = rest
 
 -- entries that all have it are the seat's
 own_all : (seat : ℕ) (es : List Entry) → list_all (λ e. e.seat == seat) es ≡ true → own_entries seat es ≡ es
@@ -145,7 +138,7 @@ works_trans x y qs rs a b c p q =
       voice = q.voice ∙ p.voice;
       lawful = λ was. q.lawful (p.lawful was);
       names = names_stay_trans p.entries q.entries (Some a.names) (Some b.names) (Some c.names) p.names q.names;
-      plain = list_all-append is_of_session p.entries q.entries ∙ and_from (list_all is_of_session p.entries) (list_all is_of_session q.entries) p.plain q.plain;
+      plain = list_all-append is_plain_entry p.entries q.entries ∙ and_from (list_all is_plain_entry p.entries) (list_all is_plain_entry q.entries) p.plain q.plain;
       accepts_are =
           filter_map-append (λ e. accepted_by e.what) p.entries q.entries
           ∙ ap (λ l. l ++ filter_map (λ e. accepted_by e.what) q.entries) p.accepts_are ∙ ap (λ l. x ++ l) q.accepts_are;
@@ -159,7 +152,7 @@ works_trans x y qs rs a b c p q =
 -- the entries of a session have the one seat
 pub works_own : (x : List Accepted) (qs : List Answer) (a b : Owned) (w : Works x qs a b) → own_entries 0 w.entries ≡ w.entries
 works_own x qs a b w =
-    own_all 0 w.entries (all_then is_of_session (λ e. e.seat == 0)
+    own_all 0 w.entries (all_then is_plain_entry (λ e. e.seat == 0)
     (λ e is. (and_parts (e.seat == 0) (e.by == 0) (and_parts ((e.seat == 0) && (e.by == 0)) (leaves_running e.what) is).0).0) w.entries w.plain)
 
 -- the owner's desk goes on with them
@@ -193,13 +186,13 @@ turn_works a b goes made =
       fates_are = tt;
     }
   where
-    both_all : (es : List Entry) → list_all (λ e. e.seat == 0) es ≡ true → list_all is_made_in_turn es ≡ true → list_all is_of_session es ≡ true
+    both_all : (es : List Entry) → list_all (λ e. e.seat == 0) es ≡ true → list_all is_made_in_turn es ≡ true → list_all is_plain_entry es ≡ true
     both_all [] seats turns = refl
     both_all (e ∷ es) seats turns =
         let one = and_parts (e.seat == 0) (list_all (λ x. x.seat == 0) es) seats in
         let two = and_parts (is_made_in_turn e) (list_all is_made_in_turn es) turns in
         let made_ = and_parts (is_of_turn e) (e.by == 0) two.0 in
-        and_from (is_of_session e) (list_all is_of_session es)
+        and_from (is_plain_entry e) (list_all is_plain_entry es)
         (and_from ((e.seat == 0) && (e.by == 0)) (leaves_running e.what) (and_from (e.seat == 0) (e.by == 0) one.0 made_.1) (turn_runs e.what made_.0).0)
         (both_all es one.1 two.1)
 

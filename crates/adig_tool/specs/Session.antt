@@ -1,14 +1,11 @@
 -- How one request is brought to its end: it is accepted, turns are made with waits between them, and it is called.
 use Rattle.std.specs.List.{list_all}
-use Rattle.std.specs.Prelude.{Bool, Err, IsTrue, List, Ok, Option, Result, Some, [], false, map, true, ℕ, ◌&&◌, ◌==◌, ◌∷◌, ◌≡◌, ◌≤◌}
+use Rattle.std.specs.Prelude.{Err, IsTrue, List, Ok, Option, Result, Some, [], map, ℕ, ◌∷◌, ◌≡◌, ◌≤◌}
 use mathlib.Core.List.{IsPrefix}
 use Rattle.item_list.specs.declared.no_memory.NoMemory.{NoMemory}
 use Rattle.net_world.specs.declared.log.WorldCall.{WorldCall}
 use Rattle.chan_types.specs.Plans.{blank}
 use Rattle.chan_types.specs.declared.answer.Answer.{Answer}
-use Rattle.chan_types.specs.declared.journal.Entry.{Entry}
-use Rattle.chan_types.specs.declared.journal.What.{What}
-use Rattle.chan_types.specs.declared.journal.What.TheVariants.{Accept, Arrive, Cancel, Destroy, Expire, Fault, Start, Take, Servers}
 use Rattle.chan_types.specs.declared.spec.Spec.{Spec}
 use Rattle.channel_model.specs.Completion.{fate, taken}
 use Rattle.channel_model.specs.Course.{IsCourse, IsCourseSoFar}
@@ -18,26 +15,11 @@ use Rattle.channel_model.specs.Lawful.{IsLawful}
 use Rattle.channel_progress.specs.Waking.{NoWaitFailed}
 use Rattle.channel_table.specs.Calling.{Owned}
 use Rattle.net_world.specs.Logs.{LogGets}
+use Rattle.owner_laws.specs.PlainEntries.{is_plain_entry}
 use Rattle.owner_laws.specs.Sessions.{BeginsPending, BeginsSoFar, EndsWithFailedWait, longest_slice}
 use Rattle.run_end.specs.Left.{LeavesPending}
 use Rattle.run_end.specs.declared.loop_end.LoopEnd.{LoopEnd}
 use Rattle.run_end.specs.declared.loop_end.LoopEnd.TheVariants.{Completed, Stalled, WaitFault}
-
--- the event leaves the channel running: it neither cancels nor destroys, nor does it set servers
-abbrev pub leaves_running : What → Bool
-leaves_running (Accept number spec script) = true
-leaves_running Cancel = false
-leaves_running Destroy = false
-leaves_running (Take number) = true
-leaves_running (Start number leg server link id mix moment) = true
-leaves_running (Arrive server link bytes) = true
-leaves_running (Expire number leg moment) = true
-leaves_running (Fault server link moment) = true
-leaves_running (Servers list) = false
-
--- the entry is of the channel's one seat, no callback commanded it, and it leaves the channel running
-abbrev pub is_of_session : Entry → Bool
-is_of_session entry = (entry.seat == 0) && (entry.by == 0) && leaves_running entry.what
 
 -- the request as it is accepted: it is the channel's first, and its callback commands nothing
 abbrev pub first_request : Spec → Accepted
@@ -69,7 +51,7 @@ pub record IsSession (spec : Spec) (turns : ℕ) (result : Result LoopEnd NoMemo
   pub voice : new.voice ≡ old.voice
   pub lawful : IsLawful new.setting new.seen
   -- the journal has no other entries than the request's Accept, those of turns, and Takes
-  pub plain : IsTrue (list_all is_of_session new.seen)
+  pub plain : IsTrue (list_all is_plain_entry new.seen)
   pub accepted_is : HasAccepted spec result (accepted (past_of new.seen))
   -- each request that was taken was called, in this order, with its fate
   pub called : map Some answers ≡ map (λ number. fate new.setting number (past_of new.seen)) (taken (past_of new.seen))

@@ -16,7 +16,8 @@ use Rattle.event_runner.specs.State.{IsTurnOwner}
 use Rattle.event_runner.specs.UnderWay.{RunsSince, rested}
 use Rattle.net_world.specs.Logs.{LogGets}
 use Rattle.run_end.specs.declared.loop_end.LoopEnd.{LoopEnd}
-use Rattle.adig_tool.specs.Session.{FallsIntoTurns, is_of_session}
+use Rattle.adig_tool.specs.Session.{FallsIntoTurns}
+use Rattle.owner_laws.specs.PlainEntries.{is_plain_entry}
 use Rattle.owner_laws.specs.Sessions.{longest_slice}
 use Rattle.run_end.specs.Left.{LeavesPending}
 
@@ -33,7 +34,7 @@ pub record Works (accepts : List Accepted) (answers : List Answer) (old new : Ow
   pub lawful : IsLawful old.setting old.seen → IsLawful new.setting new.seen
   -- tokens stayed but those of requests that were accepted or taken
   pub names : NamesStay entries (Some old.names) (Some new.names)
-  pub plain : IsTrue (list_all is_of_session entries)
+  pub plain : IsTrue (list_all is_plain_entry entries)
   pub accepts_are : filter_map (λ entry. accepted_by entry.what) entries ≡ accepts
   pub takes_are : filter_map (λ entry. taken_by entry.what) entries ≡ map (λ answer. answer.number) answers
   pub fates_are : AllByRecursion (λ answer. fate new.setting answer.number (past_of new.seen) ≡ Some answer) answers

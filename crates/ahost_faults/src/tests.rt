@@ -1,7 +1,6 @@
 //! A run as plain data, and what it leaves.
 
 mod bodies;
-mod called;
 mod failing;
 mod outside;
 mod wanting;

@@ -1,56 +1,30 @@
 -- The closing of a channel: its Destroy, unless a callback has destroyed it, and the deliveries behind that.
-use Rattle.std.proofs.Common.{◌≡◌, ◌∙◌, ◌+◌, ◌||◌, Bool, true, false, not, cond, List, [], ◌∷◌, ◌++◌, refl, sym, ap, subst, inl, inr, arith}
-use Rattle.std.specs.Prelude.{Some, count_by, ◌⊎◌}
+use Rattle.std.proofs.Common.{◌≡◌, ◌∙◌, ◌+◌, Bool, true, false, not, [], ◌∷◌, ◌++◌, refl, sym, ap, subst, inl, inr}
+use Rattle.std.specs.Prelude.{Some, ◌⊎◌}
 use Rattle.std.proofs.lemmas.List.{append-nil}
-use Rattle.std.proofs.lemmas.List.Sums.{sum_by-cons}
 use Rattle.chan_types.specs.declared.journal.Entry.{Entry}
-use Rattle.chan_types.specs.declared.journal.What.{What}
-use Rattle.chan_types.specs.declared.journal.What.TheVariants.{Accept, Arrive, Cancel, Destroy, Expire, Fault, Servers, Start, Take}
+use Rattle.chan_types.specs.declared.journal.What.TheVariants.{Destroy}
 use Rattle.channel_model.specs.Completion.{ready}
-use Rattle.channel_model.specs.Journal.{Past, followed_by, is_destroy, is_destroyed, past_of}
+use Rattle.channel_model.specs.Journal.{followed_by, is_destroyed, past_of}
 use Rattle.channel_model.specs.Known.{Calls}
-use Rattle.channel_model.specs.Lawful.{IsAllowed, IsLawful, IsLawfulPast}
+use Rattle.channel_model.specs.Lawful.{IsLawful}
 use Rattle.channel_model.specs.Meanings.{Destroys}
 use Rattle.channel_model.specs.Names.{NamesBecome}
 use Rattle.event_runner.proofs.PauseLemmas.{names_same}
 use Rattle.channel_model.specs.Seen.{entries_of}
-use Rattle.channel_model.specs.Setting.{Setting}
 use Rattle.channel_model.proofs.Theorems.{followed_by-append, past_of-push}
 use Rattle.channel_table.specs.Calling.{Owned, known_by_owner}
 use Rattle.ticket_delivery.proofs.Theorems.{destroyed_later, destroyed_pending}
 use Rattle.ahost_tool.specs.Closing.{Closes}
 use Rattle.ahost_tool.specs.Delivering.{DeliversAll, IsIdle}
 use Rattle.ahost_tool.specs.declared.caller.Caller.{Caller}
-use Rattle.ahost_tool.proofs.ListLemmas.{denies}
+use Rattle.owner_laws.proofs.ListLemmas.{denies}
 use Rattle.ahost_tool.proofs.MoveLemmas.{quiet_all}
 use Rattle.owner_laws.proofs.Owner.{owned_same, owner_called}
 
 -- the entry that ends the channel
 abbrev pub closing : Entry
 closing = record { seat = 0; by = 0; what = Destroy }
-
--- there is at most one Destroy
-pub destroyed_once : (setting : Setting) (past : Past) → IsLawfulPast setting past → count_by is_destroy past ≡ cond (is_destroyed past) 1 0
-destroyed_once setting [] lawful = refl
-destroyed_once setting (what ∷ past) lawful = by what lawful.0 (sum_by-cons (λ w. cond (is_destroy w) 1 0) what past) (destroyed_once setting past lawful.1)
-  where
-    by : (w : What) → IsAllowed setting past w → count_by is_destroy (w ∷ past) ≡ cond (is_destroy w) 1 0 + count_by is_destroy past → count_by is_destroy past ≡ cond (is_destroyed past) 1 0 →
-        count_by is_destroy (w ∷ past) ≡ cond (is_destroy w || is_destroyed past) 1 0
-    by (Accept number spec script) allowed split rest = omega (arith, split, rest)
-    by Cancel allowed split rest = omega (arith, split, rest)
-    by Destroy allowed split rest = omega (arith, split, rest ∙ ap (λ b. cond b 1 0) allowed)
-    by (Take number) allowed split rest = omega (arith, split, rest)
-    by (Start number leg server link id mix moment) allowed split rest = omega (arith, split, rest)
-    by (Arrive server link bytes) allowed split rest = omega (arith, split, rest)
-    by (Expire number leg moment) allowed split rest = omega (arith, split, rest)
-    by (Fault server link moment) allowed split rest = omega (arith, split, rest)
-    by (Servers list) allowed split rest = omega (arith, split, rest)
-
--- as often as in the journal
-pub destroys_counted : (past : Past) (es : List Entry) → count_by is_destroy (followed_by past es) ≡ count_by is_destroy past + count_by (λ e. is_destroy e.what) es
-destroys_counted past [] = omega arith
-destroys_counted past (e ∷ es) =
-    omega (arith, destroys_counted (e.what ∷ past) es, sum_by-cons (λ w. cond (is_destroy w) 1 0) e.what past, sum_by-cons (λ (x : Entry). cond (is_destroy x.what) 1 0) e es)
 
 -- a denial that fails
 undenied : (x : Bool) → not x ≡ false → x ≡ true

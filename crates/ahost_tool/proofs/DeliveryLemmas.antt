@@ -10,17 +10,19 @@ use Rattle.std.specs.Prelude.{count_by, option_to_list, sum_by}
 use Rattle.chan_types.specs.Gives.{gives}
 use Rattle.chan_types.specs.Plans.{Plan}
 use Rattle.chan_types.specs.declared.answer.Answer.{Answer}
-use Rattle.chan_types.specs.declared.command.Command.{Command}
 use Rattle.chan_types.specs.declared.journal.Entry.{Entry}
 use Rattle.chan_types.specs.declared.journal.What.TheVariants.{Take}
 use Rattle.chan_types.specs.declared.orders.Orders.{Orders}
-use Rattle.channel_model.specs.Commands.{AllBecame, ArePerformed, IsPerformed, ObeysOrders, Outcome, Performance, commands_for, is_before_next, is_lost, is_one_of, is_other_work, is_own_take, left, lost, passed, position_behind, position_of, positions_from, positions_left}
+use Rattle.channel_model.specs.Commands.{AllBecame, ArePerformed, IsPerformed, ObeysOrders, Outcome, Performance, commands_for, is_before_next, is_lost, is_one_of, is_other_work, is_own_take, position_of, positions_from, positions_left}
 use Rattle.channel_model.specs.Completion.{occurrences, taken, taken_by}
 use Rattle.channel_model.specs.Journal.{Past, followed_by, past_of}
 use Rattle.channel_model.specs.Setting.{Setting}
-use Rattle.ticket_delivery.proofs.Theorems.{IsCommanded, behind_end, command_takes, earlier, positions-append}
-use Rattle.ahost_tool.proofs.ListLemmas.{all_pass, all_positions, any_front, any_last, apart_by, each_differs, each_of, each_passes, no_positions, or_other, or_right, positions_below}
-use Rattle.ahost_tool.proofs.ObeyLemmas.{IsDone, are_performed_longer, before_none, commands_of_done, done_later, past_on, spares, takes_it}
+use Rattle.ticket_delivery.proofs.Theorems.{IsCommanded, command_takes, earlier, positions-append}
+use Rattle.seat_laws.proofs.ListLemmas.{each_passes, or_right}
+use Rattle.seat_laws.proofs.OwnLemmas.{positions_below}
+use Rattle.seat_laws.proofs.PerformedLemmas.{before_none, outcomes_within, spares, takes_it}
+use Rattle.ahost_tool.proofs.ListLemmas.{all_pass, all_positions, any_front, any_last, apart_by, each_differs, each_of, no_positions, or_other}
+use Rattle.ahost_tool.proofs.ObeyLemmas.{IsDone, are_performed_longer, commands_of_done, done_later, past_on}
 
 -- the entry by which a request is taken
 abbrev pub take_entry : ℕ → Entry
@@ -42,25 +44,6 @@ pub commanded_taken : (by : ℕ) (past : Past) (es : List Entry) → AllByRecurs
 commanded_taken by past [] each = refl
 commanded_taken by past (e ∷ es) each =
     commanded_taken by (e.what ∷ past) es each.1 ∙ ap (λ found. taken past ++ option_to_list found) (command_takes e.what each.0.2) ∙ append-nil (taken past)
-
--- ---- positions of outcomes
-
--- a position behind an outcome isn't before it
-behind_it : (o : Outcome) → position_of o ≤ position_behind o
-behind_it (left k) = omega arith
-behind_it (passed k) = omega arith
-behind_it (lost k) = omega arith
-
--- commands were performed from a position on, and within the journal
-outcomes_within : (setting : Setting) (journal : List Entry) (least from : ℕ) (commands : List Command) (outcomes : List Outcome) → least ≤ from → AllBecame setting journal from commands outcomes →
-    AllByRecursion (λ o. (least ≤ position_of o) × (position_of o ≤ length journal)) outcomes
-outcomes_within setting journal least from [] [] le became = tt
-outcomes_within setting journal least from [] (o ∷ os) le became = absurd became
-outcomes_within setting journal least from (c ∷ cs) [] le became = absurd became
-outcomes_within setting journal least from (c ∷ cs) (o ∷ os) le became = (
-  (omega (arith, le, became.0), omega (arith, behind_it o, behind_end setting journal c o became.1)),
-  outcomes_within setting journal least (position_behind o) cs os (omega (arith, le, became.0, behind_it o)) became.2,
-)
 
 -- ---- a request that wasn't taken
 

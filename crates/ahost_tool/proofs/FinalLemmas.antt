@@ -16,8 +16,9 @@ use Rattle.completion_ticket.specs.States.{CalledState}
 use Rattle.ahost_tool.specs.Delivering.{DeliversAll, DeliversSome}
 use Rattle.ahost_tool.specs.Kinds.{is_of_session, is_ruled}
 use Rattle.ahost_tool.specs.declared.caller.Caller.{Caller}
+use Rattle.seat_laws.proofs.ListLemmas.{first_passes}
 use Rattle.ahost_tool.proofs.ClosingLemmas.{closing}
-use Rattle.ahost_tool.proofs.ListLemmas.{denies, first_passes, take_front}
+use Rattle.owner_laws.proofs.ListLemmas.{denies, take_front}
 use Rattle.ahost_tool.proofs.MoveLemmas.{same_none}
 use Rattle.owner_laws.proofs.Owner.{owner_called}
 

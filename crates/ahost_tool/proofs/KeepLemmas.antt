@@ -29,12 +29,14 @@ use Rattle.ahost_tool.specs.Places.{PlacesState}
 use Rattle.ahost_tool.specs.Returning.{ArePlacedFrom, AreBack, AreUnasked, HaveAsked, IsLeftOf, KeepsPlaces, PutsBack, numbers_asked}
 use Rattle.ahost_tool.specs.Session.{CountsPending, HasObeyed, IsKept, SetsLater, servers_entry}
 use Rattle.ahost_tool.specs.declared.caller.Caller.{Caller}
+use Rattle.seat_laws.proofs.ListLemmas.{each_passes}
+use Rattle.seat_laws.proofs.PerformedLemmas.{takes_it}
 use Rattle.ahost_tool.proofs.ClosingLemmas.{closes_lawful, destroy_is}
 use Rattle.ahost_tool.proofs.DeliveryLemmas.{commanded_taken, take_entry}
 use Rattle.ahost_tool.proofs.KeptLemmas.{kept_more}
-use Rattle.ahost_tool.proofs.ListLemmas.{all_pass, apart_by, each_passes}
+use Rattle.ahost_tool.proofs.ListLemmas.{all_pass, apart_by}
 use Rattle.ahost_tool.proofs.MoveLemmas.{Moves, commanded_asks, moves_kept, moves_trans, moves_turn, one_commanded, one_lawful, one_names, one_numbered, one_seen, one_untaken, quiet_some, same_none, turn_plain}
-use Rattle.ahost_tool.proofs.ObeyLemmas.{is_plain, past_on, takes_it}
+use Rattle.ahost_tool.proofs.ObeyLemmas.{is_plain, past_on}
 use Rattle.ahost_tool.proofs.PlaceLemmas.{all_back, numbers_none, numbers_parts, placed_more, places_put, still_accepted, still_named}
 use Rattle.ahost_tool.proofs.PromiseLemmas.{Ends, ends_are, ends_asked, ends_of}
 use Rattle.ahost_tool.proofs.ThenLemmas.{moves_set}

@@ -19,8 +19,9 @@ use Rattle.channel_model.specs.Setting.{Setting}
 use Rattle.ahost_tool.specs.Kinds.{is_cancel, is_of_session, is_ruled}
 use Rattle.ticket_delivery.proofs.Theorems.{IsCommanded, fate_behind}
 use Rattle.ahost_tool.specs.Session.{HasObeyed}
+use Rattle.seat_laws.proofs.ListLemmas.{each_passes}
 use Rattle.ahost_tool.proofs.DeliveryLemmas.{commanded_taken, obeyed_one, take_entry}
-use Rattle.ahost_tool.proofs.ListLemmas.{all_pass, each_of, each_passes}
+use Rattle.ahost_tool.proofs.ListLemmas.{all_pass, each_of}
 use Rattle.ahost_tool.proofs.ObeyLemmas.{IsDone, done_of, is_plain, obeyed_more, past_on, plain_taken}
 
 -- what a request's callback commanded is a session's

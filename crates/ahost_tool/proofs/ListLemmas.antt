@@ -1,10 +1,12 @@
 -- Lists of tests, of numbers and of positions.
-use Rattle.std.proofs.Common.{◌≡◌, ◌≢◌, ◌∙◌, ℕ, suc, zero, ◌+◌, ◌≤◌, ◌<◌, ◌==◌, ◌||◌, Bool, true, false, not, cond, List, [], ◌∷◌, ◌++◌, Some, is_some, length, map, take, find, refl, sym, ap, arith, eq-eqb, ne_eqb}
-use Rattle.std.proofs.lemmas.Bool.{and_from, and_parts}
-use Rattle.std.specs.List.{AllByRecursion, list_all, list_any, range_with_len}
+use Rattle.std.proofs.Common.{◌≡◌, ◌≢◌, ◌∙◌, ℕ, ◌+◌, ◌==◌, ◌||◌, Bool, true, false, not, cond, List, [], ◌∷◌, ◌++◌, Some, is_some, map, find, refl, sym, ap, arith, eq-eqb, ne_eqb}
+use Rattle.std.proofs.lemmas.Bool.{and_from}
+use Rattle.std.specs.List.{AllByRecursion, list_all, list_any}
 use Rattle.chan_types.specs.declared.journal.Entry.{Entry}
 use Rattle.channel_model.specs.Commands.{positions_from}
 use Rattle.channel_model.specs.Completion.{occurrences}
+use Rattle.seat_laws.proofs.ListLemmas.{first_passes, or_left, or_right}
+use Rattle.owner_laws.proofs.ListLemmas.{denies}
 
 -- ---- tests
 
@@ -12,19 +14,6 @@ use Rattle.channel_model.specs.Completion.{occurrences}
 pub denied : (b : Bool) → b ≡ false → not b ≡ true
 denied true is = absurd (cc is)
 denied false is = refl
-
-pub denies : (b : Bool) → not b ≡ true → b ≡ false
-denies true is = absurd (cc is)
-denies false is = refl
-
--- a disjunction holds by either part
-pub or_left : (a b : Bool) → a ≡ true → (a || b) ≡ true
-or_left true b h = refl
-or_left false b h = absurd (cc h)
-
-pub or_right : (a b : Bool) → b ≡ true → (a || b) ≡ true
-or_right true b h = refl
-or_right false b h = h
 
 -- the second part of one whose first fails
 pub or_other : (a b : Bool) → a ≡ false → (a || b) ≡ true → b ≡ true
@@ -46,26 +35,12 @@ apart_by m n differ = denied (m == n) (ne_eqb m n differ)
 
 -- ---- lists
 
--- the first and the others of a list that passes a test
-pub first_passes : {A : Type 0} (test : A → Bool) (x : A) (xs : List A) → list_all test (x ∷ xs) ≡ true → (test x ≡ true) × (list_all test xs ≡ true)
-first_passes test x xs h = and_parts (test x) (list_all test xs) h
-
 -- a test that follows from another
 pub all_pass : {A : Type 0} (p q : A → Bool) → ((x : A) → p x ≡ true → q x ≡ true) → (xs : List A) → list_all p xs ≡ true → list_all q xs ≡ true
 all_pass p q follows [] h = refl
 all_pass p q follows (x ∷ xs) h =
     let now = first_passes p x xs h in
     and_from (q x) (list_all q xs) (follows x now.0) (all_pass p q follows xs now.1)
-
--- a test that follows from what holds of each
-pub each_passes : {A : Type 0} (P : A → Type 0) (q : A → Bool) → ((x : A) → P x → q x ≡ true) → (xs : List A) → AllByRecursion P xs → list_all q xs ≡ true
-each_passes P q follows [] h = refl
-each_passes P q follows (x ∷ xs) h = and_from (q x) (list_all q xs) (follows x h.0) (each_passes P q follows xs h.1)
-
--- what holds of each, and what follows from that
-pub each_follows : {A : Type 0} (P Q : A → Type 0) → ((x : A) → P x → Q x) → (xs : List A) → AllByRecursion P xs → AllByRecursion Q xs
-each_follows P Q follows [] h = tt
-each_follows P Q follows (x ∷ xs) h = (follows x h.0, each_follows P Q follows xs h.1)
 
 -- of lists one behind the other
 pub each_of : {A : Type 0} (P : A → Type 0) (xs ys : List A) → AllByRecursion P xs → AllByRecursion P ys → AllByRecursion P (xs ++ ys)
@@ -93,11 +68,6 @@ pub none_any : {A : Type 0} (p q : A → Bool) → ((x : A) → p x ≡ true →
 none_any p q follows [] h = refl
 none_any p q follows (x ∷ xs) h = let now = first_passes p x xs h in none_from (q x) (list_any q xs) (follows x now.0) (none_any p q follows xs now.1)
 
--- the front of two lists
-pub take_front : {A : Type 0} (xs ys : List A) → take (length xs) (xs ++ ys) ≡ xs
-take_front [] ys = refl
-take_front (x ∷ xs) ys = ap (λ l. x ∷ l) (take_front xs ys)
-
 -- ---- how often numbers stand in a list
 
 -- a number that stands in none of the items isn't found among them, and one that stands there is
@@ -109,11 +79,6 @@ found_if_asked number n (x ∷ xs) some = by (number x == n) some (found_if_aske
         is_some (cond b (Some x) (find (λ y. number y == n) xs)) ≡ true
     by true some rest = refl
     by false some rest = rest some
-
--- a run from 1 on has no 0
-pub no_zero : (from len : ℕ) → 1 ≤ from → occurrences 0 (range_with_len from len) ≡ 0
-no_zero from zero le = refl
-no_zero from (suc len) le = rw (ne_eqb from 0 (λ e. omega (arith, le, e))) (no_zero (from + 1) len (omega arith))
 
 -- a number that stands nowhere in a list differs from each of it
 pub each_differs : (n : ℕ) (xs : List ℕ) → occurrences n xs ≡ 0 → AllByRecursion (λ x. x ≢ n) xs
@@ -139,20 +104,3 @@ all_positions test from [] all = refl
 all_positions test from (x ∷ xs) all =
     let now = first_passes test x xs all in
     ap (λ b. cond b (from ∷ []) [] ++ positions_from test (from + 1) xs) now.0 ∙ ap (λ l. from ∷ l) (all_positions test (from + 1) xs now.1)
-
--- positions lie between the first and the last
-pub positions_above : (test : Entry → Bool) (from least : ℕ) (xs : List Entry) → least ≤ from → AllByRecursion (λ p. least ≤ p) (positions_from test from xs)
-positions_above test from least [] le = tt
-positions_above test from least (x ∷ xs) le = by (test x) (positions_above test (from + 1) least xs (omega (arith, le)))
-  where
-    by : (b : Bool) → AllByRecursion (λ p. least ≤ p) (positions_from test (from + 1) xs) → AllByRecursion (λ p. least ≤ p) (cond b (from ∷ []) [] ++ positions_from test (from + 1) xs)
-    by true rest = (le, rest)
-    by false rest = rest
-
-pub positions_below : (test : Entry → Bool) (from end : ℕ) (xs : List Entry) → from + length xs ≤ end → AllByRecursion (λ p. p < end) (positions_from test from xs)
-positions_below test from end [] le = tt
-positions_below test from end (x ∷ xs) le = by (test x) (positions_below test (from + 1) end xs (omega (arith, le)))
-  where
-    by : (b : Bool) → AllByRecursion (λ p. p < end) (positions_from test (from + 1) xs) → AllByRecursion (λ p. p < end) (cond b (from ∷ []) [] ++ positions_from test (from + 1) xs)
-    by true rest = (omega (arith, le), rest)
-    by false rest = rest

@@ -1,5 +1,5 @@
 -- Turns of a session with what stands between them, one behind the other, and how they come to their end.
-use Rattle.std.proofs.Common.{◌≡◌, ◌≢◌, ◌∙◌, ℕ, ◌+◌, ◌-◌, ◌≤◌, List, [], ◌∷◌, Bool, true, false, length, refl, ap, sym, subst, inl, inr, ⊎_elim, arith}
+use Rattle.std.proofs.Common.{◌≡◌, ◌≢◌, ◌∙◌, ℕ, ◌+◌, ◌-◌, ◌≤◌, List, [], Bool, true, false, refl, ap, sym, subst, inl, inr, ⊎_elim, arith}
 use Rattle.std.specs.Prelude.{Err, Ok, None, Option, Some, Result, is_err, min, ◌^◌, ◌⊎◌, ⊤}
 use Rattle.std.proofs.lemmas.Bool.{and_from}
 use Rattle.std.proofs.lemmas.List.Folds.{list_all-append}
@@ -34,6 +34,7 @@ use Rattle.run_end.specs.declared.loop_end.LoopEnd.{LoopEnd}
 use Rattle.run_end.specs.declared.loop_end.LoopEnd.TheVariants.{Completed, Stalled, WaitFault as WaitFailed}
 use Rattle.owner_laws.proofs.Begun.{IsAsked}
 use Rattle.owner_laws.proofs.Well.{AreBegun, EndsWell, IsBegunSoFar, RunsWell, first_turned, well_begun, well_behind, well_cut, well_failed, well_paused, well_so_far, well_turned}
+use Rattle.owner_laws.proofs.ListLemmas.{none_counted, some_counted}
 use Rattle.ahost_tool.proofs.MoveLemmas.{Moves, moves_go_on, moves_kept, moves_none, moves_trans, moves_turn, own_all, session_seats, turn_unset}
 use Rattle.owner_laws.proofs.Owner.{looked_same, paused_same, waited_pending}
 use Rattle.ahost_tool.proofs.PromptLemmas.{IsPrompted, MovesBetween, none_unprompted, prompted_none, prompted_trans}
@@ -46,14 +47,6 @@ pub record Made {B : Type 0} (reach : Reach) (turns : ℕ) (old new : Caller B) 
   pub told : (log : Option (List WorldCall)) → RunsSince longest_slice 0 0 rested (known_by_owner old.alone) before log log_old →
       RunsWith (IsPrompted old.alone.setting) longest_slice turns 0 reach (known_by_owner new.alone) after log log_new
   pub well : (log : Option (List WorldCall)) → RunsSince longest_slice 0 0 rested (known_by_owner old.alone) before log log_old → RunsWell turns new.alone log log_new
-
--- a count of what is pending
-some_counted : (count : ℕ) (xs : List ℕ) → count ≡ length xs → count ≢ 0 → xs ≢ []
-some_counted count xs is some none = some (is ∙ ap length none)
-
-none_counted : (count : ℕ) (xs : List ℕ) → count ≡ length xs → count ≡ 0 → xs ≡ []
-none_counted count [] is none = refl
-none_counted count (x ∷ xs) is none = let h : length (x ∷ xs) ≡ 0 = sym is ∙ none in absurd (omega (arith, h))
 
 -- what was counted is pending, and nothing is ready
 pub asked_here : (count : ℕ) (b c : Owned) → CountsPending count b c → count ≢ 0 → ready b.setting (past_of b.seen) ≡ [] → IsAsked c

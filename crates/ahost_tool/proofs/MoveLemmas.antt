@@ -33,9 +33,11 @@ use Rattle.ahost_tool.specs.Kinds.{has_servers, is_cancel, is_of_session, is_rul
 use Rattle.channel_table.specs.Commanded.{IsOfCommand}
 use Rattle.ahost_tool.specs.Session.{HasObeyed, IsKept}
 use Rattle.ahost_tool.specs.declared.caller.Caller.{Caller}
+use Rattle.seat_laws.proofs.ListLemmas.{each_follows, each_passes, first_passes}
+use Rattle.owner_laws.proofs.ListLemmas.{denies}
 use Rattle.ahost_tool.proofs.DeliveryLemmas.{take_entry}
 use Rattle.ahost_tool.proofs.KeptLemmas.{commanded_of_session, kept_more, kept_one}
-use Rattle.ahost_tool.proofs.ListLemmas.{all_pass, any_of, denies, each_follows, each_passes, first_passes, none_any}
+use Rattle.ahost_tool.proofs.ListLemmas.{all_pass, any_of, none_any}
 use Rattle.ahost_tool.proofs.ObeyLemmas.{done_of, is_plain}
 use Rattle.owner_laws.proofs.Owner.{owned_same, owner_called, owner_went_on, seen_by}
 use Rattle.ticket_delivery.proofs.Theorems.{IsCommanded, all_commanded, all_entries, all_handed_on, command_takes, entries_weigh, gives_less, take_weighs}

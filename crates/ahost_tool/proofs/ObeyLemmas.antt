@@ -1,5 +1,5 @@
 -- Callbacks that were obeyed stay so in a longer journal, and the callback of one request more is obeyed once its commands were performed.
-use Rattle.std.proofs.Common.{◌≡◌, ◌≢◌, ◌∙◌, ℕ, ◌+◌, ◌≤◌, ◌<◌, ◌==◌, ◌&&◌, ◌||◌, Bool, true, false, not, cond, nat_lt, nat_le, List, [], ◌∷◌, ◌++◌, Option, Some, None, is_some, length, map, find, option_map, refl, sym, ap, subst, arith, eqb-true, le-leb, leb-true, ltb-true}
+use Rattle.std.proofs.Common.{◌≡◌, ◌≢◌, ◌∙◌, ℕ, ◌+◌, ◌≤◌, ◌==◌, ◌&&◌, ◌||◌, Bool, true, false, not, nat_lt, nat_le, List, [], ◌∷◌, ◌++◌, Option, Some, None, is_some, length, map, find, option_map, refl, sym, ap, subst, arith, eqb-true, le-leb, leb-true}
 use Rattle.std.proofs.lemmas.Bool.{and_from, and_parts}
 use Rattle.std.proofs.lemmas.List.{append-nil}
 use Rattle.std.proofs.lemmas.List.Folds.{list_all-append}
@@ -17,7 +17,11 @@ use Rattle.channel_model.specs.Completion.{fate, occurrences, requests, taken, t
 use Rattle.channel_model.specs.Journal.{Accepted, Past, accepted, followed_by, past_of, script_of}
 use Rattle.channel_model.specs.Lawful.{IsLawfulPast}
 use Rattle.channel_model.specs.Setting.{Setting}
-use Rattle.ahost_tool.proofs.ListLemmas.{all_pass, apart_by, each_follows, first_passes, found_if_asked, no_positions, no_zero, or_left, positions_above}
+use Rattle.seat_laws.proofs.ListLemmas.{each_follows, first_passes, no_zero, or_left}
+use Rattle.seat_laws.proofs.OwnLemmas.{positions_above}
+use Rattle.seat_laws.proofs.PerformedLemmas.{before_more, spares, takes_it}
+use Rattle.seat_laws.proofs.ShiftLemmas.{untaken}
+use Rattle.ahost_tool.proofs.ListLemmas.{all_pass, apart_by, found_if_asked, no_positions}
 use Rattle.ticket_delivery.proofs.Theorems.{fate_behind, positions-append}
 
 -- ---- fates and scripts
@@ -76,42 +80,10 @@ commands_of_done setting journal orders request d =
 
 -- ---- entries that leave what one request's callback commanded as it was
 
--- the entry takes the request
-abbrev pub takes_it : ℕ → Entry → Bool
-takes_it request entry = option_map_or (λ number. number == request) (taken_by entry.what) false
-
--- the request's callback didn't command the entry, which doesn't take it
-abbrev pub spares : ℕ → Entry → Bool
-spares request entry = not (entry.by == request) && not (takes_it request entry)
-
 -- a disjunct that holds where nothing else is asked
 both_no : (a b : Bool) → not b ≡ true → not (a && b) ≡ true
 both_no true b fails = fails
 both_no false b fails = refl
-
--- a position that is before the next of some is before the next of more that are behind
-before_more : (position from : ℕ) (ps qs : List ℕ) → AllByRecursion (λ q. position ≤ q) qs → is_before_next position from ps ≡ true → is_before_next position from (ps ++ qs) ≡ true
-before_more position from [] [] above h = refl
-before_more position from [] (q ∷ qs) above h = by (nat_lt from q) (before_more position from [] qs above.1 refl)
-  where
-    by : (b : Bool) → is_before_next position from qs ≡ true → cond b (nat_le position q) (is_before_next position from qs) ≡ true
-    by true rest = le-leb position q above.0
-    by false rest = rest
-before_more position from (p ∷ ps) qs above h = by (nat_lt from p) h (before_more position from ps qs above)
-  where
-    by : (b : Bool) → cond b (nat_le position p) (is_before_next position from ps) ≡ true → (is_before_next position from ps ≡ true → is_before_next position from (ps ++ qs) ≡ true) →
-        cond b (nat_le position p) (is_before_next position from (ps ++ qs)) ≡ true
-    by true h rest = h
-    by false h rest = rest h
-
--- nothing stands behind a position above all
-pub before_none : (position from : ℕ) (ps : List ℕ) → AllByRecursion (λ p. p < from + 1) ps → is_before_next position from ps ≡ true
-before_none position from [] below = refl
-before_none position from (p ∷ ps) below = by (nat_lt from p) refl (before_none position from ps below.1)
-  where
-    by : (b : Bool) → nat_lt from p ≡ b → is_before_next position from ps ≡ true → cond b (nat_le position p) (is_before_next position from ps) ≡ true
-    by true is rest = absurd (omega (arith, below.0, ltb-true from p is))
-    by false is rest = rest
 
 module _ (setting : Setting) (journal es : List Entry) (orders : Orders) (last later : ℕ) (within : last ≤ length journal) (le : last ≤ later) where
   module _ (p : Performance) (done : IsDone setting (past_of journal) p.request) (spared : list_all (spares p.request) es ≡ true) where
@@ -189,11 +161,6 @@ module _ (setting : Setting) (journal es : List Entry) (orders : Orders) (last l
 -- the seat made the entry on nobody's command, and took nothing with it
 abbrev pub is_plain : Entry → Bool
 is_plain entry = (entry.seat == 0) && (entry.by == 0) && not (is_some (taken_by entry.what))
-
--- nothing that isn't taken is taken
-untaken : (found : Option ℕ) (request : ℕ) → not (is_some found) ≡ true → not (option_map_or (λ number. number == request) found false) ≡ true
-untaken None request fails = refl
-untaken (Some n) request fails = absurd (cc fails)
 
 -- such an entry spares each request but 0
 plain_spares : (request : ℕ) → request ≢ 0 → (e : Entry) → is_plain e ≡ true → spares request e ≡ true

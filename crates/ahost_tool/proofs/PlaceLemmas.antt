@@ -26,9 +26,12 @@ use Rattle.channel_table.specs.Calling.{Owned}
 use Rattle.completion_ticket.specs.States.{CallbackState, CalledState, called_with, token_name}
 use Rattle.ahost_tool.specs.Places.{PlacesState}
 use Rattle.ahost_tool.specs.Returning.{ArePlaced, ArePlacedFrom, AreBack, AreUnasked, AsksWith, HaveAsked, IsLeftOf, IsPlaced, PutsBack, TakesNext, body_name, numbers_asked}
+use Rattle.seat_laws.proofs.ListLemmas.{first_passes}
+use Rattle.seat_laws.proofs.PerformedLemmas.{takes_it}
+use Rattle.owner_laws.proofs.ListLemmas.{denies}
 use Rattle.ahost_tool.proofs.FinalLemmas.{taken_once_each}
-use Rattle.ahost_tool.proofs.ListLemmas.{denies, first_passes, none_from}
-use Rattle.ahost_tool.proofs.ObeyLemmas.{past_on, takes_it}
+use Rattle.ahost_tool.proofs.ListLemmas.{none_from}
+use Rattle.ahost_tool.proofs.ObeyLemmas.{past_on}
 
 -- ---- the requests that the run asked
 

@@ -1,6 +1,6 @@
 -- The whole promise of a run: of its session, and of the closing behind that.
 use Rattle.std.proofs.Common.{◌≡◌, ◌≢◌, ◌∙◌, ℕ, ◌-◌, ◌^◌, ◌≤◌, Bool, true, false, not, cond, min, List, [], ◌∷◌, ◌++◌, length, refl, sym, ap, subst, inl, inr, arith}
-use Rattle.std.specs.Prelude.{None, Ok, Option, Result, Some, count_by, ◌⊎◌}
+use Rattle.std.specs.Prelude.{Ok, Option, Result, Some, count_by, ◌⊎◌}
 use Rattle.std.specs.List.{AllByRecursion, list_all}
 use Rattle.std.proofs.lemmas.Bool.{and_from}
 use Rattle.std.proofs.lemmas.List.{append-nil, append_assoc}
@@ -21,7 +21,6 @@ use Rattle.channel_model.specs.Lawful.{IsLawful}
 use Rattle.channel_model.specs.Setting.{Setting}
 use Rattle.channel_model.proofs.Theorems.{destroy_completes, past_of-push, so_far_nearly}
 use Rattle.channel_table.specs.Calling.{Owned}
-use Rattle.net_world.specs.Logs.{LogGets}
 use Rattle.event_runner.proofs.Theorems.{told_as}
 use Rattle.tool_line.specs.Outside.{Outside, OutputTold}
 use Rattle.tool_line.specs.Put.{IsPut}
@@ -40,7 +39,9 @@ use Rattle.ahost_tool.specs.declared.caller.Caller.{Caller}
 use Rattle.run_end.specs.declared.ended.Ended.{Ended}
 use Rattle.run_end.specs.declared.loop_end.LoopEnd.{LoopEnd}
 use Rattle.run_end.specs.declared.loop_end.LoopEnd.TheVariants.{Completed, Stalled, WaitFault}
-use Rattle.ahost_tool.proofs.ClosingLemmas.{closing, destroy_destroys, destroy_is, destroyed_once, destroys_counted}
+use Rattle.seat_laws.proofs.DestroyLemmas.{destroyed_once, destroys_counted}
+use Rattle.owner_laws.proofs.ListLemmas.{log_same}
+use Rattle.ahost_tool.proofs.ClosingLemmas.{closing, destroy_destroys, destroy_is}
 use Rattle.ticket_delivery.proofs.Theorems.{destroyed_later, destroyed_pending}
 use Rattle.ahost_tool.proofs.EndLemmas.{Came, accepted_full, accepted_part, bad_of, came, comes_to_end, complete_of, end_known, good_of, last_other, last_page, page_of_end, paged, served_ok, stall_of, traffic_of, unlost, wait_of}
 use Rattle.ahost_tool.proofs.FinalLemmas.{Behind, before_closing, closing_is, none_delivered, taken_once_each}
@@ -349,11 +350,6 @@ nothing_called setting later turns =
       none_failed = λ other served. refl;
       all_turns = λ is. absurd (cc is);
     }
-
--- a log that nothing was added to
-log_same : (P : List WorldCall → Type 0) → P [] → (log : Option (List WorldCall)) → LogGets P log log
-log_same P holds None = refl
-log_same P holds (Some log) = ([], ap Some (sym (append-nil log)), holds)
 
 pub promise_early : (asked : Asked) (setting : Setting) (turns : ℕ) (outside : Outside) → Promise asked setting turns (record { status = 5; journal = []; calls = [] }) outside outside
 promise_early asked setting turns outside = record {

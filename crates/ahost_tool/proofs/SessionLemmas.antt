@@ -34,8 +34,9 @@ use Rattle.ahost_tool.specs.Session.{AcceptsAll, AsksFirst, FallsIntoTurns, HasA
 use Rattle.owner_laws.specs.Sessions.{longest_slice}
 use Rattle.ahost_tool.specs.declared.caller.Caller.{Caller}
 use Rattle.run_end.specs.declared.loop_end.LoopEnd.{LoopEnd}
+use Rattle.seat_laws.proofs.ListLemmas.{or_right}
 use Rattle.ahost_tool.proofs.KeptLemmas.{kept_more}
-use Rattle.ahost_tool.proofs.ListLemmas.{all_pass, none_any, none_of, or_right}
+use Rattle.ahost_tool.proofs.ListLemmas.{all_pass, none_any, none_of}
 use Rattle.ahost_tool.proofs.LoopLemmas.{falls_short}
 use Rattle.owner_laws.proofs.Well.{well_unbegun}
 use Rattle.ahost_tool.proofs.MoveLemmas.{accepted_parts, own_all, ruled_seats, session_ruled}

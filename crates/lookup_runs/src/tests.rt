@@ -1,6 +1,5 @@
 //! What hosts are answered: by the nameserver over loopback, by a hosts file, and by rule.
 
-mod bound;
 mod serving;
 mod threads;
 

@@ -1,13 +1,10 @@
 //! `adig` asks the nameserver of `tns`, each over its real network.
 
-mod bound;
-
 use adig_tool::run as ask;
-use bound::Bound;
 use item_list::Bytes;
 use net_world::{MemFiles, MemSink, Sent, World};
 use sock_engine::SockWorld;
-use sock_listener::RealListener;
+use sock_listener::{Bound, RealListener};
 use std::alloc::Global;
 use std::collections::BTreeMap;
 use std::net::{Ipv4Addr, Net, SocketAddr, UdpSocket};

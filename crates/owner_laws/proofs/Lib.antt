@@ -3,3 +3,4 @@ pub mod Destroyed
 pub mod Waits
 pub mod Begun
 pub mod Well
+pub mod ListLemmas

@@ -1,1 +1,2 @@
+pub mod PlainEntries
 pub mod Sessions

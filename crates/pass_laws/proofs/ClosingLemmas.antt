@@ -1,26 +1,25 @@
 -- How a channel that was finished was closed: where, and that it was destroyed once.
-use Rattle.std.proofs.Common.{◌≡◌, ◌≢◌, ◌∙◌, ℕ, ◌+◌, ◌||◌, Bool, true, false, not, cond, List, [], ◌∷◌, ◌++◌, Some, None, length, map, take, refl, sym, ap, subst, inl, inr, arith, append_assoc}
+use Rattle.std.proofs.Common.{◌≡◌, ◌≢◌, ◌∙◌, ℕ, ◌+◌, Bool, true, false, not, cond, List, [], ◌∷◌, ◌++◌, Some, None, length, map, take, refl, sym, ap, subst, inl, inr, arith, append_assoc}
 use Rattle.std.proofs.lemmas.Bool.{and_parts}
 use Rattle.std.proofs.lemmas.List.{append-nil, append_cancel_left}
-use Rattle.std.proofs.lemmas.List.Sums.{sum_by-cons}
 use Rattle.std.specs.List.{AllByRecursion, list_all}
-use Rattle.std.specs.Prelude.{count_by, filter, is_some, ◌⊎◌}
+use Rattle.std.specs.Prelude.{filter, is_some, ◌⊎◌}
 use Rattle.atomic_table.specs.Seated.{TableId}
 use Rattle.chan_types.specs.declared.journal.Entry.{Entry}
-use Rattle.chan_types.specs.declared.journal.What.{What}
-use Rattle.chan_types.specs.declared.journal.What.TheVariants.{Accept, Arrive, Cancel, Destroy, Expire, Fault, Servers, Start, Take}
+use Rattle.chan_types.specs.declared.journal.What.TheVariants.{Destroy}
 use Rattle.chan_types.specs.declared.orders.Orders.{Orders}
 use Rattle.chan_types.specs.declared.ticket.Ticket.{Ticket}
 use Rattle.channel_model.proofs.Theorems.{followed_by-append, past_of-push, ready-behind}
 use Rattle.channel_model.specs.Commands.{closing_from, closing_position, past_at}
 use Rattle.channel_model.specs.Completion.{completed_by, pending, ready}
-use Rattle.channel_model.specs.Journal.{Past, followed_by, is_destroy, is_destroyed, past_of}
+use Rattle.channel_model.specs.Journal.{Past, followed_by, is_destroyed, past_of}
 use Rattle.channel_model.specs.Known.{Calls}
-use Rattle.channel_model.specs.Lawful.{IsAllowed, IsLawfulPast, first}
+use Rattle.channel_model.specs.Lawful.{first}
 use Rattle.channel_model.specs.Meanings.{Destroys, Takes}
 use Rattle.channel_model.specs.Seen.{entries_of}
 use Rattle.channel_model.specs.Setting.{Setting}
 use Rattle.completion_ticket.specs.States.{CallbackState, CalledState}
+use Rattle.seat_laws.proofs.DestroyLemmas.{destroyed_once, destroys_counted}
 use Rattle.seat_laws.proofs.ShiftLemmas.{GoesBy}
 use Rattle.shared_channel.specs.Finishing.{DeliversSome, Finishes}
 use Rattle.shared_channel.specs.Passes.{PassView, desk_of}
@@ -63,29 +62,6 @@ closing_there k [] rest closing is h = rw is (omega arith)
 closing_there k (e ∷ es) rest closing is h =
     let now = and_parts (not (is_closing e)) (list_all (λ x. not (is_closing x)) es) h in
     rw (denies (is_closing e) now.0) (omega (arith, closing_there (k + 1) es rest closing is now.1))
-
--- ---- one Destroy at most
-
-destroyed_once : (setting : Setting) (past : Past) → IsLawfulPast setting past → count_by is_destroy past ≡ cond (is_destroyed past) 1 0
-destroyed_once setting [] lawful = refl
-destroyed_once setting (what ∷ past) lawful = by what lawful.0 (sum_by-cons (λ w. cond (is_destroy w) 1 0) what past) (destroyed_once setting past lawful.1)
-  where
-    by : (w : What) → IsAllowed setting past w → count_by is_destroy (w ∷ past) ≡ cond (is_destroy w) 1 0 + count_by is_destroy past → count_by is_destroy past ≡ cond (is_destroyed past) 1 0 →
-        count_by is_destroy (w ∷ past) ≡ cond (is_destroy w || is_destroyed past) 1 0
-    by (Accept number spec script) allowed split rest = omega (arith, split, rest)
-    by Cancel allowed split rest = omega (arith, split, rest)
-    by Destroy allowed split rest = omega (arith, split, rest ∙ ap (λ b. cond b 1 0) allowed)
-    by (Take number) allowed split rest = omega (arith, split, rest)
-    by (Start number leg server link id mix moment) allowed split rest = omega (arith, split, rest)
-    by (Arrive server link bytes) allowed split rest = omega (arith, split, rest)
-    by (Expire number leg moment) allowed split rest = omega (arith, split, rest)
-    by (Fault server link moment) allowed split rest = omega (arith, split, rest)
-    by (Servers list) allowed split rest = omega (arith, split, rest)
-
-destroys_counted : (past : Past) (es : List Entry) → count_by is_destroy (followed_by past es) ≡ count_by is_destroy past + count_by (λ e. is_destroy e.what) es
-destroys_counted past [] = omega arith
-destroys_counted past (e ∷ es) =
-    omega (arith, destroys_counted (e.what ∷ past) es, sum_by-cons (λ w. cond (is_destroy w) 1 0) e.what past, sum_by-cons (λ (x : Entry). cond (is_destroy x.what) 1 0) e es)
 
 -- what makes nothing of a list that is empty
 filter_none : (test : ℕ → Bool) (ns : List ℕ) → ns ≡ [] → filter test ns ≡ []

@@ -12,7 +12,7 @@ use Rattle.channel_model.specs.Meanings.{Meaning, Takes}
 use Rattle.channel_model.specs.Seen.{entries_of}
 use Rattle.completion_ticket.specs.States.{CallbackState, CalledState}
 use Rattle.seat_laws.proofs.ShiftLemmas.{GoesBy, goes_by}
-use Rattle.seat_laws.specs.Shifts.{DoesWorks, Makes, Telling, Work, called_for, calling, delivering, freely, handed_over, is_free, requests_told, taking, taking_entry, tellings}
+use Rattle.seat_laws.specs.Shifts.{DoesWorks, Makes, Telling, Work, called_for, calling, delivering, freely, handed_over, is_free, taking, taking_entry, tellings}
 use Rattle.shared_channel.specs.Passes.{PassView, desk_of}
 use Rattle.shared_channel.specs.Spending.{Spends}
 use Rattle.shared_channel.specs.Under.{plan_of}
@@ -45,9 +45,6 @@ called_for-append (freely ∷ xs) ys = called_for-append xs ys
 called_for-append (taking n ∷ xs) ys = called_for-append xs ys
 called_for-append (calling t ∷ xs) ys = ap (λ l. t.answer.number ∷ l) (called_for-append xs ys)
 called_for-append (delivering t ∷ xs) ys = called_for-append xs ys
-
-pub told-append : (xs ys : List Work) → requests_told (xs ++ ys) ≡ requests_told xs ++ requests_told ys
-told-append xs ys = ap (map (λ (t : Telling). t.answer.number)) (tellings-append xs ys) ∙ map-append (λ (t : Telling). t.answer.number) (tellings xs) (tellings ys)
 
 -- what a desk does leaves its seat and the setting
 pub went_along : (orders : Orders) (works : List Work) (old new : Known) → DoesWorks orders works old new → GoesBy (λ e. true) old new

@@ -118,6 +118,19 @@ pub fn calls_told(alloc: Global, calls: &[WorldCall], shown: Shown) -> Result<St
     Ok(text)
 }
 
+/// Whether a journal and what a network sent, wrote and was told are told by these lines.
+pub fn are_told(
+    alloc: Global,
+    entries: &[Entry],
+    journal: &str,
+    calls: &[WorldCall],
+    traffic: &str,
+) -> Result<bool, NoMemory> {
+    let of_entries = journal_told(alloc, entries)?;
+    let of_calls = calls_told(alloc, calls, Shown::Traffic)?;
+    Ok(of_entries.as_str() == journal && of_calls.as_str() == traffic)
+}
+
 /// The bytes that were sent as datagrams and written to links, one behind the other.
 pub fn sent_in(alloc: Global, calls: &[WorldCall]) -> Result<Vec<u8>, NoMemory> {
     let mut all = Vec::new(alloc);

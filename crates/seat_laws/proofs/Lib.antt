@@ -5,3 +5,4 @@ pub mod RowLemmas
 pub mod ShiftLemmas
 pub mod TakenLemmas
 pub mod ObeyLemmas
+pub mod DestroyLemmas

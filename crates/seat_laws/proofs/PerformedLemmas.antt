@@ -41,7 +41,7 @@ pub record IsOwnPerformed (setting : Setting) (journal : List Entry) (seat reque
 -- ---- in a longer journal
 
 -- a position that is before the next of some is before the next of more that are behind
-before_more : (position from : ℕ) (ps qs : List ℕ) → AllByRecursion (λ q. position ≤ q) qs → is_before_next position from ps ≡ true → is_before_next position from (ps ++ qs) ≡ true
+pub before_more : (position from : ℕ) (ps qs : List ℕ) → AllByRecursion (λ q. position ≤ q) qs → is_before_next position from ps ≡ true → is_before_next position from (ps ++ qs) ≡ true
 before_more position from [] [] above h = refl
 before_more position from [] (q ∷ qs) above h = by (nat_lt from q) (before_more position from [] qs above.1 refl)
   where
@@ -56,7 +56,7 @@ before_more position from (p ∷ ps) qs above h = by (nat_lt from p) h (before_m
     by false h rest = rest h
 
 -- nothing stands behind a position above all
-before_none : (position from : ℕ) (ps : List ℕ) → AllByRecursion (λ p. p < from + 1) ps → is_before_next position from ps ≡ true
+pub before_none : (position from : ℕ) (ps : List ℕ) → AllByRecursion (λ p. p < from + 1) ps → is_before_next position from ps ≡ true
 before_none position from [] below = refl
 before_none position from (p ∷ ps) below = by (nat_lt from p) refl (before_none position from ps below.1)
   where
@@ -115,7 +115,7 @@ behind_it (passed k) = omega arith
 behind_it (lost k) = omega arith
 
 -- commands were performed from a position on, and within the journal
-outcomes_within : (setting : Setting) (journal : List Entry) (least from : ℕ) (commands : List Command) (outcomes : List Outcome) → least ≤ from → AllBecame setting journal from commands outcomes →
+pub outcomes_within : (setting : Setting) (journal : List Entry) (least from : ℕ) (commands : List Command) (outcomes : List Outcome) → least ≤ from → AllBecame setting journal from commands outcomes →
     AllByRecursion (λ o. (least ≤ position_of o) × (position_of o ≤ length journal)) outcomes
 outcomes_within setting journal least from [] [] le became = tt
 outcomes_within setting journal least from [] (o ∷ os) le became = absurd became

@@ -25,7 +25,7 @@ use Rattle.ticket_delivery.specs.Performing.{IsBy}
 -- ---- single entries
 
 -- nothing that isn't taken is taken
-untaken : (found : Option ℕ) (request : ℕ) → not (is_some found) ≡ true → not (option_map_or (λ number. number == request) found false) ≡ true
+pub untaken : (found : Option ℕ) (request : ℕ) → not (is_some found) ≡ true → not (option_map_or (λ number. number == request) found false) ≡ true
 untaken None request fails = refl
 untaken (Some n) request fails = absurd (cc fails)
 

@@ -1,12 +1,11 @@
 -- How a row of seats is joined from its end.
-use Rattle.std.proofs.Common.{◌≡◌, ℕ, ◌+◌, ◌<◌, List, [], ◌∷◌, ◌++◌, map, length, length-append, refl, sym, ap, ◌∙◌, subst, arith, inl, inr}
+use Rattle.std.proofs.Common.{◌≡◌, ℕ, ◌+◌, ◌<◌, List, [], ◌∷◌, ◌++◌, map, length, length-append, refl, sym, ap, ◌∙◌, subst, arith}
 use Rattle.std.proofs.lemmas.List.{get_or_append_left, get_or_push}
 use Rattle.std.proofs.lemmas.List.Elements.{Contains-append_right}
 use Rattle.std.specs.List.{Contains}
-use mathlib.Core.Logic.{dite}
 use native.Mathlib.Decide.{ℕ_discrete}
 use Rattle.atomic_table.specs.Seated.{TableId}
-use Rattle.seat_lock.specs.History.{SeatView, HasAll, IsJoin, left_behind}
+use Rattle.seat_lock.specs.History.{SeatView, IsJoin, left_behind}
 use Rattle.shared_parts_runs.specs.SeatRow.{IsSeat, AreSeats, HasRest}
 
 module _ {E T : Type 0} (lock : TableId) (count : ℕ) where
@@ -17,12 +16,6 @@ module _ {E T : Type 0} (lock : TableId) (count : ℕ) where
   -- the seats before it are a row
   pub first_seats : (row : List (SeatView E T)) (k : SeatView E T) → AreSeats lock count (row ++ k ∷ []) → AreSeats lock count row
   first_seats row k are n d lt = subst (IsSeat lock count n) (get_or_append_left row (k ∷ []) d n lt) (are n d (omega (arith, lt, length-append row (k ∷ []))))
-
-  -- the last seat of a row has all behind it
-  pub begins : (row : List (SeatView E T)) (k : SeatView E T) → length row + 1 ≡ count → AreSeats lock count (row ++ k ∷ []) → HasRest lock count row k
-  begins row k len are =
-      let s = last_seat row k are in
-      record { lock_is = s.lock_is; number_is = s.number_is; seats_are = s.seats_are; has = λ n lt below. absurd (omega (arith, lt, below, len)); rest = first_seats row k are }
 
   -- the next one, with what that one has, has all behind it
   pub goes_on : (row : List (SeatView E T)) (next k now : SeatView E T) → HasRest lock count (row ++ next ∷ []) k → IsJoin next k now → HasRest lock count row now
@@ -46,7 +39,3 @@ module _ {E T : Type 0} (lock : TableId) (count : ℕ) where
       there n lt below (no ne) =
           let len = length-append row (next ∷ []) in
           Contains-append_right (k.number ∷ []) (map (λ l. l.number) k.joined) n (h.has n (omega (arith, lt, ne, len, h.number_is)) below)
-
-  -- the first one has all
-  pub ends : (k : SeatView E T) → HasRest lock count [] k → HasAll k
-  ends k h n lt = dite (ℕ_discrete n 0) (λ e. inl (e ∙ sym h.number_is)) (λ ne. inr (h.has n (omega (arith, ne)) (omega (arith, lt, h.seats_are))))

@@ -1,10 +1,8 @@
 //! What the failure of a send, a connect, a write, a receive and a wait leaves: the whole journal, and the network's calls.
 
-use super::called::is_called_once;
 use super::outside::{Outside, outside_of};
 use super::{LINE, LINE_TRIED_ONCE, PAGE, REFUSED, SILENT, WAIT_FAULT, is_put, played};
-use adig_tool::Ended;
-use scenario::{Shown, calls_told, journal_told};
+use scenario::{are_told, is_called_once};
 use std::alloc::Global;
 use std::test::Fail;
 
@@ -287,23 +285,12 @@ fn leaves(alloc: Global, case: &Case) -> Result<bool, Fail> {
 /// The same where it is lent this.
 fn leaves_in(alloc: Global, case: &Case, outside: &mut Outside) -> Result<bool, Fail> {
     let ended = played(alloc, case.line, outside)?;
-    let is_so = ended.status == case.status && is_put(outside, case.put) && is_called_once(&ended);
-    Ok(is_so && is_told(alloc, case, &ended, outside)?)
-}
-
-/// Whether the journal and the network's calls are told by the wanted lines.
-fn is_told(alloc: Global, case: &Case, ended: &Ended, outside: &Outside) -> Result<bool, Fail> {
-    Ok(has_journal(alloc, ended, case.journal)? && has_called(alloc, outside, case.calls)?)
-}
-
-fn has_journal(alloc: Global, ended: &Ended, lines: &str) -> Result<bool, Fail> {
-    let told = journal_told(alloc, ended.journal.entries())?;
-    Ok(told.as_str() == lines)
-}
-
-fn has_called(alloc: Global, outside: &Outside, lines: &str) -> Result<bool, Fail> {
-    let told = calls_told(alloc, outside.world.log().calls(), Shown::Traffic)?;
-    Ok(told.as_str() == lines)
+    let entries = ended.journal.entries();
+    let is_so = ended.status == case.status
+        && is_put(outside, case.put)
+        && is_called_once(entries, &ended.calls);
+    let calls = outside.world.log().calls();
+    Ok(is_so && are_told(alloc, entries, case.journal, calls, case.calls)?)
 }
 
 #[test]

@@ -1,8 +1,9 @@
 //! Each call of the network fails in turn.
 
-use super::called::{failures_in, faults_in, is_called_once};
+use super::failures::{failures_in, faults_in};
 use super::outside::{Outside, outside_of};
 use super::{LINE, PAGE, SILENT, WAIT_FAULT, is_put, played};
+use scenario::is_called_once;
 use std::alloc::Global;
 use std::test::Fail;
 
@@ -73,7 +74,7 @@ fn leaves_in(alloc: Global, row: Row, outside: &mut Outside) -> Result<bool, Fai
             && is_put(outside, text_of(status))
             && faults_in(ended.journal.entries()) == faults
             && failures_in(outside.world.log().calls()) == faults
-            && is_called_once(&ended),
+            && is_called_once(ended.journal.entries(), &ended.calls),
     )
 }
 

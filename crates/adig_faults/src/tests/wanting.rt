@@ -1,9 +1,9 @@
 //! The run as memory is refused to it. With ample memory it is whole; `bench/refusals.py` refuses it one allocation.
 
-use super::called::is_called_once;
 use super::outside::{Outside, outside_of};
 use super::{LINE, PAGE, is_put, played};
 use adig_tool::Ended;
+use scenario::is_called_once;
 use std::alloc::Global;
 use std::test::Fail;
 
@@ -27,12 +27,18 @@ fn is_whole_in(alloc: Global, outside: &mut Outside) -> Result<bool, Fail> {
     if is_in_want(&ended, outside) {
         wanted()?;
     }
-    Ok(ended.status == 0 && is_put(outside, PAGE) && is_called_once(&ended))
+    Ok(
+        ended.status == 0
+            && is_put(outside, PAGE)
+            && is_called_once(ended.journal.entries(), &ended.calls),
+    )
 }
 
 /// Whether a run ended for want of memory as it has to.
 fn is_in_want(ended: &Ended, outside: &Outside) -> bool {
-    ended.status == OUT_OF_MEMORY && is_put(outside, "") && is_called_once(ended)
+    ended.status == OUT_OF_MEMORY
+        && is_put(outside, "")
+        && is_called_once(ended.journal.entries(), &ended.calls)
 }
 
 fn wanted() -> Result<(), RunWantedMemory> {

@@ -1,10 +1,10 @@
 //! Runs as memory is refused to them. With ample memory they are whole; `bench/refusals.py` refuses each of them one allocation.
 
 use super::bodies::Deed;
-use super::called::is_called_once;
 use super::outside::{Outside, outside_of};
 use super::{FOLLOWED, FOLLOWED_PAGE, Scenario, is_put, played};
 use ahost_tool::Ended;
+use scenario::is_called_once;
 use std::alloc::Global;
 use std::test::Fail;
 
@@ -74,12 +74,18 @@ fn is_whole_in(
     if is_in_want(&ended, outside) {
         wanted()?;
     }
-    Ok(ended.status == status && is_put(outside, page) && is_called_once(&ended))
+    Ok(
+        ended.status == status
+            && is_put(outside, page)
+            && is_called_once(ended.journal.entries(), &ended.calls),
+    )
 }
 
 /// Whether a run ended for want of memory as it has to.
 fn is_in_want(ended: &Ended, outside: &Outside) -> bool {
-    ended.status == OUT_OF_MEMORY && is_put(outside, "") && is_called_once(ended)
+    ended.status == OUT_OF_MEMORY
+        && is_put(outside, "")
+        && is_called_once(ended.journal.entries(), &ended.calls)
 }
 
 fn wanted() -> Result<(), RunWantedMemory> {

@@ -1,11 +1,10 @@
 //! The nameserver of `tns` in a thread, over a port of 127.0.0.1, and the options that name it.
 
-use super::bound::Bound;
 use item_list::Bytes;
 use net_addr::{Addr, ServerAddr, ServerList};
 use net_world::{MemFiles, MemSink, Sent};
 use resolv_options::Options;
-use sock_listener::RealListener;
+use sock_listener::{Bound, RealListener};
 use std::alloc::Global;
 use std::collections::BTreeMap;
 use std::net::{Ipv4Addr, Net, SocketAddr, UdpSocket};

@@ -4,7 +4,7 @@ use item_list::NoMemory;
 use net_world::Sent;
 use test_nameserver::{Heard, Listener};
 
-/// A listener that was told its port before.
+/// A listener that was told its port before, and keeps that one whatever it is told.
 #[derive(Drop)]
 pub struct Bound<L> {
     pub inner: L,

@@ -1,20 +1,19 @@
 //! Whether every request was called once.
 
-use ahost_tool::Ended;
-use chan_types::{Calls, What};
+use chan_types::{Calls, Entry, What};
 
 /// Whether each request that was accepted was called once, and nothing else was called.
-pub fn is_called_once(ended: &Ended) -> bool {
+pub fn is_called_once(entries: &[Entry], calls: &Calls) -> bool {
     let mut accepted = 0u64;
-    for entry in ended.journal.entries() {
+    for entry in entries {
         if let What::Accept { number, .. } = entry.what {
-            if calls_of(&ended.calls, number) != 1 {
+            if calls_of(calls, number) != 1 {
                 return false;
             }
             accepted = accepted.saturating_add(1);
         }
     }
-    accepted == count_of(&ended.calls)
+    accepted == count_of(calls)
 }
 
 /// How often this request was called.
