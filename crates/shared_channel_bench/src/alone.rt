@@ -13,13 +13,43 @@ use std::alloc::Global;
 
 /// So many requests, in rounds of ten. Answers how many callbacks were called.
 pub fn run_alone(alloc: Global, count: u64) -> Result<u64, NoMemory> {
-    let mut desk = Alone::make(alloc, Options::plain(alloc)?, Hosts::empty(alloc))?;
+    match channel(alloc) {
+        Ok(mut desk) => called_at(&mut desk, alloc, count),
+        Err(fault) => Err(fault),
+    }
+}
+
+/// A channel that was asked nothing.
+fn channel(alloc: Global) -> Result<Alone<Callback<Scripted>>, NoMemory> {
+    Alone::make(alloc, Options::plain(alloc)?, Hosts::empty(alloc))
+}
+
+/// The same at this channel: a check is long where a channel may be dropped in a loop.
+fn called_at(
+    desk: &mut Alone<Callback<Scripted>>,
+    alloc: Global,
+    count: u64,
+) -> Result<u64, NoMemory> {
     let mut hand = Hand::make(alloc)?;
     let mut calls = Calls::new();
-    for _ in 0..count / 10 {
-        round(&mut desk, &mut hand, &mut calls, alloc)?;
-    }
+    rounds(desk, &mut hand, &mut calls, alloc, count / 10)?;
     Ok(count_of(&calls))
+}
+
+/// So many rounds.
+fn rounds(
+    desk: &mut Alone<Callback<Scripted>>,
+    hand: &mut Hand,
+    calls: &mut Calls,
+    alloc: Global,
+    times: u64,
+) -> Result<(), NoMemory>
+    requires { hand.old.commands ≡ [] }
+{
+    for _ in 0..times {
+        round(desk, hand, calls, alloc)?;
+    }
+    Ok(())
 }
 
 /// Ten requests are asked, answered and delivered.

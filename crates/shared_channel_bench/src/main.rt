@@ -3,12 +3,17 @@
 //! thread. `times T N` does the first, and then asks and delivers N requests in T threads beside one that replies, and
 //! tells how long both took; `many T N` is the same with ten calls under one hold of the lock. With no words it does a
 //! few in two threads, both ways, and tells how many were accepted and called.
+//!
+//! `lock seat N`, `lock held N` and `lock mutex N` take N turns of the lock in this thread alone, each one by itself, ten in
+//! a hold, or under std's Mutex. `lock times T N` takes N turns in each of T threads and tells how long both took. With no
+//! words it takes a few turns in two threads too, and tells what was counted.
 #![tactic(auto)]
 
 mod alone;
 mod asking;
 mod backoff;
 mod held;
+mod lock;
 mod place;
 mod threads;
 
@@ -61,7 +66,8 @@ fn main(rt: HostRuntime) -> io::Result<()> {
         let (accepted, called) = counts_of(run_shared(&rt, alloc, 2, 1000, false));
         println!(rt; "{accepted} {called}")?;
         let (accepted, called) = counts_of(run_shared(&rt, alloc, 2, 1000, true));
-        return println!(rt; "{accepted} {called}");
+        println!(rt; "{accepted} {called}")?;
+        return lock::tell(&rt, "", None, None);
     };
     match kind.as_str() {
         "alone" => println!(rt;
@@ -72,6 +78,10 @@ fn main(rt: HostRuntime) -> io::Result<()> {
             let (_, called) = counts_of(run_one(&rt, alloc, number(words.next(), 1000)));
             println!(rt; "{called}")
         }
+        "lock" => match words.next() {
+            Some(kind) => lock::tell(&rt, kind.as_str(), words.next(), words.next()),
+            None => lock::tell(&rt, "", None, None),
+        },
         kind => {
             let held = kind == "many";
             let threads = number(words.next(), 2);

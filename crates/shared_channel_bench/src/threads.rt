@@ -1,6 +1,8 @@
 //! Requests of several threads at one channel, beside a thread that replies.
 
 ghost use Rattle.std.specs.Prelude.{◌≡◌};
+ghost use Rattle.shared_channel.specs.Finishing.{AreAllPasses};
+ghost use Rattle.shared_channel.specs.Settling.{AreSettled};
 ghost use Rattle.shared_channel.specs.Staying.{StaysSettled};
 
 use crate::asking::{NONE, count_of};
@@ -222,7 +224,15 @@ pub fn run_shared<R: Threads + Wait + Sync + Clock>(
     passes.push_reserved(right.0);
     passes.push_reserved(right.1);
     passes.push_reserved(replying);
-    Ok(end_of(finish(rt, channel, passes, NONE)))
+    Ok(end_of(finish_all(rt, channel, passes)))
+}
+
+/// What is left of a channel whose passes are all back. Who calls it says both that `finish` wants at once, so that how the
+/// passes came back is told once.
+fn finish_all<R: Wait>(rt: &R, channel: Channel<Scripted>, passes: Vec<Pass<Scripted>>) -> Finished
+    requires { AreAllPasses channel passes.items × AreSettled passes.items }
+{
+    finish(rt, channel, passes, NONE)
 }
 
 /// How many were accepted and called.
@@ -255,5 +265,5 @@ pub fn run_one<R: Wait + Clock>(rt: &R, alloc: Global, count: u64) -> Result<End
     let pass = last_pass(&channel, &mut passes);
     let pass = worked(rt, &channel, pass, alloc, count);
     passes.push_reserved(pass);
-    Ok(end_of(finish(rt, channel, passes, NONE)))
+    Ok(end_of(finish_all(rt, channel, passes)))
 }

@@ -2,6 +2,7 @@
 
 mod calls;
 mod each_call;
+mod ending;
 mod example;
 mod four_threads;
 mod held_alone;

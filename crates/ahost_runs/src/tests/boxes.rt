@@ -1,10 +1,10 @@
 //! Boxed bodies that record what they are told.
 
-ghost use Rattle.std.specs.Prelude.{◌≡◌, IfOk, None};
+ghost use Rattle.std.specs.Prelude.{◌≡◌, All, IfOk, None};
 
+use super::RUN;
 use super::bodies::report_script;
-use super::outside::outside_of;
-use super::{RUN, Scenario};
+use super::outside::{Outside, outside_of};
 use ahost_tool::{run_boxed, run_returning_bodies};
 use chan_types::{Addr, Answer, Refusal, Script};
 use completion_ticket::{Done, Hand, Scripted};
@@ -132,26 +132,40 @@ fn run_with(
     second: &Arc<Record, Global>,
     third: &Arc<Record, Global>,
 ) -> Result<(), Fail> {
-    let mut boxes: Vec<Box<dyn Done + Send + Drop>> = Vec::new(alloc);
-    boxes.push(Box::new(alloc, recording_body(alloc, first, 0)?)?)?;
-    boxes.push(Box::new(alloc, recording_body(alloc, second, 0)?)?)?;
-    boxes.push(Box::new(alloc, recording_body(alloc, third, 0)?)?)?;
-    let scenario = Scenario {
-        line: "192.0.2.1 x.onion",
-        ..RUN
-    };
-    let words = words_of(alloc, scenario.line)?;
-    let mut outside = outside_of(alloc, &scenario)?;
-    run_boxed(
-        alloc,
-        words.as_slice(),
-        boxes,
-        &mut outside.files,
-        &mut outside.world,
-        &mut outside.sink,
-        scenario.turns,
-    );
+    let words = words_of(alloc, "192.0.2.1 x.onion")?;
+    let mut outside = outside_of(alloc, &RUN)?;
+    let boxes = boxes_of(alloc, [first, second, third], [0, 0, 0])?;
+    run_lent(alloc, words.as_slice(), boxes, &mut outside);
     Ok(())
+}
+
+/// Three boxes whose bodies write into these records, with scripts of these tags.
+fn boxes_of(
+    alloc: Global,
+    records: [&Arc<Record, Global>; 3],
+    tags: [u64; 3],
+) -> Result<Vec<Box<dyn Done + Send + Drop>>, Fail>
+    ensures { IfOk result (λ boxes. All (λ body. told body ≡ None) boxes.items) }
+{
+    let [first, second, third] = records;
+    let mut boxes: Vec<Box<dyn Done + Send + Drop>> = Vec::new(alloc);
+    boxes.push(Box::new(alloc, recording_body(alloc, first, tags[0])?)?)?;
+    boxes.push(Box::new(alloc, recording_body(alloc, second, tags[1])?)?)?;
+    boxes.push(Box::new(alloc, recording_body(alloc, third, tags[2])?)?)?;
+    Ok(boxes)
+}
+
+/// Plays a run with these boxes. No other function calls `run_boxed`: its clauses are long.
+fn run_lent(
+    alloc: Global,
+    words: &[&str],
+    boxes: Vec<Box<dyn Done + Send + Drop>>,
+    outside: &mut Outside,
+)
+    requires { All (λ body. told body ≡ None) boxes.items }
+{
+    let Outside { files, world, sink } = outside;
+    run_boxed(alloc, words, boxes, files, world, sink, RUN.turns);
 }
 
 /// What a box says of itself: the tag of its script, and the number of the answer that it was told, or 0.
@@ -206,25 +220,32 @@ fn boxes_come_back(rt: HostRuntime) -> Result<(), Fail> {
 
 /// What three boxes say that a run with these words gave back, in their order.
 fn said_by_boxes(alloc: Global, line: &'static str) -> Result<Vec<Said>, Fail> {
+    let words = words_of(alloc, line)?;
+    let mut outside = outside_of(alloc, &RUN)?;
     let record = blank_record(alloc)?;
-    let mut boxes: Vec<Box<dyn Done + Send + Drop>> = Vec::new(alloc);
-    boxes.push(Box::new(alloc, recording_body(alloc, &record, 7)?)?)?;
-    boxes.push(Box::new(alloc, recording_body(alloc, &record, 8)?)?)?;
-    boxes.push(Box::new(alloc, recording_body(alloc, &record, 9)?)?)?;
-    let scenario = Scenario { line, ..RUN };
-    let words = words_of(alloc, scenario.line)?;
-    let mut outside = outside_of(alloc, &scenario)?;
-    let (_, back) = run_returning_bodies(
-        alloc,
-        words.as_slice(),
-        boxes,
-        &mut outside.files,
-        &mut outside.world,
-        &mut outside.sink,
-        scenario.turns,
-    );
+    let boxes = boxes_of(alloc, [&record, &record, &record], [7, 8, 9])?;
+    let back = given_back(alloc, words.as_slice(), boxes, &mut outside);
+    said_by(alloc, back.as_slice())
+}
+
+/// The boxes that a run gives back. No other function calls `run_returning_bodies`.
+fn given_back(
+    alloc: Global,
+    words: &[&str],
+    boxes: Vec<Box<dyn Done + Send + Drop>>,
+    outside: &mut Outside,
+) -> Vec<Box<dyn Done + Send + Drop>>
+    requires { All (λ body. told body ≡ None) boxes.items }
+{
+    let Outside { files, world, sink } = outside;
+    let (_, back) = run_returning_bodies(alloc, words, boxes, files, world, sink, RUN.turns);
+    back
+}
+
+/// What these boxes say.
+fn said_by(alloc: Global, boxes: &[Box<dyn Done + Send + Drop>]) -> Result<Vec<Said>, Fail> {
     let mut said = Vec::new(alloc);
-    for body in back.as_slice() {
+    for body in boxes {
         said.push((body.script().tag(), body.called().unwrap_or(0)))?;
     }
     Ok(said)

@@ -5,7 +5,7 @@ ghost use Rattle.net_world.specs.Script.{MayCome};
 
 use crate::failed::Failed;
 use adig_tool::run;
-use item_list::Bytes;
+use item_list::{Bytes, NoMemory};
 use net_world::{Got, MemFiles, MemSink, ScriptWorld, Timed, Waited, World};
 use std::alloc::Global;
 use std::collections::BTreeMap;
@@ -57,14 +57,25 @@ pub fn run_of(alloc: Global, turns: u64) -> Result<(u8, usize), Failed> {
 /// The calls of the network that such a run makes, and nothing else. Answers 0, and how many calls it made.
 pub fn bare(alloc: Global, turns: u64) -> Result<(u8, usize), Failed> {
     let mut world = noisy(alloc, turns)?;
+    call_all(&mut world, turns)?;
+    Ok((0, world.log().calls().len()))
+}
+
+/// Calls the network as a turn does, so many times, or until a wait fails.
+fn call_all(world: &mut ScriptWorld, turns: u64) -> Result<(), NoMemory> {
     for _ in 0..turns {
-        let _reading = World::now(&mut world)?;
-        let _came = World::receive(&mut world)?;
-        let _nothing = World::receive(&mut world)?;
-        let _word = World::word(&mut world)?;
-        if let Waited::Failed = World::wait(&mut world, 60_000)? {
+        if let Waited::Failed = call_once(world)? {
             break;
         }
     }
-    Ok((0, world.log().calls().len()))
+    Ok(())
+}
+
+/// Calls the network as one turn does, and answers how its wait ended.
+fn call_once(world: &mut ScriptWorld) -> Result<Waited, NoMemory> {
+    let _reading = World::now(world)?;
+    let _came = World::receive(world)?;
+    let _nothing = World::receive(world)?;
+    let _word = World::word(world)?;
+    World::wait(world, 60_000)
 }

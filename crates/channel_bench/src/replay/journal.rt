@@ -61,14 +61,25 @@ fn reply(alloc: Global) -> Result<Entry, Failed> {
 /// The entries in which so many requests are accepted, begun, answered and taken, one behind the other.
 fn answered(alloc: Global, requests: u64) -> Result<Vec<Entry>, Failed> {
     let mut journal = Vec::new(alloc);
-    for index in 0..requests {
-        let number = index + 1;
-        journal.push(accept(alloc, number)?)?;
-        journal.push(start(number))?;
-        journal.push(reply(alloc)?)?;
-        journal.push(entry(What::Take { number }))?;
-    }
+    add_all(alloc, &mut journal, requests)?;
     Ok(journal)
+}
+
+/// Adds the entries of so many requests.
+fn add_all(alloc: Global, journal: &mut Vec<Entry>, requests: u64) -> Result<(), Failed> {
+    for index in 0..requests {
+        add(alloc, journal, index + 1)?;
+    }
+    Ok(())
+}
+
+/// Adds the entries in which this request is accepted, begun, answered and taken.
+fn add(alloc: Global, journal: &mut Vec<Entry>, number: u64) -> Result<(), Failed> {
+    journal.push(accept(alloc, number)?)?;
+    journal.push(start(number))?;
+    journal.push(reply(alloc)?)?;
+    journal.push(entry(What::Take { number }))?;
+    Ok(())
 }
 
 /// The run of a channel with one server and an empty hosts file, in which so many requests are answered.

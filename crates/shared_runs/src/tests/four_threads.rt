@@ -3,12 +3,12 @@
 ghost use Rattle.std.specs.Prelude.{◌≡◌};
 ghost use Rattle.shared_channel.specs.Staying.{StaysSettled};
 
-use super::FOLLOW;
+use super::ending::ended;
 use super::moves::{Move, played};
 use super::telling::has_called_each;
 use chan_types::NoMemory;
 use completion_ticket::Scripted;
-use shared_channel::{Channel, Finished, Pass, finish, last_pass, plain_channel};
+use shared_channel::{Channel, Finished, Pass, last_pass, plain_channel};
 use std::alloc::Global;
 use std::sync::Wait;
 use std::test::*;
@@ -113,7 +113,7 @@ fn shared_by_four<R: Threads + Wait + Sync>(rt: &R, alloc: Global) -> Result<Fin
     passes.push_reserved(left.1);
     passes.push_reserved(right.0);
     passes.push_reserved(right.1);
-    Ok(finish(rt, channel, passes, FOLLOW))
+    Ok(ended(rt, channel, passes))
 }
 
 // Ten times, 10,000 requests of four threads are accepted, and each is called once.

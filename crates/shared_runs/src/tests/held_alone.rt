@@ -3,12 +3,12 @@
 ghost use Rattle.std.specs.Prelude.{◌≡◌};
 ghost use Rattle.shared_channel.specs.Staying.{StaysSettled};
 
-use super::FOLLOW;
+use super::ending::ended;
 use super::holds::{asked_at_once, delivered_some};
 use super::telling::{has_calls, has_journal};
 use chan_types::NoMemory;
 use completion_ticket::Scripted;
-use shared_channel::{Channel, Finished, Pass, finish, last_pass, plain_channel};
+use shared_channel::{Channel, Finished, Pass, last_pass, plain_channel};
 use std::alloc::Global;
 use std::sync::Wait;
 use std::test::*;
@@ -40,7 +40,7 @@ fn used_alone<R: Wait>(rt: &R, alloc: Global) -> Result<([u64; 5], Finished), No
     let pass = last_pass(&channel, &mut passes);
     let (pass, told) = used(rt, &channel, pass, alloc);
     passes.push_reserved(pass);
-    Ok((told, finish(rt, channel, passes, FOLLOW)))
+    Ok((told, ended(rt, channel, passes)))
 }
 
 // Where there is no room nothing is taken; each request is called once, in the order in which they became ready.

@@ -3,12 +3,12 @@
 ghost use Rattle.std.specs.Prelude.{◌≡◌};
 ghost use Rattle.shared_channel.specs.Staying.{StaysSettled};
 
-use super::FOLLOW;
+use super::ending::ended;
 use super::holds::{asked_at_once, delivered_some};
 use super::telling::has_called_each;
 use chan_types::{Entry, NoMemory, What};
 use completion_ticket::Scripted;
-use shared_channel::{Channel, Finished, Pass, Place, finish, last_pass, plain_channel};
+use shared_channel::{Channel, Finished, Pass, Place, last_pass, plain_channel};
 use std::alloc::Global;
 use std::sync::Wait;
 use std::test::*;
@@ -76,7 +76,7 @@ fn shared_by_two<R: Threads + Wait + Sync>(rt: &R, alloc: Global) -> Result<Fini
     let (left, right) = rounds_of_both(rt, &channel, left, right, alloc);
     passes.push_reserved(left);
     passes.push_reserved(right);
-    Ok(finish(rt, channel, passes, FOLLOW))
+    Ok(ended(rt, channel, passes))
 }
 
 /// An accept or a take, or another entry.

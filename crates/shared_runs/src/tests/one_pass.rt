@@ -5,12 +5,13 @@ ghost use Rattle.shared_channel.specs.Staying.{StaysSettled};
 
 use super::FOLLOW;
 use super::calls::asked_query;
+use super::ending::ended;
 use super::replies::{ADDRESS_REPLY, replied_address};
 use super::telling::{has_calls, has_journal};
 use chan_types::NoMemory;
 use channel_model::Desk;
 use completion_ticket::Scripted;
-use shared_channel::{Channel, Finished, Pass, Place, finish, last_pass, plain_channel, spend};
+use shared_channel::{Channel, Finished, Pass, Place, last_pass, plain_channel, spend};
 use std::alloc::Global;
 use std::sync::Wait;
 use std::test::*;
@@ -37,7 +38,7 @@ fn finished_at_once<R: Wait>(
 {
     let (channel, passes) = plain_channel(alloc, seats)?;
     let numbers = numbers_of(alloc, passes.as_slice());
-    let finished = finish(rt, channel, passes, FOLLOW);
+    let finished = ended(rt, channel, passes);
     Ok((numbers?, finished))
 }
 
@@ -77,7 +78,7 @@ fn used_alone<R: Wait>(rt: &R, alloc: Global) -> Result<([u64; 4], Finished), No
     let pass = last_pass(&channel, &mut passes);
     let (pass, told) = used(rt, &channel, pass, alloc);
     passes.push_reserved(pass);
-    Ok((told, finish(rt, channel, passes, FOLLOW)))
+    Ok((told, ended(rt, channel, passes)))
 }
 
 /// Whether a channel of so many passes numbers them from 0, and nothing happens in it but its end.

@@ -3,13 +3,13 @@
 ghost use Rattle.std.specs.Prelude.{◌≡◌};
 ghost use Rattle.shared_channel.specs.Staying.{StaysSettled};
 
-use super::FOLLOW;
 use super::calls::asked;
+use super::ending::ended;
 use super::moves::{Move, play};
 use super::telling::Played;
 use chan_types::{NoMemory, Script, Spec};
 use completion_ticket::Scripted;
-use shared_channel::{Channel, Pass, Place, finish, last_pass, plain_channel};
+use shared_channel::{Channel, Pass, Place, last_pass, plain_channel};
 use std::alloc::Global;
 use std::sync::Wait;
 
@@ -61,7 +61,7 @@ pub fn played_alone<R: Wait>(rt: &R, alloc: Global, row: Row<'_>) -> Result<Play
     let pass = last_pass(&channel, &mut passes);
     let (pass, told) = played_row(rt, &channel, pass, alloc, row);
     passes.push_reserved(pass);
-    let finished = finish(rt, channel, passes, FOLLOW);
+    let finished = ended(rt, channel, passes);
     Ok(Played {
         told: told?,
         finished,

@@ -3,12 +3,12 @@
 ghost use Rattle.std.specs.Prelude.{◌≡◌};
 ghost use Rattle.shared_channel.specs.Staying.{StaysSettled};
 
-use super::FOLLOW;
+use super::ending::ended;
 use super::moves::{Move, played};
 use super::telling::has_called_each;
 use chan_types::NoMemory;
 use completion_ticket::Scripted;
-use shared_channel::{Channel, Finished, Pass, finish, last_pass, plain_channel};
+use shared_channel::{Channel, Finished, Pass, last_pass, plain_channel};
 use std::alloc::Global;
 use std::sync::Wait;
 use std::test::*;
@@ -65,7 +65,7 @@ fn shared_by_two<R: Threads + Wait + Sync>(rt: &R, alloc: Global) -> Result<Fini
     passes.push_reserved(first);
     passes.push_reserved(second);
     passes.push_reserved(third);
-    Ok(finish(rt, channel, passes, FOLLOW))
+    Ok(ended(rt, channel, passes))
 }
 
 // 200 requests are accepted, and each is called once.

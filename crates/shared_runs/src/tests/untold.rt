@@ -4,15 +4,15 @@ ghost use Rattle.std.specs.Prelude.{◌≡◌, IfOk, vec_len};
 ghost use Rattle.shared_channel.specs.Making.{IsNewChannel, plain_setting};
 ghost use Rattle.shared_channel.specs.Staying.{AreAt, StaysSettled};
 
-use super::FOLLOW;
 use super::calls::delivered;
+use super::ending::ended;
 use super::example::ask_at;
 use chan_types::{Bytes, NoMemory, Script, Spec};
 use channel_journal::UntoldJournal;
 use completion_ticket::{Callback, Scripted};
 use hosts_file::Hosts;
 use resolv_options::Options;
-use shared_channel::{Channel, Finished, Pass, finish, last_pass};
+use shared_channel::{Channel, Finished, Pass, last_pass};
 use std::alloc::Global;
 use std::sync::Wait;
 use std::test::*;
@@ -70,7 +70,7 @@ fn used_alone<R: Wait>(rt: &R, alloc: Global) -> Result<(u64, Finished<UntoldJou
     let pass = last_pass(&channel, &mut passes);
     let (pass, told) = used(rt, &channel, pass, spec, alloc);
     passes.push_reserved(pass);
-    Ok((told, finish(rt, channel, passes, FOLLOW)))
+    Ok((told, ended(rt, channel, passes)))
 }
 
 #[test]

@@ -2,20 +2,11 @@ use Rattle.std.proofs.Common.{◌++◌, ◌∷◌, [], arith}
 use Rattle.shared_channel.proofs.Theorems.{all_stay_none, may_finish, one_back}
 use Rattle.shared_channel_bench.proofs.threads.run_shared.Goals as goal
 
-pub finish-requires-clause-all : goal.finish-requires-clause-all
-finish-requires-clause-all g c =
+pub finish_all-requires : goal.finish_all-requires
+finish_all-requires g c =
     let back-1 = one_back c.last_pass-first.new.passes.items (c.last_pass-first.new.passes.items) c.last_pass-first.ensures.items (all_stay_none c.last_pass-first.new.passes.items) c.asked_and_replied-asking.ensures.left.0 in
     let back-2 = one_back c.last_pass-second.new.passes.items (c.last_pass-first.new.passes.items ++ c.asked_and_replied-asking.result.0.0.0 ∷ []) c.last_pass-second.ensures.items back-1 c.asked_and_replied-asking.ensures.left.1 in
     let back-3 = one_back c.last_pass-third.new.passes.items ((c.last_pass-first.new.passes.items ++ c.asked_and_replied-asking.result.0.0.0 ∷ []) ++ c.asked_and_replied-asking.result.0.0.1 ∷ []) c.last_pass-third.ensures.items back-2 c.asked_and_replied-asking.ensures.right.0 in
     let back-4 = one_back c.last_pass-fourth.new.passes.items (((c.last_pass-first.new.passes.items ++ c.asked_and_replied-asking.result.0.0.0 ∷ []) ++ c.asked_and_replied-asking.result.0.0.1 ∷ []) ++ c.asked_and_replied-asking.result.0.1.0 ∷ []) c.last_pass-fourth.ensures.items back-3 c.asked_and_replied-asking.ensures.right.1 in
     let back-5 = one_back c.last_pass-fifth.new.passes.items ((((c.last_pass-first.new.passes.items ++ c.asked_and_replied-asking.result.0.0.0 ∷ []) ++ c.asked_and_replied-asking.result.0.0.1 ∷ []) ++ c.asked_and_replied-asking.result.0.1.0 ∷ []) ++ c.asked_and_replied-asking.result.0.1.1 ∷ []) c.last_pass-fifth.ensures.items back-4 c.asked_and_replied-asking.ensures.replying in
-    rw (c.push_reserved-5.ensures.items, c.push_reserved-4.ensures.items, c.push_reserved-3.ensures.items, c.push_reserved-2.ensures.items, c.push_reserved.ensures.items) (may_finish (((((c.last_pass-first.new.passes.items ++ c.asked_and_replied-asking.result.0.0.0 ∷ []) ++ c.asked_and_replied-asking.result.0.0.1 ∷ []) ++ c.asked_and_replied-asking.result.0.1.0 ∷ []) ++ c.asked_and_replied-asking.result.0.1.1 ∷ []) ++ c.asked_and_replied-asking.result.1 ∷ []) c.in_ok-channel.ensures.new (omega arith) back-5).0
-
-pub finish-requires-clause-settled : goal.finish-requires-clause-settled
-finish-requires-clause-settled g c =
-    let back-1 = one_back c.last_pass-first.new.passes.items (c.last_pass-first.new.passes.items) c.last_pass-first.ensures.items (all_stay_none c.last_pass-first.new.passes.items) c.asked_and_replied-asking.ensures.left.0 in
-    let back-2 = one_back c.last_pass-second.new.passes.items (c.last_pass-first.new.passes.items ++ c.asked_and_replied-asking.result.0.0.0 ∷ []) c.last_pass-second.ensures.items back-1 c.asked_and_replied-asking.ensures.left.1 in
-    let back-3 = one_back c.last_pass-third.new.passes.items ((c.last_pass-first.new.passes.items ++ c.asked_and_replied-asking.result.0.0.0 ∷ []) ++ c.asked_and_replied-asking.result.0.0.1 ∷ []) c.last_pass-third.ensures.items back-2 c.asked_and_replied-asking.ensures.right.0 in
-    let back-4 = one_back c.last_pass-fourth.new.passes.items (((c.last_pass-first.new.passes.items ++ c.asked_and_replied-asking.result.0.0.0 ∷ []) ++ c.asked_and_replied-asking.result.0.0.1 ∷ []) ++ c.asked_and_replied-asking.result.0.1.0 ∷ []) c.last_pass-fourth.ensures.items back-3 c.asked_and_replied-asking.ensures.right.1 in
-    let back-5 = one_back c.last_pass-fifth.new.passes.items ((((c.last_pass-first.new.passes.items ++ c.asked_and_replied-asking.result.0.0.0 ∷ []) ++ c.asked_and_replied-asking.result.0.0.1 ∷ []) ++ c.asked_and_replied-asking.result.0.1.0 ∷ []) ++ c.asked_and_replied-asking.result.0.1.1 ∷ []) c.last_pass-fifth.ensures.items back-4 c.asked_and_replied-asking.ensures.replying in
-    rw (c.push_reserved-5.ensures.items, c.push_reserved-4.ensures.items, c.push_reserved-3.ensures.items, c.push_reserved-2.ensures.items, c.push_reserved.ensures.items) (may_finish (((((c.last_pass-first.new.passes.items ++ c.asked_and_replied-asking.result.0.0.0 ∷ []) ++ c.asked_and_replied-asking.result.0.0.1 ∷ []) ++ c.asked_and_replied-asking.result.0.1.0 ∷ []) ++ c.asked_and_replied-asking.result.0.1.1 ∷ []) ++ c.asked_and_replied-asking.result.1 ∷ []) c.in_ok-channel.ensures.new (omega arith) back-5).1
+    rw (c.push_reserved-5.ensures.items, c.push_reserved-4.ensures.items, c.push_reserved-3.ensures.items, c.push_reserved-2.ensures.items, c.push_reserved.ensures.items) (may_finish (((((c.last_pass-first.new.passes.items ++ c.asked_and_replied-asking.result.0.0.0 ∷ []) ++ c.asked_and_replied-asking.result.0.0.1 ∷ []) ++ c.asked_and_replied-asking.result.0.1.0 ∷ []) ++ c.asked_and_replied-asking.result.0.1.1 ∷ []) ++ c.asked_and_replied-asking.result.1 ∷ []) c.in_ok-channel.ensures.new (omega arith) back-5)

@@ -2,12 +2,7 @@ use Rattle.std.proofs.Common.{◌++◌, ◌∷◌, [], arith}
 use Rattle.shared_channel.proofs.Theorems.{all_stay_none, may_finish, one_back}
 use Rattle.shared_runs.proofs.tests.row.played_alone.Goals as goal
 
-pub finish-finished-requires-clause-all : goal.finish-finished-requires-clause-all
-finish-finished-requires-clause-all g c =
+pub ended-finished-requires : goal.ended-finished-requires
+ended-finished-requires g c =
     let back-1 = one_back c.last_pass-pass.new.passes.items (c.last_pass-pass.new.passes.items) c.last_pass-pass.ensures.items (all_stay_none c.last_pass-pass.new.passes.items) c.played_row-pass.ensures in
-    rw (c.push_reserved.ensures.items) (may_finish (c.last_pass-pass.new.passes.items ++ c.played_row-pass.result.0 ∷ []) c.in_ok-channel.ensures.new (omega arith) back-1).0
-
-pub finish-finished-requires-clause-settled : goal.finish-finished-requires-clause-settled
-finish-finished-requires-clause-settled g c =
-    let back-1 = one_back c.last_pass-pass.new.passes.items (c.last_pass-pass.new.passes.items) c.last_pass-pass.ensures.items (all_stay_none c.last_pass-pass.new.passes.items) c.played_row-pass.ensures in
-    rw (c.push_reserved.ensures.items) (may_finish (c.last_pass-pass.new.passes.items ++ c.played_row-pass.result.0 ∷ []) c.in_ok-channel.ensures.new (omega arith) back-1).1
+    rw (c.push_reserved.ensures.items) (may_finish (c.last_pass-pass.new.passes.items ++ c.played_row-pass.result.0 ∷ []) c.in_ok-channel.ensures.new (omega arith) back-1)

@@ -2,7 +2,7 @@
 ghost use Rattle.std.specs.Prelude.{◌≡◌, ◌<◌, ◌≤◌};
 ghost use Rattle.seat_lock.specs.History.{IsSameSeat};
 
-use crate::counter::{Counter, Raise};
+use super::counter::{Counter, Raise};
 use seat_lock::{Seat, SeatLock, make};
 use std::io;
 use std::sync::{Mutex, Wait};
