@@ -1,0 +1,14 @@
+mod GivingLemmas
+mod GoneLemmas
+mod SettlingLemmas
+mod AskingLemmas
+mod LookLemmas
+mod RoundLemmas
+mod SeatLemmas
+mod AskedLemmas
+mod EndLemmas
+mod SeatedLemmas
+mod StartLemmas
+mod TurnsLemmas
+mod SendLemmas
+mod SessionLemmas
