@@ -1,0 +1,3 @@
+-- What crates above may cite: that calls through a fleet's passes leave them settled, and that a new fleet whose passes and helms stayed so may be finished.
+pub use Rattle.channel_fleet.proofs.StayLemmas.{all_at_still, all_stay_none, berths_stay_more, berths_stay_none, fleet_may_finish, helms_stay_none, last_at, last_stays, one_at, stays_ask, stays_cancels, stays_destroys, stays_show}
+pub use Rattle.channel_fleet.proofs.HelmLemmas.{one_helm, stays_serves}

@@ -1,0 +1,9 @@
+pub mod Routing
+pub mod Views
+pub mod Making
+pub mod Yards
+pub mod Calling
+pub mod Finishing
+pub mod Staying
+pub mod Steering
+pub mod Serving
