@@ -91,7 +91,7 @@ static ROWS: [OptionRow; 21] = [
     OptionRow {
         name: "workers",
         value: Some("NUMBER"),
-        text: "0, until threads deliver",
+        text: "so many threads call the callbacks, 0 to 16; else 0",
     },
     OptionRow {
         name: "load",
