@@ -27,6 +27,7 @@ use Rattle.tool_line.specs.Outside.{Outside, OutputTold}
 use Rattle.tool_line.specs.Put.{IsPut}
 use Rattle.tool_line.specs.declared.ending.Exit.{Exit}
 use Rattle.tool_line.specs.declared.ending.Exit.TheVariants.{Failure, OutOfMemory, Stalled as HasStalled, Success, WaitFault as FailedWait}
+use Rattle.run_end.specs.Ends.{IsPageEnd}
 use Rattle.acache_tool.specs.Asked.{Asked, setting_for}
 use Rattle.acache_tool.specs.Closing.{Closes, closing, end_by}
 use Rattle.acache_tool.specs.Completing.{IsComplete, IsGivenTime}
@@ -35,7 +36,7 @@ use Rattle.acache_tool.specs.Leaving.{AreGoodParts, AsksAll, IsAt, Leaves, numbe
 use Rattle.acache_tool.specs.Naming.{Scene}
 use Rattle.acache_tool.specs.Output.{text_at}
 use Rattle.acache_tool.specs.Parts.{Open, Part, journal_of, names_of, page, requests_of}
-use Rattle.acache_tool.specs.Promise.{IsClosed, IsPageEnd, IsTraffic, Promise}
+use Rattle.acache_tool.specs.Promise.{IsClosed, IsTraffic, Promise}
 use Rattle.net_world.specs.Cause.{Rose}
 use Rattle.net_addr.specs.declared.addr.Addr.{Addr}
 use Rattle.acache_tool.specs.Running.{IsRun}

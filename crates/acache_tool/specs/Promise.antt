@@ -20,6 +20,7 @@ use Rattle.tool_line.specs.Outside.{Outside}
 use Rattle.tool_line.specs.Put.{IsPut}
 use Rattle.tool_line.specs.declared.ending.Exit.{Exit}
 use Rattle.tool_line.specs.declared.ending.Exit.TheVariants.{Failure, OutOfMemory, Stalled, Success, WaitFault}
+use Rattle.run_end.specs.Ends.{IsPageEnd, IsRunEnd}
 use Rattle.acache_tool.specs.Asked.{Asked, setting_for}
 use Rattle.acache_tool.specs.Closing.{closing, take_entry}
 use Rattle.acache_tool.specs.Completing.{IsComplete, IsGivenTime}
@@ -29,14 +30,6 @@ use Rattle.acache_tool.specs.Leaving.{AreGoodParts}
 use Rattle.acache_tool.specs.Output.{text_at}
 use Rattle.acache_tool.specs.Parts.{AreRight, MayAsk, Open, Part, answers_of, cache_calls, journal_of, names_of, open_names, open_requests, page, requests_of}
 use Rattle.acache_tool.specs.Told.{AreTold, AreToldThen, longest_slice}
-
--- at this end each name has its answer, and the text is the page
-abbrev pub IsPageEnd : Exit → Type 0
-IsPageEnd end = (end ≡ Success) ⊎ (end ≡ Failure)
-
--- the ends to which a run comes whose words are understood
-abbrev pub IsRunEnd : Exit → Type 0
-IsRunEnd end = IsPageEnd end ⊎ (end ≡ WaitFault) ⊎ (end ≡ Stalled) ⊎ (end ≡ OutOfMemory)
 
 -- the journal was closed by one Destroy, which no callback commanded: before it stand the entries of the run, and behind it at most one Take
 pub record IsClosed (setting : Setting) (end : Exit) (parts : List Part) (journal : List Entry) : Type 0 where

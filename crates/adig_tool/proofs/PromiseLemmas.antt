@@ -33,14 +33,14 @@ use Rattle.tool_line.specs.Words.{Text}
 use Rattle.tool_line.specs.declared.ending.Exit.{Exit}
 use Rattle.tool_line.specs.declared.ending.Exit.TheVariants.{Failure, OutOfMemory, Stalled as HasStalled, Success, WaitFault as FailedWait}
 use Rattle.adig_tool.specs.Closing.{Closes}
-use Rattle.run_end.specs.Ends.{IsEndOf}
+use Rattle.run_end.specs.Ends.{IsEndOf, IsPageEnd, IsRunEnd}
 use Rattle.adig_tool.specs.Entries.{closing, is_own, is_steady, no_orders}
 use Rattle.tool_line.specs.Outside.{Outside, OutputTold}
 use Rattle.adig_tool.specs.Output.{book_of, page_for, text_at}
 use Rattle.journal_text.specs.declared.book.Book.{Book}
 use Rattle.resolv_options.specs.Values.{OptionValues}
 use Rattle.tool_line.specs.Put.{IsPut, PutsText}
-use Rattle.adig_tool.specs.Promise.{IsComplete, IsGivenTime, IsOver, IsPageEnd, IsRunEnd, IsTraffic, Promise}
+use Rattle.adig_tool.specs.Promise.{IsComplete, IsGivenTime, IsTraffic, Promise}
 use Rattle.adig_tool.specs.Session.{FallsIntoTurns, HasAccepted, IsSession, ShowsEnd, first_request}
 use Rattle.owner_laws.specs.PlainEntries.{is_plain_entry, leaves_running}
 use Rattle.owner_laws.specs.Sessions.{BeginsPending, BeginsSoFar, EndsWithFailedWait, longest_slice}
@@ -55,7 +55,7 @@ use Rattle.adig_tool.proofs.ListLemmas.{all_pass, one_at_most, three_hold}
 use Rattle.adig_tool.proofs.ObeyedLemmas.{obeyed}
 use Rattle.owner_laws.proofs.Waits.{last_failed}
 use Rattle.adig_tool.proofs.WholeLemmas.{closing_at, is_kept, kept_open, no_turn, whole, whole_accepted, whole_closed, whole_own}
-use Rattle.run_end.specs.Left.{LeavesPending}
+use Rattle.run_end.specs.Left.{IsOver, LeavesPending}
 use Rattle.run_end.specs.Ends.{AreGood}
 
 -- ---- entries of a session

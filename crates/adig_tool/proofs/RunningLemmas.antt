@@ -2,7 +2,6 @@
 use Rattle.std.proofs.Common.{◌≡◌, ◌≢◌, ℕ, List, [], ◌∷◌, length, refl, sym, ap, subst, ◌∙◌, inl, inr, arith, ltb-true, ltb-false}
 use Rattle.std.specs.Prelude.{Bool, Err, IfOk, None, Ok, Option, Result, Some, false, nat_lt, true}
 use Rattle.std.specs.String.{string_bytes}
-use Rattle.item_list.specs.declared.no_memory.NoMemory.{NoMemory}
 use Rattle.net_world.specs.Cause.{HasCause, Rose, is_not_read}
 use Rattle.net_world.specs.Files.{IsReadOf}
 use Rattle.net_world.specs.declared.answers.FileRead.{FileRead}
@@ -11,19 +10,17 @@ use Rattle.resolv_options.specs.Values.{OptionValues}
 use Rattle.chan_types.specs.declared.spec.Spec.{Spec}
 use Rattle.tool_line.specs.Adig.{AdigAsks, IsSaid}
 use Rattle.tool_line.specs.Files.{options_set}
-use Rattle.tool_line.specs.Lookup.{Lookup, lookup}
-use Rattle.tool_line.specs.Settings.{AreSetBy, SettingValues}
+use Rattle.tool_line.specs.Lookup.{lookup}
 use Rattle.tool_line.specs.Words.{Text}
-use Rattle.tool_line.specs.declared.switches.Switches.{Switches}
-use Rattle.net_addr.specs.declared.addr.Addr.{Addr}
 use Rattle.tool_line.specs.declared.adig.AdigAsk.{AdigAsk}
 use Rattle.tool_line.specs.declared.ending.Exit.TheVariants.{FileFault}
 use Rattle.tool_line.specs.declared.files.FileFault.{FileFault as FaultOfFile}
-use Rattle.tool_line.specs.declared.files.FileFault.TheVariants.{Failed, NoMemory as NoMemoryLeft, TooLarge}
 use Rattle.tool_line.specs.Outside.{FilesTold, Outside}
 use Rattle.tool_line.specs.Read.{HasRead, HasReadAt, read_call}
 use Rattle.tool_line.proofs.ReadLemmas.{read_none_at}
 use Rattle.net_world.specs.Logs.{LogGets}
+use Rattle.tool_line.proofs.SettingsLemmas.{same_settings, some_same}
+use Rattle.tool_line.proofs.FileLemmas.{ok_of}
 use Rattle.adig_tool.specs.Answered.{AreAnswered}
 use Rattle.adig_tool.specs.Running.{Comes, EndsEarly, IsRunFor, setting_with}
 use Rattle.run_end.specs.declared.ended.Ended.{Ended}
@@ -31,21 +28,6 @@ use Rattle.adig_tool.proofs.AnsweredLemmas.{comes_answered}
 use Rattle.adig_tool.proofs.PromiseLemmas.{promise_early}
 
 -- ---- words ask one thing
-
-some_same : {A : Type 0} (x y : A) → Some x ≡ Some y → x ≡ y
-some_same x y is = cc
-
--- settings that are set by the same words are the same
-same_settings : (under : Lookup) (a b : SettingValues) → AreSetBy under a → AreSetBy under b → a ≡ b
-same_settings under a b x y =
-    fields a.servers b.servers a.port b.port a.timeout b.timeout a.tries b.tries a.sources b.sources a.switches b.switches
-    (some_same a.servers b.servers (sym x.servers ∙ y.servers)) (some_same a.port b.port (sym x.port ∙ y.port)) (some_same a.timeout b.timeout (sym x.timeout ∙ y.timeout))
-    (some_same a.tries b.tries (sym x.tries ∙ y.tries)) (some_same a.sources b.sources (sym x.sources ∙ y.sources)) (x.switches ∙ sym y.switches)
-  where
-    fields : (s1 s2 : Option (List Addr)) (p1 p2 t1 t2 r1 r2 : Option ℕ) (u1 u2 : Option (List Addr)) (w1 w2 : Switches) → s1 ≡ s2 → p1 ≡ p2 → t1 ≡ t2 → r1 ≡ r2 → u1 ≡ u2 → w1 ≡ w2 →
-        ◌≡◌ {A = SettingValues} (record { servers = s1; port = p1; timeout = t1; tries = r1; sources = u1; switches = w1 })
-        (record { servers = s2; port = p2; timeout = t2; tries = r2; sources = u2; switches = w2 })
-    fields s1 s2 p1 p2 t1 t2 r1 r2 u1 u2 w1 w2 a b c d e f = cc
 
 -- the same uses
 pub same_uses : (words : List Text) (a b : AdigAsk) (x : AdigAsks words a) (y : AdigAsks words b) → x.uses ≡ y.uses
@@ -125,10 +107,6 @@ run_of ask turns ended files_before files_after before after file options read t
   answered = comes_answered ask.spec ask.journal turns (options_set ask.settings file) ended before after (subst (λ o. Comes ask.spec ask.journal turns o ended before after) (sym is) comes);
 }
 
--- what a read answered that didn't want memory
-abbrev ok_of : FileRead → Result FileRead NoMemory
-ok_of file = Ok file
-
 -- a run that came to something with this file, which was read at a path
 module _ (ask : AdigAsk) (turns : ℕ) (ended : Ended) (files_before files_after : FilesTold) (before after : Outside) (path : List ℕ) (file : FileRead)
     (same : path ≡ string_bytes ask.resolv) (read : IsReadOf files_before.files path 65536 file) (cause : HasCause files_before.faults files_after.faults is_not_read (ok_of file))
@@ -148,10 +126,3 @@ pub wanting_run : (ask : AdigAsk) (turns : ℕ) (files_before files_after : File
     IsRunFor ask turns (record { status = 5; journal = []; calls = [] }) files_before files_after outside outside
 wanting_run ask turns files_before files_after outside path file same read cause told =
     read_run ask turns _ files_before files_after outside outside path file same read cause told (options_set ask.settings file) refl (early_comes ask.spec ask.journal turns (options_set ask.settings file) outside)
-
--- such a fault is no want of memory
-pub failed_apart : (fault : FaultOfFile) → fault ≡ Failed → fault ≢ NoMemoryLeft
-failed_apart fault is none = absurd (let h : Failed ≡ NoMemoryLeft = sym is ∙ none in cc)
-
-pub large_apart : (fault : FaultOfFile) → fault ≡ TooLarge → fault ≢ NoMemoryLeft
-large_apart fault is none = absurd (let h : TooLarge ≡ NoMemoryLeft = sym is ∙ none in cc)

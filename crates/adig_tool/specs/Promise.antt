@@ -7,11 +7,11 @@ use Rattle.chan_types.specs.declared.spec.Spec.{Spec}
 use Rattle.net_world.specs.Cause.{Rose}
 use Rattle.net_world.specs.declared.log.WorldCall.{WorldCall}
 use Rattle.channel_model.specs.Commands.{ObeysOrders, closing_position, past_at}
-use Rattle.channel_model.specs.Completion.{fate, pending, ready, requests, taken_by}
+use Rattle.channel_model.specs.Completion.{fate, pending, requests, taken_by}
 use Rattle.channel_model.specs.Course.{IsCourse, IsCourseSoFar}
 use Rattle.channel_model.specs.CutShort.{NearlyAgrees}
 use Rattle.channel_model.specs.Endings.{turns_in}
-use Rattle.channel_model.specs.Journal.{Past, accepted, is_destroy, past_of}
+use Rattle.channel_model.specs.Journal.{accepted, is_destroy, past_of}
 use Rattle.channel_model.specs.Lawful.{IsLawful}
 use Rattle.channel_model.specs.Setting.{Setting}
 use Rattle.channel_model.specs.Stretch.{beginning}
@@ -22,6 +22,7 @@ use Rattle.channel_progress.specs.Waking.{NoWaitFailed, WakesInTime}
 use Rattle.tool_line.specs.declared.ending.Exit.{Exit}
 use Rattle.tool_line.specs.declared.ending.Exit.TheVariants.{Failure, OutOfMemory, Stalled, Success, WaitFault}
 use Rattle.net_world.specs.Logs.{LogGets}
+use Rattle.run_end.specs.Left.{IsOver}
 use Rattle.adig_tool.specs.Entries.{closing, is_own, no_orders}
 use Rattle.tool_line.specs.Outside.{GrowsBy, Outside, OutputTold}
 use Rattle.adig_tool.specs.Output.{book_of, page_for, text_at}
@@ -29,20 +30,8 @@ use Rattle.tool_line.specs.Put.{IsPut}
 use Rattle.tool_line.specs.Words.{Text}
 use Rattle.adig_tool.specs.Session.{first_request}
 use Rattle.owner_laws.specs.Sessions.{BeginsCut, BeginsPending, EndsWithFailedWait, longest_slice}
-use Rattle.run_end.specs.Ends.{AreGood}
+use Rattle.run_end.specs.Ends.{AreGood, IsPageEnd, IsRunEnd}
 use Rattle.run_end.specs.declared.ended.Ended.{Ended}
-
--- at this end the request has its answer, and the text is its page
-abbrev pub IsPageEnd : Exit → Type 0
-IsPageEnd end = (end ≡ Success) ⊎ (end ≡ Failure)
-
--- the ends to which a run comes whose words are understood and whose file could be read
-abbrev pub IsRunEnd : Exit → Type 0
-IsRunEnd end = IsPageEnd end ⊎ (end ≡ WaitFault) ⊎ (end ≡ Stalled) ⊎ (end ≡ OutOfMemory)
-
--- nothing is pending and nothing ready behind this past
-abbrev pub IsOver : Setting → Past → Type 0
-IsOver setting past = (pending setting past ≡ []) × (ready setting past ≡ [])
 
 -- the journal has one Destroy, which no callback commanded, and behind it nothing but Takes
 pub record IsClosed (journal : List Entry) : Type 0 where

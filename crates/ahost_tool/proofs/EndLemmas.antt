@@ -30,7 +30,7 @@ use Rattle.tool_line.specs.declared.ending.Exit.TheVariants.{Failure, OutOfMemor
 use Rattle.ahost_tool.specs.Ends.{IsEndOf}
 use Rattle.ahost_tool.specs.Kinds.{has_servers, is_ruled, is_servers}
 use Rattle.ahost_tool.specs.Page.{report_of, text_at}
-use Rattle.ahost_tool.specs.Promise.{IsComplete, IsGivenTime, IsPageEnd, IsRunEnd, IsTraffic, last_at}
+use Rattle.ahost_tool.specs.Promise.{IsComplete, IsGivenTime, IsTraffic, last_at}
 use Rattle.ahost_tool.specs.Session.{FallsIntoTurns, HasAccepted, SetsBehindFirst, SetsSoFar, ShowsEnd}
 use Rattle.owner_laws.specs.Sessions.{BeginsPending, BeginsSoFar, EndsWithFailedWait, longest_slice}
 use Rattle.ahost_tool.specs.declared.reporting.Report.{Report}
@@ -42,7 +42,7 @@ use Rattle.ahost_tool.proofs.MoveLemmas.{ruled_seats}
 use Rattle.ahost_tool.proofs.ProgressLemmas.{stalled_few}
 use Rattle.ahost_tool.proofs.ThenLemmas.{behind_more}
 use Rattle.owner_laws.proofs.Waits.{last_failed}
-use Rattle.run_end.specs.Ends.{AreGood}
+use Rattle.run_end.specs.Ends.{AreGood, IsPageEnd, IsRunEnd}
 
 -- ---- ends
 

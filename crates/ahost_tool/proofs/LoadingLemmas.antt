@@ -28,10 +28,11 @@ use Rattle.tool_line.specs.Words.{Text}
 use Rattle.tool_line.specs.declared.ahost.AhostAsk.{AhostAsk}
 use Rattle.tool_line.specs.declared.ahost.Load.{Load}
 use Rattle.tool_line.specs.declared.ending.Exit.TheVariants.{Failure, OutOfMemory, Stalled, Success, WaitFault}
+use Rattle.run_end.specs.Ends.{IsRunEnd}
 use Rattle.ahost_tool.specs.Asked.{asked_of}
 use Rattle.ahost_tool.specs.Loading.{IsLoadRun, IsWithinLimits, asked_by_load, host_spec, host_specs, load_setting, no_orders, over_calls}
 use Rattle.ahost_tool.specs.Page.{text_at}
-use Rattle.ahost_tool.specs.Promise.{IsComplete, IsGivenTime, IsRunEnd, IsTraffic, Promise}
+use Rattle.ahost_tool.specs.Promise.{IsComplete, IsGivenTime, IsTraffic, Promise}
 use Rattle.run_end.specs.declared.ended.Ended.{Ended}
 use Rattle.ahost_tool.specs.declared.reporting.Report.TheVariants.{Summary}
 use Rattle.ahost_tool.proofs.NetworkLemmas.{none_failed, wakes}

@@ -26,13 +26,14 @@ use Rattle.tool_line.specs.Outside.{Outside, OutputTold}
 use Rattle.tool_line.specs.Put.{IsPut}
 use Rattle.tool_line.specs.declared.ending.Exit.{Exit}
 use Rattle.tool_line.specs.declared.ending.Exit.TheVariants.{OutOfMemory}
+use Rattle.run_end.specs.Ends.{IsPageEnd}
 use Rattle.ahost_tool.specs.Asked.{Asked}
 use Rattle.ahost_tool.specs.Closing.{Closes}
 use Rattle.ahost_tool.specs.Delivering.{IsIdle}
 use Rattle.ahost_tool.specs.Ends.{IsEndOf}
 use Rattle.ahost_tool.specs.Kinds.{has_servers, is_ruled, is_servers}
 use Rattle.ahost_tool.specs.Page.{text_at}
-use Rattle.ahost_tool.specs.Promise.{IsComplete, IsGivenTime, IsOver, IsPageEnd, IsTraffic, Promise, last_at}
+use Rattle.ahost_tool.specs.Promise.{IsComplete, IsGivenTime, IsTraffic, Promise, last_at}
 use Rattle.ahost_tool.specs.Session.{AsksFirst, FallsIntoTurns, HasObeyed, IsSession, SetsAtMost}
 use Rattle.owner_laws.specs.Sessions.{longest_slice}
 use Rattle.ahost_tool.specs.declared.caller.Caller.{Caller}
@@ -50,7 +51,7 @@ use Rattle.ahost_tool.proofs.ListLemmas.{any_of}
 use Rattle.ahost_tool.proofs.MoveLemmas.{MovesQuietly, accepted_parts, quiet_all}
 use Rattle.ahost_tool.proofs.ObeyLemmas.{is_plain, obeyed_more, past_on}
 use Rattle.ahost_tool.proofs.ThenLemmas.{at_most_more, at_most_none}
-use Rattle.run_end.specs.Left.{LeavesPending}
+use Rattle.run_end.specs.Left.{IsOver, LeavesPending}
 
 -- what the owner's destroy adds to a journal: the closing entry, or nothing where the channel was destroyed
 pub record Ends (mid d : Owned) : Type 0 where

@@ -1,22 +1,20 @@
 -- How a run comes to its promise: by its words, and by the files that it reads.
 use Rattle.std.proofs.Common.{◌≡◌, ◌≢◌, ℕ, ◌≤◌, List, [], refl, sym, subst, ◌∙◌, inl, inr, arith}
-use Rattle.std.specs.Prelude.{Bool, Err, IfSome, None, Ok, Option, Result, Some, false, true}
+use Rattle.std.specs.Prelude.{Bool, Err, IfSome, None, Ok, Result, false, true}
 use Rattle.std.specs.String.{string_bytes}
 use Rattle.chan_types.specs.Plans.{Plan}
 use Rattle.hosts_file.specs.declared.hosts.HostLine.{HostLine}
-use Rattle.net_addr.specs.declared.addr.Addr.{Addr}
 use Rattle.resolv_options.specs.Values.{OptionValues}
 use Rattle.tool_line.specs.Ahost.{AhostAsks, IsSaid}
-use Rattle.tool_line.specs.Lookup.{Lookup, lookup}
+use Rattle.tool_line.specs.Lookup.{lookup}
 use Rattle.tool_line.specs.Outside.{FilesTold, Outside}
-use Rattle.tool_line.specs.Settings.{AreSetBy, SettingValues}
 use Rattle.tool_line.specs.Words.{Text}
 use Rattle.tool_line.specs.declared.ahost.AhostAsk.{AhostAsk}
 use Rattle.tool_line.specs.declared.ahost.Load.{Load}
 use Rattle.tool_line.specs.declared.ending.Exit.TheVariants.{FileFault}
 use Rattle.tool_line.specs.declared.files.FileFault.{FileFault as FaultOfFile}
 use Rattle.tool_line.specs.declared.files.FileFault.TheVariants.{Failed, NoMemory as NoMemoryLeft, TooLarge}
-use Rattle.tool_line.specs.declared.switches.Switches.{Switches}
+use Rattle.tool_line.proofs.SettingsLemmas.{same_settings, some_same}
 use Rattle.ahost_tool.specs.Asked.{Asked, asked_of}
 use Rattle.ahost_tool.specs.Page.{report_for}
 use Rattle.ahost_tool.specs.Promise.{Promise}
@@ -27,21 +25,6 @@ use Rattle.ahost_tool.proofs.PromiseLemmas.{promise_early}
 use Rattle.ahost_tool.proofs.SettingLemmas.{none_read}
 
 -- ---- words ask one thing
-
-some_same : {A : Type 0} (x y : A) → Some x ≡ Some y → x ≡ y
-some_same x y is = cc
-
--- settings that are set by the same words are the same
-pub same_settings : (under : Lookup) (a b : SettingValues) → AreSetBy under a → AreSetBy under b → a ≡ b
-same_settings under a b x y =
-    fields a.servers b.servers a.port b.port a.timeout b.timeout a.tries b.tries a.sources b.sources a.switches b.switches
-    (some_same a.servers b.servers (sym x.servers ∙ y.servers)) (some_same a.port b.port (sym x.port ∙ y.port)) (some_same a.timeout b.timeout (sym x.timeout ∙ y.timeout))
-    (some_same a.tries b.tries (sym x.tries ∙ y.tries)) (some_same a.sources b.sources (sym x.sources ∙ y.sources)) (x.switches ∙ sym y.switches)
-  where
-    fields : (s1 s2 : Option (List Addr)) (p1 p2 t1 t2 r1 r2 : Option ℕ) (u1 u2 : Option (List Addr)) (w1 w2 : Switches) → s1 ≡ s2 → p1 ≡ p2 → t1 ≡ t2 → r1 ≡ r2 → u1 ≡ u2 → w1 ≡ w2 →
-        ◌≡◌ {A = SettingValues} (record { servers = s1; port = p1; timeout = t1; tries = r1; sources = u1; switches = w1 })
-        (record { servers = s2; port = p2; timeout = t2; tries = r2; sources = u2; switches = w2 })
-    fields s1 s2 p1 p2 t1 t2 r1 r2 u1 u2 w1 w2 a b c d e f = cc
 
 -- by the same uses of options
 pub same_uses : (words : List Text) (a b : AhostAsk) (x : AhostAsks words a) (y : AhostAsks words b) → x.uses ≡ y.uses
@@ -182,10 +165,3 @@ module _ (ask : AhostAsk) (plans : List Plan) (turns : ℕ) (files_before files_
       (subst (λ p. IsPartlyRead p (string_bytes ask.hosts) ask.settings files_before files_after) resolv_is
       (subst (λ p. IsPartlyRead resolv p ask.settings files_before files_after) hosts_is
       (subst (λ f. ReadsSetting resolv hosts ask.settings (Err f) files_before files_after) none read)))
-
--- such a fault is no want of memory
-pub failed_apart : (fault : FaultOfFile) → fault ≡ Failed → fault ≢ NoMemoryLeft
-failed_apart fault is none = absurd (let h : Failed ≡ NoMemoryLeft = sym is ∙ none in cc)
-
-pub large_apart : (fault : FaultOfFile) → fault ≡ TooLarge → fault ≢ NoMemoryLeft
-large_apart fault is none = absurd (let h : TooLarge ≡ NoMemoryLeft = sym is ∙ none in cc)

@@ -1,7 +1,6 @@
 -- The setting of a run's channel, by the two files as they were read, and the reads that were made on the way to it.
 use Rattle.std.proofs.Common.{◌≡◌, ◌≢◌, ℕ, ◌+◌, ◌^◌, ◌≤◌, ◌<◌, Bool, true, false, nat_lt, List, [], ◌∷◌, Option, Some, None, Result, Ok, Err, length, refl, ap, sym, subst, arith, ltb-true, ltb-false}
 use Rattle.hosts_file.specs.declared.hosts.HostLine.{HostLine}
-use Rattle.item_list.specs.declared.no_memory.NoMemory.{NoMemory}
 use Rattle.net_world.specs.Cause.{HasCause, Rose, is_not_read}
 use Rattle.net_world.specs.Files.{IsReadOf}
 use Rattle.net_world.specs.declared.answers.FileRead.{FileRead}
@@ -16,11 +15,8 @@ use Rattle.tool_line.specs.Words.{Text}
 use Rattle.tool_line.specs.declared.files.FileFault.{FileFault}
 use Rattle.tool_line.specs.declared.files.FileFault.TheVariants.{Failed, NoMemory as NoMemoryLeft, TooLarge}
 use Rattle.tool_line.proofs.ReadLemmas.{read_nothing}
+use Rattle.tool_line.proofs.FileLemmas.{ok_of}
 use Rattle.ahost_tool.specs.Setting.{GivesBytes, GivesHosts, GivesSetting, IsPartlyRead, IsRead, IsSettingOf, ReadsFile, ReadsSetting, bytes_read}
-
--- what a read answered that didn't want memory
-abbrev ok_of : FileRead → Result FileRead NoMemory
-ok_of file = Ok file
 
 module _ (files : Option (List ℕ → Option (List ℕ))) (before first second after : ℕ) (reads_before reads_after : Option (List ReadCall)) where
   -- a file that was read while others were

@@ -6,11 +6,11 @@ use Rattle.chan_types.specs.declared.journal.Entry.{Entry}
 use Rattle.net_world.specs.Cause.{Rose}
 use Rattle.net_world.specs.declared.log.WorldCall.{WorldCall}
 use Rattle.channel_model.specs.Commands.{ObeysOrders, accepted_for, closing_position, past_at}
-use Rattle.channel_model.specs.Completion.{fate, occurrences, pending, ready, requests}
+use Rattle.channel_model.specs.Completion.{fate, occurrences, pending, requests}
 use Rattle.channel_model.specs.Course.{IsCourse, IsCourseSoFar}
 use Rattle.channel_model.specs.CutShort.{NearlyAgrees}
 use Rattle.channel_model.specs.Endings.{turns_in}
-use Rattle.channel_model.specs.Journal.{Past, is_destroy, past_of}
+use Rattle.channel_model.specs.Journal.{is_destroy, past_of}
 use Rattle.channel_model.specs.Lawful.{IsLawful}
 use Rattle.channel_model.specs.Setting.{Setting}
 use Rattle.channel_model.specs.Stretch.{beginning}
@@ -25,26 +25,15 @@ use Rattle.tool_line.specs.Outside.{GrowsBy, Outside, OutputTold}
 use Rattle.tool_line.specs.Put.{IsPut}
 use Rattle.tool_line.specs.declared.ending.Exit.{Exit}
 use Rattle.tool_line.specs.declared.ending.Exit.TheVariants.{Failure, FileFault, OutOfMemory, SinkFault, Stalled, Success, Usage, WaitFault}
+use Rattle.run_end.specs.Left.{IsOver}
 use Rattle.ahost_tool.specs.Asked.{Asked}
-use Rattle.run_end.specs.Ends.{AreGood}
+use Rattle.run_end.specs.Ends.{AreGood, IsPageEnd, IsRunEnd}
 use Rattle.ahost_tool.specs.Kinds.{has_servers, is_ruled}
 use Rattle.ahost_tool.specs.Page.{report_of, text_at}
 use Rattle.ahost_tool.specs.Session.{AsksFirst, SetsAtMost, SetsBehindFirst}
 use Rattle.owner_laws.specs.Sessions.{BeginsCut, BeginsPending, EndsWithFailedWait, longest_slice}
 use Rattle.run_end.specs.declared.ended.Ended.{Ended}
 use Rattle.ahost_tool.specs.declared.reporting.Report.{Report}
-
--- at this end every request has its answer, and the text is the report
-abbrev pub IsPageEnd : Exit → Type 0
-IsPageEnd end = (end ≡ Success) ⊎ (end ≡ Failure)
-
--- the ends to which a run comes whose words are understood and whose files could be read
-abbrev pub IsRunEnd : Exit → Type 0
-IsRunEnd end = IsPageEnd end ⊎ (end ≡ WaitFault) ⊎ (end ≡ Stalled) ⊎ (end ≡ OutOfMemory)
-
--- nothing is pending and nothing ready behind this past
-abbrev pub IsOver : Setting → Past → Type 0
-IsOver setting past = (pending setting past ≡ []) × (ready setting past ≡ [])
 
 -- the last position at which a command may be performed: where the text is the report, that of the closing Destroy, if a callback hasn't destroyed the channel; else the journal's end
 abbrev pub last_at : Exit → List Entry → ℕ

@@ -19,15 +19,13 @@ use Rattle.ahost_tool.specs.Asked.{Asked, asked_of}
 use Rattle.ahost_tool.specs.Page.{report_for}
 use Rattle.ahost_tool.specs.Running.{EndsEarly, count_names}
 use Rattle.ahost_tool.specs.Setting.{IsPartlyRead, IsRead, IsSettingOf, ReadsSetting, hosts_bytes}
-use Rattle.ahost_tool.proofs.Theorems.{none_read, number_small, same_settings, same_uses}
+use Rattle.ahost_tool.proofs.Theorems.{none_read, number_small, same_uses}
+use Rattle.tool_line.proofs.SettingsLemmas.{same_settings, some_same}
 use Rattle.ahost_workers.specs.Promise.{PromiseWith}
 use Rattle.ahost_workers.specs.Running.{ComesWith, IsRunWith, IsServedWith}
 use Rattle.ahost_workers.proofs.PromiseLemmas.{promise_early}
 
 -- ---- words ask one thing
-
-some_same : {A : Type 0} (x y : A) → Some x ≡ Some y → x ≡ y
-some_same x y is = cc
 
 -- the workers that words ask for are few
 few_said : (value : Option Text) (workers : ℕ) → read_or (number_in 0 16) 0 value ≡ Some workers → workers ≤ 16

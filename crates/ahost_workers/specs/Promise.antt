@@ -11,7 +11,7 @@ use Rattle.channel_progress.specs.Waking.{NoWaitFailed}
 use Rattle.net_world.specs.Cause.{Rose}
 use Rattle.net_world.specs.Logs.{LogGets}
 use Rattle.resolv_options.specs.Values.{OptionValues}
-use Rattle.run_end.specs.Ends.{AreGood}
+use Rattle.run_end.specs.Ends.{AreGood, IsPageEnd, IsRunEnd}
 use Rattle.run_end.specs.declared.ended.Ended.{Ended}
 use Rattle.shared_session.specs.Seats.{AreSeated, AsksFirst, seats_for}
 use Rattle.tool_line.specs.Outside.{Outside, OutputTold}
@@ -22,8 +22,9 @@ use Rattle.turner_laws.specs.Traffic.{IsTrafficBeside}
 use Rattle.worker_session.specs.declared.coming.Coming.{Coming}
 use Rattle.ahost_tool.specs.Asked.{Asked}
 use Rattle.ahost_tool.specs.Page.{text_at}
-use Rattle.ahost_tool.specs.Promise.{IsComplete, IsOver, IsPageEnd, IsRunEnd, last_at}
+use Rattle.ahost_tool.specs.Promise.{IsComplete, last_at}
 use Rattle.ahost_tool.specs.declared.reporting.Report.{Report}
+use Rattle.run_end.specs.Left.{IsOver}
 use Rattle.ahost_workers.specs.Ends.{ComesAs}
 
 -- the whole report of a channel of these options was put, with exit status 0 or 1; or memory was wanting, with 5; or all turns were made while requests were pending, with 7

@@ -1,39 +1,10 @@
 -- How a whole table follows an Accept.
-use Rattle.std.proofs.Common.{◌≡◌, ◌∙◌, ℕ, ◌+◌, ◌≤◌, true, false, List, [], ◌∷◌, ◌++◌, Option, Some, None, refl, ap, ap₂, sym, subst, map, arith, length, ne_eqb}
-use Rattle.std.proofs.lemmas.Grind.{flat_map-append}
-use Rattle.std.proofs.lemmas.List.{append-nil, map-append}
-use Rattle.std.specs.List.{AllByRecursion}
-use Rattle.std.specs.Option.{option_and_then}
-use Rattle.std.specs.Prelude.{IfSome, filter, flat_map, option_map, option_to_list}
-use Rattle.chan_types.specs.declared.journal.What.TheVariants.{Accept}
-use Rattle.chan_types.specs.declared.script.Script.{Script}
-use Rattle.chan_types.specs.declared.spec.Spec.{Spec}
-use Rattle.chan_types.specs.declared.ticket.Ticket.{Ticket}
-use Rattle.dns_message.specs.declared.name.Name.{Name}
-use Rattle.channel_model.proofs.Theorems.{each-append, accept-fate, accept-pending, accept-ready, accept-request, accept_spares, asked_once, in_flight-closed, next_unasked, started-says, unasked_closings, unasked_flight}
-use Rattle.channel_model.specs.AsMany.{HaveAsMany}
-use Rattle.channel_model.specs.AtOnce.{at_once}
-use Rattle.channel_model.specs.Completion.{fate, occurrences, pending, ready, requests}
-use Rattle.channel_model.specs.Flight.{has_leg, in_flight, started}
-use Rattle.channel_model.specs.Journal.{Accepted, Past, accepted, script_of}
-use Rattle.channel_model.specs.Lawful.{IsLawfulPast}
-use Rattle.channel_model.specs.Legs.{leg_of, legs_of}
-use Rattle.channel_model.specs.Questions.{candidates_of, question_for}
-use Rattle.channel_model.specs.Setting.{Setting}
+use Rattle.channel_table.proofs.Base.{◌≡◌, ◌∙◌, ℕ, ◌+◌, ◌≤◌, true, false, List, [], ◌∷◌, ◌++◌, Option, Some, None, refl, ap, ap₂, sym, subst, map, arith, length, ne_eqb, flat_map-append, append-nil, map-append, AllByRecursion, option_and_then, IfSome, filter, flat_map, option_map, option_to_list, Accept, Script, Spec, Ticket, Name, each-append, asked_once, in_flight-closed, next_unasked, started-says, HaveAsMany, at_once, fate, occurrences, pending, ready, requests, has_leg, in_flight, started, Accepted, Past, accepted, script_of, IsLawfulPast, leg_of, legs_of, candidates_of, question_for, Setting, wanted_by, first_number, IsNewRow, Wanted, RowStands, LookupStands, TableStands, TicketStands, flown, number_of, lookups, ticket_number, end_of_lookup, flown_lookup, leg_of_lookup, new_lookup, number_of_leg, Asked, Lookup, fresh_leg, Flags, Row}
+use Rattle.channel_model.proofs.Theorems.{accept-fate, accept-pending, accept-ready, accept-request, accept_spares, unasked_closings, unasked_flight}
 use Rattle.channel_table.proofs.FreshLegs.{unstarted_stands}
-use Rattle.channel_table.proofs.RowFrames.{IsSpared, SparesSide, rows_spared}
+use Rattle.channel_table.proofs.RowFrames.{IsSpared, SparesLookup, rows_spared}
 use Rattle.channel_table.proofs.SearchSteps.{no_end}
 use Rattle.channel_table.proofs.TableSteps.{tickets_later}
-use Rattle.channel_table.specs.Aims.{aim_of, first_number}
-use Rattle.channel_table.specs.Places.{IsNewRow}
-use Rattle.channel_table.specs.declared.aim.Aim.{Aim}
-use Rattle.channel_table.specs.Rows.{RowStands, SideStands, TableStands, TicketStands, flown, number_of, sides, ticket_number}
-use Rattle.channel_table.specs.Sides.{end_of_side, flown_side, leg_of_side, new_side, number_of_leg}
-use Rattle.channel_table.specs.declared.side.Asked.{Asked}
-use Rattle.channel_table.specs.declared.side.Side.{Side}
-use Rattle.query_machine.specs.Legs.{fresh_leg}
-use Rattle.resolv_options.specs.declared.flags.Flags.{Flags}
-use Rattle.channel_table.specs.declared.row.Row.{Row}
 
 pub filter_true : {X : Type 0} (xs : List X) → filter (λ x. true) xs ≡ xs
 filter_true [] = refl
@@ -46,16 +17,16 @@ module _ {T : Type 0} (plan : T → Script) (setting : Setting) (past : Past) (s
   accept_flying : in_flight setting (Accept number spec script ∷ past) ≡ in_flight setting past
   accept_flying = in_flight-closed setting (Accept number spec script) past refl ∙ filter_true (in_flight setting past)
 
-  each_spared : (ss : List Side) → AllByRecursion (SparesSide setting (Accept number spec script) past) ss
+  each_spared : (ss : List Lookup) → AllByRecursion (SparesLookup setting (Accept number spec script) past) ss
   each_spared [] = tt
-  each_spared (side ∷ ss) = (accept_spares setting past (leg_of_side side) number spec script, each_spared ss)
+  each_spared (lookup ∷ ss) = (accept_spares setting past (leg_of_lookup lookup) number spec script, each_spared ss)
 
   others_spared : (rows : List (Row T)) → AllByRecursion (RowStands plan setting past) rows → AllByRecursion (IsSpared plan setting (Accept number spec script) past) rows
   others_spared [] each = tt
   others_spared (row ∷ rows) each =
       let asked = asked_once setting row.number past _ (ap (option_map (λ (r : Accepted). r.spec)) each.0.accepts) in (
         record {
-          spared = each_spared (sides row);
+          spared = each_spared (lookups row);
           others = λ k. tt;
           uncompleted = rw (ne_eqb number row.number (λ same. absurd (omega (arith, asked, subst (λ n. occurrences n (requests past) ≡ 0) same new)))) refl;
         },
@@ -100,9 +71,9 @@ module _ {T : Type 0} (plan : T → Script) (setting : Setting) (past : Past) (s
   unbegun : (k : ℕ) → has_leg (leg_of number k) (started (Accept number spec script ∷ past)) ≡ false
   unbegun k = started-says setting (leg_of number k) past ∙ rw (unasked_flight setting number k past lawful new, unasked_closings setting number k past lawful new) refl
 
-  -- a side of a new request stands
+  -- a lookup of a new request stands
   new_stands : (k : ℕ) (asked : Asked) (rest : List Name) → asked.names ≡ rest → question_for spec k asked.question.name ≡ asked.question
-      → SideStands setting (Accept number spec script ∷ past) number spec asked.question.name rest (new_side number k asked (fresh_leg setting.options.flags))
+      → LookupStands setting (Accept number spec script ∷ past) number spec asked.question.name rest (new_lookup number k asked (fresh_leg setting.options.flags))
   new_stands k asked rest names asks = record {
     numbered = refl;
     current = refl;
@@ -113,49 +84,49 @@ module _ {T : Type 0} (plan : T → Script) (setting : Setting) (past : Past) (s
   }
 
   -- the row of a new request stands, which asks its first candidate
-  pub row_stands : (aim : Aim) (asked : Asked) (second : Option Asked) (row : Row T) → aim_of spec ≡ aim → legs_of spec 0 ≡ first_number aim ∷ option_to_list (option_map (λ (a : Asked). 1) second) → candidates_of setting spec ≡ asked.question.name ∷ asked.names
-      → length (candidates_of setting spec) ≤ 9 → question_for spec (first_number aim) asked.question.name ≡ asked.question
+  pub row_stands : (wanted : Wanted) (asked : Asked) (second : Option Asked) (row : Row T) → wanted_by spec ≡ wanted → legs_of spec 0 ≡ first_number wanted ∷ option_to_list (option_map (λ (a : Asked). 1) second) → candidates_of setting spec ≡ asked.question.name ∷ asked.names
+      → length (candidates_of setting spec) ≤ 9 → question_for spec (first_number wanted) asked.question.name ≡ asked.question
       → IfSome second (λ a. (a.question.name ≡ asked.question.name) × (a.names ≡ asked.names) × (question_for spec 1 a.question.name ≡ a.question)) → at_once setting number spec ≡ None
-      → IsNewRow setting.options.flags number aim row.token asked second row → plan row.token ≡ script → RowStands plan setting (Accept number spec script ∷ past) row
-  row_stands aim asked second row aims legs candidates few asks too unanswered is scripted = record {
+      → IsNewRow setting.options.flags number wanted row.token asked second row → plan row.token ≡ script → RowStands plan setting (Accept number spec script ∷ past) row
+  row_stands wanted asked second row wants legs candidates few asks too unanswered is scripted = record {
     spec = spec;
-    aims = aims ∙ sym is.aims;
+    wants = wants ∙ sym is.wants;
     passed = [];
     name = asked.question.name;
     rest = asked.names;
     candidates = candidates;
     few = few;
-    legged = legs ∙ rw (is.first_side, is.second_side) (by_second second);
+    legged = legs ∙ rw (is.first_lookup, is.second_lookup) (by_second second);
     came = refl;
     emptied = sym is.unpassed;
     accepts = rw (is.numbered, scripted) (accept-request setting past number spec script new);
     undecided = subst (λ n. fate setting n (Accept number spec script ∷ past) ≡ None) (sym is.numbered) (accept-fate setting past number spec script new ∙ unanswered);
-    each_side = rw (is.first_side, is.second_side)
-        (subst (λ n. AllByRecursion (SideStands setting (Accept number spec script ∷ past) n spec asked.question.name asked.names) (new_side number (first_number aim) asked (fresh_leg setting.options.flags) ∷ option_to_list (option_map (λ (a : Asked). new_side number 1 a (fresh_leg setting.options.flags)) second)))
+    each_lookup = rw (is.first_lookup, is.second_lookup)
+        (subst (λ n. AllByRecursion (LookupStands setting (Accept number spec script ∷ past) n spec asked.question.name asked.names) (new_lookup number (first_number wanted) asked (fresh_leg setting.options.flags) ∷ option_to_list (option_map (λ (a : Asked). new_lookup number 1 a (fresh_leg setting.options.flags)) second)))
         (sym is.numbered) (each second too));
-    unanswered = rw is.first_side (no_end setting.options row.number row.aim asked.question.name (option_and_then end_of_side row.second));
+    unanswered = rw is.first_lookup (no_end setting.options row.number row.wanted asked.question.name (option_and_then end_of_lookup row.second));
     later = λ k above. rw is.numbered (unbegun k);
   }
     where
-      by_second : (o : Option Asked) → first_number aim ∷ option_to_list (option_map (λ (a : Asked). 1) o)
-          ≡ map number_of_leg (new_side number (first_number aim) asked (fresh_leg setting.options.flags) ∷ option_to_list (option_map (λ (a : Asked). new_side number 1 a (fresh_leg setting.options.flags)) o))
+      by_second : (o : Option Asked) → first_number wanted ∷ option_to_list (option_map (λ (a : Asked). 1) o)
+          ≡ map number_of_leg (new_lookup number (first_number wanted) asked (fresh_leg setting.options.flags) ∷ option_to_list (option_map (λ (a : Asked). new_lookup number 1 a (fresh_leg setting.options.flags)) o))
       by_second None = refl
       by_second (Some a) = refl
 
       each : (o : Option Asked) → IfSome o (λ a. (a.question.name ≡ asked.question.name) × (a.names ≡ asked.names) × (question_for spec 1 a.question.name ≡ a.question))
-          → AllByRecursion (SideStands setting (Accept number spec script ∷ past) number spec asked.question.name asked.names)
-          (new_side number (first_number aim) asked (fresh_leg setting.options.flags) ∷ option_to_list (option_map (λ (a : Asked). new_side number 1 a (fresh_leg setting.options.flags)) o))
-      each None too = (new_stands (first_number aim) asked asked.names refl asks, tt)
+          → AllByRecursion (LookupStands setting (Accept number spec script ∷ past) number spec asked.question.name asked.names)
+          (new_lookup number (first_number wanted) asked (fresh_leg setting.options.flags) ∷ option_to_list (option_map (λ (a : Asked). new_lookup number 1 a (fresh_leg setting.options.flags)) o))
+      each None too = (new_stands (first_number wanted) asked asked.names refl asks, tt)
       each (Some a) too = (
-        new_stands (first_number aim) asked asked.names refl asks,
-        (subst (λ n. SideStands setting (Accept number spec script ∷ past) number spec n asked.names (new_side number 1 a (fresh_leg setting.options.flags))) too.0 (new_stands 1 a asked.names too.1 too.2), tt),
+        new_stands (first_number wanted) asked asked.names refl asks,
+        (subst (λ n. LookupStands setting (Accept number spec script ∷ past) number spec n asked.names (new_lookup number 1 a (fresh_leg setting.options.flags))) too.0 (new_stands 1 a asked.names too.1 too.2), tt),
       )
 
 -- no attempt of a new row is in flight
-pub new_flown : {T : Type 0} (flags : Flags) (number : ℕ) (aim : Aim) (token : T) (asked : Asked) (second : Option Asked) (row : Row T) → IsNewRow flags number aim token asked second row → flown row ≡ []
-new_flown flags number aim token asked second row is =
-    ap₂ (λ (s : Side) (o : Option Side). flat_map flown_side (s ∷ option_to_list o)) is.first_side is.second_side ∙ by_second second
+pub new_flown : {T : Type 0} (flags : Flags) (number : ℕ) (wanted : Wanted) (token : T) (asked : Asked) (second : Option Asked) (row : Row T) → IsNewRow flags number wanted token asked second row → flown row ≡ []
+new_flown flags number wanted token asked second row is =
+    ap₂ (λ (s : Lookup) (o : Option Lookup). flat_map flown_lookup (s ∷ option_to_list o)) is.first_lookup is.second_lookup ∙ by_second second
   where
-    by_second : (o : Option Asked) → flat_map flown_side (new_side number (first_number aim) asked (fresh_leg flags) ∷ option_to_list (option_map (λ (a : Asked). new_side number 1 a (fresh_leg flags)) o)) ≡ []
+    by_second : (o : Option Asked) → flat_map flown_lookup (new_lookup number (first_number wanted) asked (fresh_leg flags) ∷ option_to_list (option_map (λ (a : Asked). new_lookup number 1 a (fresh_leg flags)) o)) ≡ []
     by_second None = refl
     by_second (Some a) = refl

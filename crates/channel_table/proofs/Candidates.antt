@@ -1,18 +1,9 @@
 -- A request has nine candidates at most: one, and one for each of eight domains.
-use Rattle.std.proofs.Common.{ℕ, suc, ◌≤◌, Bool, true, false, List, [], ◌∷◌, ◌++◌, Option, Some, None, cond, arith, length, length-append}
-use Rattle.std.proofs.lemmas.List.{length-map}
-use Rattle.std.specs.List.{list_any}
-use Rattle.std.specs.Prelude.{filter, nat_le, option_map, unwrap_or, ◌||◌}
-use Rattle.chan_types.specs.declared.spec.Spec.{Spec}
-use Rattle.chan_types.specs.declared.spec.Spec.TheVariants.{Address, Query, Reverse, Search}
+use Rattle.channel_table.proofs.Base.{ℕ, suc, ◌≤◌, Bool, true, false, List, [], ◌∷◌, ◌++◌, Option, Some, None, cond, arith, length, length-map, list_any, filter, nat_le, option_map, unwrap_or, ◌||◌, Spec, Address, Query, Reverse, Search, Name, NameText, candidates_of, name_of_text, Setting, AreWithinLimits, Options}
+use Rattle.std.proofs.Common.{length-append}
 use Rattle.dns_message.specs.Name.{same_name}
-use Rattle.dns_message.specs.declared.name.Name.{Name}
-use Rattle.dns_message.specs.declared.name.NameText.{NameText}
-use Rattle.channel_model.specs.Questions.{candidates_of, name_of_text, names_of}
-use Rattle.channel_model.specs.Setting.{Setting}
+use Rattle.channel_model.specs.Questions.{names_of}
 use Rattle.resolv_options.specs.Search.{candidates, dots, may_be_asked, search_order, with_domains, without_repeats}
-use Rattle.resolv_options.specs.Values.{AreWithinLimits}
-use Rattle.resolv_options.specs.declared.options.Options.{Options}
 
 fewer_filtered : {X : Type 0} (t : X → Bool) (xs : List X) → length (filter t xs) ≤ length xs
 fewer_filtered t [] = omega arith

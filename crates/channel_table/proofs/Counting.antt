@@ -1,29 +1,18 @@
 -- What a table has of a past beside its requests, behind one entry more.
-use Rattle.std.proofs.Common.{◌≡◌, ◌∙◌, ℕ, ◌+◌, false, List, [], ◌∷◌, Some, None, refl, ap, sym, map, length, arith}
-use Rattle.std.specs.List.{range_with_len}
-use Rattle.std.specs.Option.{option_map_or}
-use Rattle.std.specs.Prelude.{max, ◌≤◌}
-use Rattle.chan_types.specs.declared.journal.What.{What}
-use Rattle.chan_types.specs.declared.server_key.ServerKey.{ServerKey}
-use Rattle.net_addr.specs.declared.addr.ServerAddr.{ServerAddr}
-use Rattle.channel_model.proofs.Theorems.{counts-kept, counts-unjudged, no_set-servers, started-kept}
-use Rattle.channel_model.specs.Choice.{Failing, failures_of_list, greatest_link, link_of}
-use Rattle.channel_model.specs.Flight.{Attempt, begun_by, closes, flight}
-use Rattle.channel_model.specs.Journal.{Past}
-use Rattle.channel_model.specs.Past.{Closing, outcome_of}
-use Rattle.channel_model.specs.Servers.{greatest_key, greatest_of, keyed_from, servers_set_by}
-use Rattle.channel_model.specs.Setting.{Setting}
+use Rattle.channel_table.proofs.Base.{◌≡◌, ◌∙◌, ℕ, ◌+◌, false, List, [], ◌∷◌, Some, None, refl, ap, sym, map, length, arith, range_with_len, option_map_or, max, What, ServerKey, ServerAddr, counts-kept, no_set-servers, started-kept, Failing, greatest_link, link_of, Attempt, begun_by, closes, flight, Past, outcome_of, greatest_key, greatest_of, keyed_from, servers_set_by, Setting, AreWithinLimits, AreCounted, ChannelServers}
+use Rattle.std.specs.Prelude.{◌≤◌}
+use Rattle.channel_model.proofs.Theorems.{counts-unjudged}
+use Rattle.channel_model.specs.Choice.{failures_of_list}
+use Rattle.channel_model.specs.Past.{Closing}
 use Rattle.query_machine.specs.Servers.{fresh_server, fresh_servers}
-use Rattle.resolv_options.specs.Values.{AreWithinLimits}
-use Rattle.channel_table.specs.Counted.{AreCounted}
 
 max_none : (n : ℕ) → max 0 n ≡ n
 max_none n = omega arith
 
-module _ (setting : Setting) (what : What) (past : Past) (list : List ServerKey) (counts : List Failing) (key link starts : ℕ)
-    (counted : AreCounted setting past list counts key link starts) (sets : servers_set_by what ≡ None) (begins : begun_by what ≡ None) where
+module _ (setting : Setting) (what : What) (past : Past) {servers : ChannelServers}
+    (counted : AreCounted setting past servers) (sets : servers_set_by what ≡ None) (begins : begun_by what ≡ None) where
   -- an entry that sets no servers and begins nothing changes the counts of failures alone
-  pub counted_anew : (more : List Failing) → failures_of_list setting (what ∷ past) ≡ more → AreCounted setting (what ∷ past) list more key link starts
+  pub counted_anew : (more : List Failing) → failures_of_list setting (what ∷ past) ≡ more → AreCounted setting (what ∷ past) (record servers { counts = more })
   counted_anew more failed = record {
     listed = no_set-servers setting what past sets ∙ counted.listed;
     failed = failed;
@@ -33,12 +22,12 @@ module _ (setting : Setting) (what : What) (past : Past) (list : List ServerKey)
   }
 
   -- one that closes no attempt changes nothing
-  pub counted_kept : ((a : Attempt) → flight setting a.leg past ≡ Some a → closes setting a what past ≡ false) → AreCounted setting (what ∷ past) list counts key link starts
-  counted_kept closes_none = counted_anew counts (counts-kept setting what past sets closes_none ∙ counted.failed)
+  pub counted_kept : ((a : Attempt) → flight setting a.leg past ≡ Some a → closes setting a what past ≡ false) → AreCounted setting (what ∷ past) servers
+  counted_kept closes_none = counted_anew servers.counts (counts-kept setting what past sets closes_none ∙ counted.failed)
 
   -- nor one whose closings mean nothing
-  pub counted_unjudged : ((a : Attempt) (earlier : List Closing) → outcome_of setting a what past earlier ≡ None) → AreCounted setting (what ∷ past) list counts key link starts
-  counted_unjudged unjudged = counted_anew counts (counts-unjudged setting what past sets unjudged ∙ counted.failed)
+  pub counted_unjudged : ((a : Attempt) (earlier : List Closing) → outcome_of setting a what past earlier ≡ None) → AreCounted setting (what ∷ past) servers
+  counted_unjudged unjudged = counted_anew servers.counts (counts-unjudged setting what past sets unjudged ∙ counted.failed)
 
 greatest_keyed : (key : ℕ) (servers : List ServerAddr) → greatest_of key (keyed_from (key + 1) servers) ≡ key + length servers
 greatest_keyed key [] = omega arith
@@ -58,7 +47,7 @@ fresh_opening key (server ∷ servers) = ap (λ rest. fresh_server key ∷ rest)
 
 -- a channel begins with the servers of its options, none of which has failed
 pub counted_first : (setting : Setting) (list : List ServerKey) (counts : List Failing) (key count : ℕ) → AreWithinLimits setting.options → list ≡ keyed_from 0 setting.options.servers → counts ≡ fresh_servers count
-    → count ≡ length setting.options.servers → key + 1 ≡ count → AreCounted setting [] list counts key 0 0
+    → count ≡ length setting.options.servers → key + 1 ≡ count → AreCounted setting [] (record { list = list; counts = counts; greatest_key = key; greatest_link = 0; started = 0 })
 counted_first setting list counts key count limits listed fresh all last = record {
   listed = sym listed;
   failed = fresh_opening 0 setting.options.servers ∙ ap fresh_servers (sym all) ∙ sym fresh;

@@ -1,34 +1,14 @@
 -- From a call of a table to one of its owner's desk: what it makes of the tokens it makes of their names.
-use Rattle.std.proofs.Common.{◌≡◌, ◌∙◌, ℕ, ◌==◌, Bool, true, false, cond, List, [], ◌∷◌, Option, Some, None, Ok, Err, Result, refl, ap, ap₂, sym, subst, map, arith}
-use Rattle.std.proofs.lemmas.Bool.Decides.{nat_tests}
-use Rattle.std.proofs.lemmas.List.{append-nil}
+use Rattle.channel_table.proofs.Base.{◌≡◌, ◌∙◌, ℕ, Bool, true, false, cond, List, [], ◌∷◌, Option, Some, None, Ok, Err, Result, refl, ap, sym, subst, map, arith, nat_tests, append-nil, eq_by_cmp, nat_cmp, option_map, ⊤, NoMemory, ServerAddr, What, Accept, Arrive, Cancel, Destroy, Expire, Fault, Servers, Start, Take, Script, Spec, Ticket, Past, Accepts, Arrives, Cancels, Destroys, Expires, Fails, Meaning, SetsServers, Starts, Takes, TellsBusy, TellsCounts, TellsDue, Happens, Setting, Begun, Idle, NoId, Landed, Matched, Stray, Lapse, Expired, NotDue, SetFault, owned}
+use Rattle.std.proofs.Common.{◌==◌}
+use Rattle.channel_model.specs.declared.answers.Begun.TheVariants.{Started}
 use Rattle.std.specs.Cmp.{nat_cmp_total}
 use Rattle.std.specs.FinMap as finite
-use Rattle.std.specs.Ordering.{eq_by_cmp, nat_cmp}
-use Rattle.std.specs.Prelude.{option_map, ⊤}
-use Rattle.item_list.specs.declared.no_memory.NoMemory.{NoMemory}
-use Rattle.net_addr.specs.declared.addr.ServerAddr.{ServerAddr}
-use Rattle.chan_types.specs.declared.journal.What.{What}
-use Rattle.chan_types.specs.declared.journal.What.TheVariants.{Accept, Arrive, Cancel, Destroy, Expire, Fault, Servers, Start, Take}
-use Rattle.chan_types.specs.declared.script.Script.{Script}
-use Rattle.chan_types.specs.declared.spec.Spec.{Spec}
-use Rattle.chan_types.specs.declared.ticket.Ticket.{Ticket}
-use Rattle.channel_model.specs.Journal.{Past}
 use Rattle.channel_model.specs.Known.{Calls}
-use Rattle.channel_model.specs.Meanings.{Accepts, Arrives, Cancels, Destroys, Expires, Fails, Meaning, SetsServers, Starts, Takes, TellsBusy, TellsCounts, TellsDue}
 use Rattle.channel_model.specs.Names.{BecomeBy, GivesName, KeepsName, Names}
-use Rattle.channel_model.specs.Seen.{Happens}
-use Rattle.channel_model.specs.Setting.{Setting}
-use Rattle.channel_model.specs.declared.answers.Begun.{Begun}
-use Rattle.channel_model.specs.declared.answers.Begun.TheVariants.{Idle, NoId, Started}
 use Rattle.channel_model.specs.declared.answers.Counts.{Counts}
-use Rattle.channel_model.specs.declared.answers.Landed.{Landed}
-use Rattle.channel_model.specs.declared.answers.Landed.TheVariants.{Matched, Stray}
-use Rattle.channel_model.specs.declared.answers.Lapse.{Lapse}
-use Rattle.channel_model.specs.declared.answers.Lapse.TheVariants.{Expired, NotDue}
 use Rattle.channel_model.specs.declared.answers.Refused.{Refused}
-use Rattle.channel_model.specs.declared.answers.SetFault.{SetFault}
-use Rattle.channel_table.specs.Calling.{Owned, known_alone, names_of, owned}
+use Rattle.channel_table.specs.Calling.{Owned, known_alone, names_of}
 use Rattle.channel_table.specs.Tokens.{GivesToken, KeepsToken, Shown, Tokens, seen}
 
 -- ---- the names of tokens

@@ -1,13 +1,9 @@
 -- How a finite map follows a list whose items have its entries, where one item changes.
-use Rattle.std.proofs.Common.{◌≡◌, ◌∙◌, Bool, true, false, cond, List, [], ◌∷◌, ◌++◌, Option, Some, None, refl, ap, ap₂, sym}
-use Rattle.std.proofs.lemmas.Grind.{flat_map-append}
+use Rattle.channel_table.proofs.Base.{◌≡◌, ◌∙◌, Bool, true, false, cond, List, [], ◌∷◌, ◌++◌, Option, Some, None, refl, ap, ap₂, sym, flat_map-append, eq_by_cmp, flat_map, if◌then◌else◌, option_to_list, Ordering, value_at}
 use Rattle.std.specs.Cmp.{IsTotalOrder, Equal-is}
 use Rattle.std.specs.FinMap as map
 use Rattle.std.specs.FinMap.{FinMap}
-use Rattle.std.specs.Ordering.{eq_by_cmp}
-use Rattle.std.specs.Prelude.{flat_map, if◌then◌else◌, option_to_list}
-use Rattle.std.specs.declared.cmp.Ordering.{Ordering}
-use Rattle.channel_table.specs.Flown.{HasEntries, value_at}
+use Rattle.channel_table.specs.Flown.{HasEntries}
 
 -- an item among those of an option is the only one
 only_one : {V : Type 0} (xs ys : List V) (v : V) (o : Option V) → xs ++ v ∷ ys ≡ option_to_list o → (xs ≡ []) × (ys ≡ []) × (o ≡ Some v)

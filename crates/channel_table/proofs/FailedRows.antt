@@ -1,22 +1,9 @@
 -- How what finds the legs of the rows follows them where a Fault ends attempts.
-use Rattle.std.proofs.Common.{◌≡◌, ◌∙◌, ℕ, false, List, [], ◌++◌, ap, map, subst, sym}
-use Rattle.std.proofs.lemmas.List.{append-nil}
-use Rattle.std.specs.List.{AllByRecursion, sum_by}
-use Rattle.chan_types.specs.declared.status.Status.TheVariants.{ConnRefused}
-use Rattle.chan_types.specs.declared.ticket.Ticket.{Ticket}
-use Rattle.channel_model.specs.declared.judged.Judged.TheVariants.{Failed}
-use Rattle.leg_index.specs.Links.{used}
-use Rattle.leg_index.specs.Waiting.{Legs}
-use Rattle.resolv_options.specs.declared.options.Options.{Options}
-use Rattle.channel_table.proofs.FailSteps.{fails_listed, kept, none_fails}
+use Rattle.channel_table.proofs.Base.{◌≡◌, ◌∙◌, ℕ, false, List, [], ◌++◌, ap, map, subst, sym, append-nil, AllByRecursion, sum_by, ConnRefused, Ticket, Failed, used, Legs, Options, FailsOver, IsUnanswered, answer_over, fails_at, IsListed, IsListedOver, IsRising, Keeps, number_of, over_in, Row, Over}
+use Rattle.channel_table.proofs.MarkSteps.{fails_listed, kept, none_fails}
 use Rattle.channel_table.proofs.IndexLemmas.{after_number, kept_rising}
 use Rattle.channel_table.proofs.ListedLemmas.{kept_listed}
-use Rattle.channel_table.specs.Failing.{FailsOver, IsUnanswered, answer_over, fails_at}
 use Rattle.channel_table.specs.Indexed.{IsIndexed}
-use Rattle.channel_table.specs.Listed.{IsListed, IsListedOver, IsRising, Keeps}
-use Rattle.channel_table.specs.Rows.{number_of, over_in}
-use Rattle.channel_table.specs.declared.row.Row.{Row}
-use Rattle.channel_table.specs.declared.side.Hits.TheVariants.{Over}
 use Rattle.channel_table.specs.declared.table.rows.Rows.TheInside.{Inside}
 
 -- more requests are among those that wait, and the rows are the same

@@ -1,14 +1,7 @@
 -- What a loop over the rows finds first.
-use Rattle.std.proofs.Common.{◌≡◌, ◌∙◌, ℕ, ◌+◌, ◌-◌, ◌<◌, ◌%◌, ◌^◌, Bool, true, false, List, [], ◌∷◌, ◌++◌, Option, Some, None, refl, ap, sym, arith, take, drop, get_or, length, leb}
-use Rattle.std.proofs.lemmas.Bool.{leb-false, leb-true}
-use Rattle.std.proofs.lemmas.Grind.{flat_map-append}
-use Rattle.std.proofs.lemmas.List.{take_more}
-use Rattle.std.specs.Prelude.{flat_map, is_some, not, ◌||◌}
-use Rattle.channel_model.specs.Lawful.{first}
-use Rattle.query_machine.specs.Legs.{IsWaiting, flying_in, status_in}
-use Rattle.query_machine.specs.declared.leg.Phase.{Phase}
+use Rattle.channel_table.proofs.Base.{◌≡◌, ◌∙◌, ℕ, ◌+◌, ◌<◌, true, false, List, [], ◌∷◌, ◌++◌, Option, Some, None, refl, ap, sym, take, drop, get_or, length, flat_map-append, take_more, flat_map, is_some, not, ◌||◌, first, IsWaiting, flying_in, status_in, Phase}
 use Rattle.query_machine.specs.declared.leg.Phase.TheVariants as phases
-use Rattle.channel_table.proofs.Ending.{split_at}
+use Rattle.channel_table.proofs.EndedRows.{split_at}
 
 -- the first of a list is the first of a longer one
 first_of : {Y : Type 0} (xs ys : List Y) (y : Y) → first xs ≡ Some y → first (xs ++ ys) ≡ Some y
@@ -24,20 +17,12 @@ module _ {X Y : Type 0} (f : X → List Y) (xs : List X) (i : ℕ) (x : X) (insi
   pub passed : f x ≡ [] → flat_map f (take (i + 1) xs) ≡ []
   passed e = ap (flat_map f) (take_more xs i x inside ∙ ap (λ r. take i xs ++ r ∷ []) (sym is)) ∙ flat_map-append f (take i xs) (x ∷ []) ∙ rw (none, e) refl
 
--- each identifier is reached
-pub reaches : (word id : ℕ) → word < 2 ^ 16 → id < 2 ^ 16 → (steps : ℕ) × (steps < 2 ^ 16) × ((word + steps) % 2 ^ 16 ≡ id)
-reaches word id small inside = by_order (leb word id) refl
-  where
-    by_order : (b : Bool) → leb word id ≡ b → (steps : ℕ) × (steps < 2 ^ 16) × ((word + steps) % 2 ^ 16 ≡ id)
-    by_order true e = let below = leb-true word id e in (id - word, omega (arith, inside), omega (arith, below, inside))
-    by_order false e = let above = leb-false word id e in (id + 65536 - word, omega (arith, above, small), omega (arith, above, small, inside))
-
 -- there is none where a test says so
 pub no_attempt : {A : Type 0} (o : Option A) → is_some o ≡ false → o ≡ None
 no_attempt None e = refl
 no_attempt (Some x) e = absurd cc
 
--- a side that waits isn't in flight and hasn't ended
+-- a lookup that waits isn't in flight and hasn't ended
 pub waiting_says : (phase : Phase) → not (is_some (flying_in phase) || is_some (status_in phase)) ≡ true → IsWaiting phase × (flying_in phase ≡ None) × (status_in phase ≡ None)
 waiting_says phases.Waiting e = (tt, refl, refl)
 waiting_says (phases.InFlight flying) e = absurd cc

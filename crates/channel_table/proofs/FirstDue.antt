@@ -1,29 +1,12 @@
 -- The first deadline that is kept is the first of the rows.
-use Rattle.std.proofs.Common.{◌≡◌, ◌<◌, ◌∙◌, ℕ, Bool, true, false, ◌&&◌, ◌||◌, List, [], ◌∷◌, ◌++◌, Option, Some, None, refl, ap, sym, subst, append_assoc, arith, ◌⊎◌, inl, inr, ◌==◌}
-use Rattle.std.proofs.lemmas.Bool.{and_parts, eqb-true, false≢true}
-use Rattle.std.proofs.lemmas.Bool.Decides.{nat_tests}
+use Rattle.channel_table.proofs.Base.{◌≡◌, ◌<◌, ◌∙◌, ℕ, Bool, true, false, List, [], ◌∷◌, ◌++◌, Option, Some, None, refl, ap, sym, subst, append_assoc, arith, inl, inr, and_parts, false≢true, nat_tests, AllByRecursion, cons_option, eq_by_cmp, is_le, nat_cmp, ordering_then, option_map_or, IfSome, filter_map, flat_map, if◌then◌else◌, nat_le, option_map, option_to_list, Ordering, Less, Equal, Greater, Due, is_before, least, least_due, leg_of, Flying, key_cmp_total, tied_keys, key_cmp, Deadlines, IsFirst, Key, AreFlown, entry_by_leg, key_of_lookup, value_at, all_lookups, flying_of, leg_of_lookup, due_of_lookup, dues, Row, Lookup, Flown}
+use Rattle.std.proofs.Common.{◌==◌}
+use Rattle.std.proofs.Common.{◌&&◌, ◌||◌, ◌⊎◌}
+use Rattle.std.proofs.lemmas.Bool.{eqb-true}
 use Rattle.std.specs.FinMap as map
-use Rattle.std.specs.List.{AllByRecursion, cons_option}
-use Rattle.std.specs.Ordering.{eq_by_cmp, is_eq, is_le, is_lt, nat_cmp, ordering_then}
-use Rattle.std.specs.Option.{option_map_or}
-use Rattle.std.specs.Prelude.{IfSome, filter_map, flat_map, if◌then◌else◌, nat_le, nat_lt, option_map, option_to_list}
-use Rattle.std.specs.declared.cmp.Ordering.{Ordering}
-use Rattle.std.specs.declared.cmp.Ordering.TheVariants.{Less, Equal, Greater}
-use Rattle.channel_model.specs.Lawful.{Due, is_before, least, least_due}
-use Rattle.channel_model.specs.Legs.{leg_of}
-use Rattle.query_machine.specs.declared.leg.Flying.{Flying}
-use Rattle.timeout_queue.proofs.Theorems.{key_cmp_total, tied_keys}
-use Rattle.timeout_queue.specs.Key.{key_cmp}
-use Rattle.timeout_queue.specs.Queue.{Deadlines, IsFirst}
-use Rattle.timeout_queue.specs.declared.key.Key.{Key}
+use Rattle.std.specs.Ordering.{is_eq, is_lt}
+use Rattle.std.specs.Prelude.{nat_lt}
 use Rattle.channel_table.proofs.EntryLemmas.{entry_there}
-use Rattle.channel_table.specs.Flown.{AreFlown, entry_by_leg, key_of_side, value_at}
-use Rattle.channel_table.specs.Rows.{all_sides}
-use Rattle.channel_table.specs.Sides.{flying_of, leg_of_side}
-use Rattle.channel_table.specs.Soonest.{due_of_side, dues}
-use Rattle.channel_table.specs.declared.row.Row.{Row}
-use Rattle.channel_table.specs.declared.side.Side.{Side}
-use Rattle.channel_table.specs.declared.table.flown.Flown.{Flown}
 
 -- a deadline stands in the list
 abbrev IsThere : Due → List Due → Type 0
@@ -89,59 +72,59 @@ behind_first key other due moment upto =
     by_or true is e = inr is
     by_or false is e = inl (same e)
 
--- ---- the deadlines of sides
+-- ---- the deadlines of lookups
 
 module _ (flown : Flown) (key : Key) (due : ℕ) (first : IsFirst flown.deadlines key due) where
-  each_behind : (xs ss : List Side) → AreFlown flown (xs ++ ss) → AllByRecursion (IsBehind (due_at_key key due)) (filter_map due_of_side ss)
+  each_behind : (xs ss : List Lookup) → AreFlown flown (xs ++ ss) → AllByRecursion (IsBehind (due_at_key key due)) (filter_map due_of_lookup ss)
   each_behind xs [] are = tt
-  each_behind xs (side ∷ ss) are = by_flying (flying_of side) refl (each_behind (xs ++ side ∷ []) ss (subst (AreFlown flown) (sym (append_assoc xs (side ∷ []) ss)) are))
+  each_behind xs (lookup ∷ ss) are = by_flying (flying_of lookup) refl (each_behind (xs ++ lookup ∷ []) ss (subst (AreFlown flown) (sym (append_assoc xs (lookup ∷ []) ss)) are))
     where
-      by_flying : (o : Option Flying) → flying_of side ≡ o → AllByRecursion (IsBehind (due_at_key key due)) (filter_map due_of_side ss)
-          → AllByRecursion (IsBehind (due_at_key key due)) (cons_option (option_map (λ (flying : Flying). record { at = flying.due; leg = leg_of_side side }) o) (filter_map due_of_side ss))
+      by_flying : (o : Option Flying) → flying_of lookup ≡ o → AllByRecursion (IsBehind (due_at_key key due)) (filter_map due_of_lookup ss)
+          → AllByRecursion (IsBehind (due_at_key key due)) (cons_option (option_map (λ (flying : Flying). record { at = flying.due; leg = leg_of_lookup lookup }) o) (filter_map due_of_lookup ss))
       by_flying None is rest = rest
       by_flying (Some flying) is rest =
-          let there = entry_there key_cmp_total entry_by_leg flown.deadlines xs ss side (key_of_side side) flying.due (ap (λ (o : Option Flying). option_map (λ (f : Flying). (key_of_side side, f.due)) o) is) are.by_leg in
-          (behind_first key (key_of_side side) due flying.due (first.least (key_of_side side) flying.due there), rest)
+          let there = entry_there key_cmp_total entry_by_leg flown.deadlines xs ss lookup (key_of_lookup lookup) flying.due (ap (λ (o : Option Flying). option_map (λ (f : Flying). (key_of_lookup lookup, f.due)) o) is) are.by_leg in
+          (behind_first key (key_of_lookup lookup) due flying.due (first.least (key_of_lookup lookup) flying.due there), rest)
 
-find_there : (key : Key) (due : ℕ) (ss : List Side) → flat_map (λ side. value_at key_cmp key (entry_by_leg side)) ss ≡ due ∷ [] → IsThere (due_at_key key due) (filter_map due_of_side ss)
+find_there : (key : Key) (due : ℕ) (ss : List Lookup) → flat_map (λ lookup. value_at key_cmp key (entry_by_leg lookup)) ss ≡ due ∷ [] → IsThere (due_at_key key due) (filter_map due_of_lookup ss)
 find_there key due [] e = absurd cc
-find_there key due (side ∷ ss) e = by_flying (flying_of side) e (find_there key due ss)
+find_there key due (lookup ∷ ss) e = by_flying (flying_of lookup) e (find_there key due ss)
   where
-    by_tie : (flying : Flying) (b : Bool) → eq_by_cmp key_cmp key (key_of_side side) ≡ b → (if b then flying.due ∷ [] else []) ++ flat_map (λ s. value_at key_cmp key (entry_by_leg s)) ss ≡ due ∷ []
-        → (flat_map (λ s. value_at key_cmp key (entry_by_leg s)) ss ≡ due ∷ [] → IsThere (due_at_key key due) (filter_map due_of_side ss))
-        → (record { at = flying.due; leg = leg_of_side side } ≡ due_at_key key due) ⊎ IsThere (due_at_key key due) (filter_map due_of_side ss)
+    by_tie : (flying : Flying) (b : Bool) → eq_by_cmp key_cmp key (key_of_lookup lookup) ≡ b → (if b then flying.due ∷ [] else []) ++ flat_map (λ s. value_at key_cmp key (entry_by_leg s)) ss ≡ due ∷ []
+        → (flat_map (λ s. value_at key_cmp key (entry_by_leg s)) ss ≡ due ∷ [] → IsThere (due_at_key key due) (filter_map due_of_lookup ss))
+        → (record { at = flying.due; leg = leg_of_lookup lookup } ≡ due_at_key key due) ⊎ IsThere (due_at_key key due) (filter_map due_of_lookup ss)
     by_tie flying true is e go =
         let at : flying.due ≡ due = cc in
-        let own : key_of_side side ≡ key = sym (tied_keys key (key_of_side side) is) in
+        let own : key_of_lookup lookup ≡ key = sym (tied_keys key (key_of_lookup lookup) is) in
         inl (λ i. record { at = at i; leg = leg_of (own i).number (own i).leg })
     by_tie flying false is e go = inr (go e)
 
-    by_flying : (o : Option Flying) → value_at key_cmp key (option_map (λ (flying : Flying). (key_of_side side, flying.due)) o) ++ flat_map (λ s. value_at key_cmp key (entry_by_leg s)) ss ≡ due ∷ []
-        → (flat_map (λ s. value_at key_cmp key (entry_by_leg s)) ss ≡ due ∷ [] → IsThere (due_at_key key due) (filter_map due_of_side ss))
-        → IsThere (due_at_key key due) (cons_option (option_map (λ (flying : Flying). record { at = flying.due; leg = leg_of_side side }) o) (filter_map due_of_side ss))
+    by_flying : (o : Option Flying) → value_at key_cmp key (option_map (λ (flying : Flying). (key_of_lookup lookup, flying.due)) o) ++ flat_map (λ s. value_at key_cmp key (entry_by_leg s)) ss ≡ due ∷ []
+        → (flat_map (λ s. value_at key_cmp key (entry_by_leg s)) ss ≡ due ∷ [] → IsThere (due_at_key key due) (filter_map due_of_lookup ss))
+        → IsThere (due_at_key key due) (cons_option (option_map (λ (flying : Flying). record { at = flying.due; leg = leg_of_lookup lookup }) o) (filter_map due_of_lookup ss))
     by_flying None e go = go e
-    by_flying (Some flying) e go = by_tie flying (eq_by_cmp key_cmp key (key_of_side side)) refl e go
+    by_flying (Some flying) e go = by_tie flying (eq_by_cmp key_cmp key (key_of_lookup lookup)) refl e go
 
 -- the first deadline that is kept is the least of the rows
-pub first_least : {T : Type 0} (flown : Flown) (rows : List (Row T)) (key : Key) (due : ℕ) → AreFlown flown (all_sides rows) → IsFirst flown.deadlines key due → least (dues rows) ≡ Some (record { at = due; leg = leg_of key.number key.leg })
+pub first_least : {T : Type 0} (flown : Flown) (rows : List (Row T)) (key : Key) (due : ℕ) → AreFlown flown (all_lookups rows) → IsFirst flown.deadlines key due → least (dues rows) ≡ Some (record { at = due; leg = leg_of key.number key.leg })
 first_least flown rows key due are first =
-    least_is (due_at_key key due) (dues rows) (each_behind flown key due first [] (all_sides rows) are) (find_there key due (all_sides rows) (are.by_leg key ∙ ap option_to_list first.there))
+    least_is (due_at_key key due) (dues rows) (each_behind flown key due first [] (all_lookups rows) are) (find_there key due (all_lookups rows) (are.by_leg key ∙ ap option_to_list first.there))
 
--- no side has one where none is kept
-no_side_due : (flown : Flown) (xs ss : List Side) → flown.deadlines ≡ map.empty → AreFlown flown (xs ++ ss) → filter_map due_of_side ss ≡ []
-no_side_due flown xs [] empty are = refl
-no_side_due flown xs (side ∷ ss) empty are = by_flying (flying_of side) refl (no_side_due flown (xs ++ side ∷ []) ss empty (subst (AreFlown flown) (sym (append_assoc xs (side ∷ []) ss)) are))
+-- no lookup has one where none is kept
+no_lookup_due : (flown : Flown) (xs ss : List Lookup) → flown.deadlines ≡ map.empty → AreFlown flown (xs ++ ss) → filter_map due_of_lookup ss ≡ []
+no_lookup_due flown xs [] empty are = refl
+no_lookup_due flown xs (lookup ∷ ss) empty are = by_flying (flying_of lookup) refl (no_lookup_due flown (xs ++ lookup ∷ []) ss empty (subst (AreFlown flown) (sym (append_assoc xs (lookup ∷ []) ss)) are))
   where
-    by_flying : (o : Option Flying) → flying_of side ≡ o → filter_map due_of_side ss ≡ [] → cons_option (option_map (λ (flying : Flying). record { at = flying.due; leg = leg_of_side side }) o) (filter_map due_of_side ss) ≡ []
+    by_flying : (o : Option Flying) → flying_of lookup ≡ o → filter_map due_of_lookup ss ≡ [] → cons_option (option_map (λ (flying : Flying). record { at = flying.due; leg = leg_of_lookup lookup }) o) (filter_map due_of_lookup ss) ≡ []
     by_flying None is rest = rest
     by_flying (Some flying) is rest =
-        let there = entry_there key_cmp_total entry_by_leg flown.deadlines xs ss side (key_of_side side) flying.due (ap (λ (o : Option Flying). option_map (λ (f : Flying). (key_of_side side, f.due)) o) is) are.by_leg in
-        let gone : ◌≡◌ {A = Option ℕ} (Some flying.due) None = sym there ∙ ap (λ (m : Deadlines). map.get m (key_of_side side)) empty ∙ map.get-empty key_cmp (key_of_side side) in
+        let there = entry_there key_cmp_total entry_by_leg flown.deadlines xs ss lookup (key_of_lookup lookup) flying.due (ap (λ (o : Option Flying). option_map (λ (f : Flying). (key_of_lookup lookup, f.due)) o) is) are.by_leg in
+        let gone : ◌≡◌ {A = Option ℕ} (Some flying.due) None = sym there ∙ ap (λ (m : Deadlines). map.get m (key_of_lookup lookup)) empty ∙ map.get-empty key_cmp (key_of_lookup lookup) in
         absurd cc
 
 -- no row has one
-pub none_due : {T : Type 0} (flown : Flown) (rows : List (Row T)) → flown.deadlines ≡ map.empty → AreFlown flown (all_sides rows) → dues rows ≡ []
-none_due flown rows empty are = no_side_due flown [] (all_sides rows) empty are
+pub none_due : {T : Type 0} (flown : Flown) (rows : List (Row T)) → flown.deadlines ≡ map.empty → AreFlown flown (all_lookups rows) → dues rows ≡ []
+none_due flown rows empty are = no_lookup_due flown [] (all_lookups rows) empty are
 
 -- ---- whether the first is due at a moment
 

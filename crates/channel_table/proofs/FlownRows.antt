@@ -1,47 +1,14 @@
 -- How what finds the attempts in flight follows the rows.
-use Rattle.std.proofs.Common.{◌≡◌, ◌∙◌, ℕ, zero, suc, ◌+◌, ◌<◌, ◌≤◌, ◌==◌, Bool, true, false, ◌||◌, List, [], ◌∷◌, ◌++◌, Option, Some, None, refl, ap, ap₂, sym, subst, map, take, drop, get_or, length, append_assoc, arith, MatchOption}
-use Rattle.std.proofs.lemmas.Bool.Decides.{nat_tests}
-use Rattle.std.proofs.lemmas.Grind.{flat_map-append}
-use Rattle.std.proofs.lemmas.List.{append-nil, drop_more, map-append, take_more}
+use Rattle.channel_table.proofs.Base.{◌≡◌, ◌∙◌, ℕ, zero, suc, ◌+◌, ◌<◌, ◌≤◌, Bool, true, false, List, [], ◌∷◌, ◌++◌, Option, Some, None, refl, ap, ap₂, sym, subst, map, take, drop, get_or, length, append_assoc, arith, MatchOption, nat_tests, flat_map-append, append-nil, drop_more, map-append, take_more, AllByRecursion, list_any, eq_by_cmp, nat_cmp, IfSome, IsSomeAnd, filter_map, flat_map, if◌then◌else◌, is_some, option_map, option_to_list, Answer, ServerKey, Ticket, leg_of, Judged, IsWaiting, flying_in, Flying, Phase, Flags, tied_keys, key_cmp, Key, after, IsApart, NoneFlies, Becomes, EndsRow, kept_of, AreFlown, entry_by_id, entry_by_leg, key_of_lookup, value_at, begun_flown, ended_of, left_of, left_second, has_left, row_set, all_lookups, begun_row, lookup_at, lookups, flying_of, is_flying, leg_of_lookup, new_lookup, BeginsRow, IsFree, WaitsAt, flying_id, has_id, row_has_id, After, Ends, Stays, Row, Asked, Concerned, Lookup, Flown}
+use Rattle.std.proofs.Common.{◌==◌}
+use Rattle.std.proofs.Common.{◌||◌}
 use Rattle.std.specs.FinMap as finite
-use Rattle.std.specs.List.{AllByRecursion, list_any}
-use Rattle.std.specs.Ordering.{eq_by_cmp, nat_cmp}
-use Rattle.std.specs.Prelude.{IfSome, IsSomeAnd, filter_map, flat_map, if◌then◌else◌, is_some, option_map, option_to_list}
-use Rattle.chan_types.specs.declared.answer.Answer.{Answer}
-use Rattle.chan_types.specs.declared.server_key.ServerKey.{ServerKey}
-use Rattle.chan_types.specs.declared.ticket.Ticket.{Ticket}
-use Rattle.channel_model.specs.Legs.{leg_of}
-use Rattle.channel_model.specs.declared.judged.Judged.{Judged}
 use Rattle.id_pool.specs.Identifiers.{AllUsed, IsFirstFree}
-use Rattle.query_machine.specs.Legs.{IsWaiting, flying_in}
-use Rattle.query_machine.specs.declared.leg.Flying.{Flying}
 use Rattle.query_machine.specs.declared.leg.Leg as machine
-use Rattle.query_machine.specs.declared.leg.Phase.{Phase}
 use Rattle.query_machine.specs.declared.leg.Phase.TheVariants as phases
-use Rattle.resolv_options.specs.declared.flags.Flags.{Flags}
-use Rattle.timeout_queue.proofs.Theorems.{tied_keys}
-use Rattle.timeout_queue.specs.Key.{key_cmp}
-use Rattle.timeout_queue.specs.declared.key.Key.{Key}
-use Rattle.channel_table.proofs.Failing.{ends_more, stays_more}
-use Rattle.channel_table.proofs.FlownLemmas.{after_flown, begin_flown, more_flown, row_gone, set_flown, sides_left}
-use Rattle.channel_table.proofs.SideLists.{any_sides}
-use Rattle.channel_table.specs.After.{after}
-use Rattle.channel_table.specs.Apart.{IsApart, NoneFlies}
-use Rattle.channel_table.specs.Ends.{Becomes, EndsRow}
-use Rattle.channel_table.specs.Failing.{kept_of}
-use Rattle.channel_table.specs.Flown.{AreFlown, entry_by_id, entry_by_leg, key_of_side, value_at}
-use Rattle.channel_table.specs.Forgotten.{begun_flown, ended_of, left_of, left_second}
-use Rattle.channel_table.specs.Listing.{has_left, row_set}
-use Rattle.channel_table.specs.Rows.{all_sides, begun_row, side_at, sides}
-use Rattle.channel_table.specs.Sides.{flying_of, is_flying, leg_of_side, new_side}
-use Rattle.channel_table.specs.Starting.{BeginsRow, IsFree, WaitsAt, flying_id, has_id, row_has_id}
-use Rattle.channel_table.specs.declared.row.After.{After}
-use Rattle.channel_table.specs.declared.row.After.TheVariants.{Ends, Stays}
-use Rattle.channel_table.specs.declared.row.Row.{Row}
-use Rattle.channel_table.specs.declared.side.Asked.{Asked}
-use Rattle.channel_table.specs.declared.side.Hits.{Hits}
-use Rattle.channel_table.specs.declared.side.Side.{Side}
-use Rattle.channel_table.specs.declared.table.flown.Flown.{Flown}
+use Rattle.channel_table.proofs.Faulting.{ends_more, stays_more}
+use Rattle.channel_table.proofs.FlownLemmas.{after_flown, begin_flown, more_flown, row_gone, set_flown, lookups_left}
+use Rattle.channel_table.proofs.LookupLists.{any_lookups}
 
 no_attempt : {A : Type 0} (o : Option A) → is_some o ≡ false → o ≡ None
 no_attempt None e = refl
@@ -65,26 +32,26 @@ filled_option (Some v) = refl
 same_id : (x y : ℕ) → eq_by_cmp nat_cmp x y ≡ (y == x)
 same_id x y = grind (arith, nat_tests)
 
-side_id : (id : ℕ) (side : Side) → filled (value_at nat_cmp id (entry_by_id side)) ≡ has_id id side
-side_id id side = by_flying (flying_of side)
+lookup_id : (id : ℕ) (lookup : Lookup) → filled (value_at nat_cmp id (entry_by_id lookup)) ≡ has_id id lookup
+lookup_id id lookup = by_flying (flying_of lookup)
   where
     by_test : (key : Key) (b : Bool) → filled (if b then key ∷ [] else []) ≡ b
     by_test key true = refl
     by_test key false = refl
 
-    by_flying : (o : Option Flying) → filled (value_at nat_cmp id (option_map (λ (flying : Flying). (flying.id, key_of_side side)) o)) ≡ flying_id id o
+    by_flying : (o : Option Flying) → filled (value_at nat_cmp id (option_map (λ (flying : Flying). (flying.id, key_of_lookup lookup)) o)) ≡ flying_id id o
     by_flying None = refl
-    by_flying (Some flying) = by_test (key_of_side side) (eq_by_cmp nat_cmp id flying.id) ∙ same_id id flying.id
+    by_flying (Some flying) = by_test (key_of_lookup lookup) (eq_by_cmp nat_cmp id flying.id) ∙ same_id id flying.id
 
-sides_id : (id : ℕ) (ss : List Side) → filled (flat_map (λ side. value_at nat_cmp id (entry_by_id side)) ss) ≡ list_any (has_id id) ss
-sides_id id [] = refl
-sides_id id (side ∷ ss) =
-    filled-append (value_at nat_cmp id (entry_by_id side)) (flat_map (λ s. value_at nat_cmp id (entry_by_id s)) ss) ∙ ap₂ (λ a b. a || b) (side_id id side) (sides_id id ss)
+lookups_id : (id : ℕ) (ss : List Lookup) → filled (flat_map (λ lookup. value_at nat_cmp id (entry_by_id lookup)) ss) ≡ list_any (has_id id) ss
+lookups_id id [] = refl
+lookups_id id (lookup ∷ ss) =
+    filled-append (value_at nat_cmp id (entry_by_id lookup)) (flat_map (λ s. value_at nat_cmp id (entry_by_id s)) ss) ∙ ap₂ (λ a b. a || b) (lookup_id id lookup) (lookups_id id ss)
 
-module _ {T : Type 0} (flown : Flown) (rows : List (Row T)) (are : AreFlown flown (all_sides rows)) where
+module _ {T : Type 0} (flown : Flown) (rows : List (Row T)) (are : AreFlown flown (all_lookups rows)) where
   -- an identifier is found where an attempt of the rows has it
   pub ids_alike : (id : ℕ) → finite.contains_key flown.flights id ≡ list_any (row_has_id id) rows
-  ids_alike id = sym (filled_option (finite.get flown.flights id)) ∙ ap filled (sym (are.by_id id)) ∙ sides_id id (all_sides rows) ∙ sym (any_sides (has_id id) rows)
+  ids_alike id = sym (filled_option (finite.get flown.flights id)) ∙ ap filled (sym (are.by_id id)) ∙ lookups_id id (all_lookups rows) ∙ sym (any_lookups (has_id id) rows)
 
   -- the first free one is so of the rows
   pub free_is : (word : ℕ) (o : Option ℕ) → MatchOption o (AllUsed (finite.contains_key flown.flights)) (IsFirstFree (finite.contains_key flown.flights) word) → IsFree rows word o
@@ -94,47 +61,47 @@ module _ {T : Type 0} (flown : Flown) (rows : List (Row T)) (are : AreFlown flow
   pub id_free : (id : ℕ) → list_any (row_has_id id) rows ≡ false → finite.get flown.flights id ≡ None
   id_free id none = no_attempt (finite.get flown.flights id) (ids_alike id ∙ none)
 
--- no attempt of a leg is found where none of the sides is its
-no_values : (key : Key) (ss : List Side) → NoneFlies (leg_of key.number key.leg) ss → flat_map (λ side. value_at key_cmp key (entry_by_leg side)) ss ≡ []
+-- no attempt of a leg is found where none of the lookups is its
+no_values : (key : Key) (ss : List Lookup) → NoneFlies (leg_of key.number key.leg) ss → flat_map (λ lookup. value_at key_cmp key (entry_by_leg lookup)) ss ≡ []
 no_values key [] none = refl
-no_values key (side ∷ ss) none = ap₂ (λ us ws. us ++ ws) (by_flying (flying_of side) refl) (no_values key ss none.1)
+no_values key (lookup ∷ ss) none = ap₂ (λ us ws. us ++ ws) (by_flying (flying_of lookup) refl) (no_values key ss none.1)
   where
-    by_tie : (flying : Flying) (b : Bool) → flying_of side ≡ Some flying → eq_by_cmp key_cmp key (key_of_side side) ≡ b → (if b then flying.due ∷ [] else []) ≡ []
+    by_tie : (flying : Flying) (b : Bool) → flying_of lookup ≡ Some flying → eq_by_cmp key_cmp key (key_of_lookup lookup) ≡ b → (if b then flying.due ∷ [] else []) ≡ []
     by_tie flying true flies is =
-        let same : leg_of_side side ≡ leg_of key.number key.leg = ap (λ (k : Key). leg_of k.number k.leg) (sym (tied_keys key (key_of_side side) is)) in
+        let same : leg_of_lookup lookup ≡ leg_of key.number key.leg = ap (λ (k : Key). leg_of k.number k.leg) (sym (tied_keys key (key_of_lookup lookup) is)) in
         absurd (let t : true ≡ false = ap is_some (sym flies) ∙ none.0 same in cc)
     by_tie flying false flies is = refl
 
-    by_flying : (o : Option Flying) → flying_of side ≡ o → value_at key_cmp key (option_map (λ (flying : Flying). (key_of_side side, flying.due)) o) ≡ []
+    by_flying : (o : Option Flying) → flying_of lookup ≡ o → value_at key_cmp key (option_map (λ (flying : Flying). (key_of_lookup lookup, flying.due)) o) ≡ []
     by_flying None is = refl
-    by_flying (Some flying) is = by_tie flying (eq_by_cmp key_cmp key (key_of_side side)) is refl
+    by_flying (Some flying) is = by_tie flying (eq_by_cmp key_cmp key (key_of_lookup lookup)) is refl
 
 nothing_there : {V : Type 0} (o : Option V) → [] ≡ option_to_list o → o ≡ None
 nothing_there None e = refl
 nothing_there (Some v) e = absurd cc
 
-pub leg_free : (flown : Flown) (ss : List Side) (key : Key) → AreFlown flown ss → NoneFlies (leg_of key.number key.leg) ss → finite.get flown.deadlines key ≡ None
+pub leg_free : (flown : Flown) (ss : List Lookup) (key : Key) → AreFlown flown ss → NoneFlies (leg_of key.number key.leg) ss → finite.get flown.deadlines key ≡ None
 leg_free flown ss key are none = nothing_there (finite.get flown.deadlines key) (sym (no_values key ss none) ∙ are.by_leg key)
 
 -- ---- changes of the rows
 
-more_sides : (flown : Flown) (xs ys ss : List Side) → AllByRecursion (λ (side : Side). is_flying side ≡ false) ss → AreFlown flown (xs ++ ys) → AreFlown flown (xs ++ (ss ++ ys))
-more_sides flown xs ys [] idle are = are
-more_sides flown xs ys (side ∷ ss) idle are = more_flown flown xs (ss ++ ys) side (no_attempt (flying_of side) idle.0) (more_sides flown xs ys ss idle.1 are)
+more_lookups : (flown : Flown) (xs ys ss : List Lookup) → AllByRecursion (λ (lookup : Lookup). is_flying lookup ≡ false) ss → AreFlown flown (xs ++ ys) → AreFlown flown (xs ++ (ss ++ ys))
+more_lookups flown xs ys [] idle are = are
+more_lookups flown xs ys (lookup ∷ ss) idle are = more_flown flown xs (ss ++ ys) lookup (no_attempt (flying_of lookup) idle.0) (more_lookups flown xs ys ss idle.1 are)
 
 module _ {T : Type 0} where
-  parts : (before behind : List (Row T)) (row : Row T) → all_sides (before ++ row ∷ behind) ≡ all_sides before ++ (sides row ++ all_sides behind)
-  parts before behind row = flat_map-append sides before (row ∷ behind)
+  parts : (before behind : List (Row T)) (row : Row T) → all_lookups (before ++ row ∷ behind) ≡ all_lookups before ++ (lookups row ++ all_lookups behind)
+  parts before behind row = flat_map-append lookups before (row ∷ behind)
 
-  pub push_flown : (flown : Flown) (rows : List (Row T)) (row : Row T) → AllByRecursion (λ (side : Side). is_flying side ≡ false) (sides row) → AreFlown flown (all_sides rows) → AreFlown flown (all_sides (rows ++ row ∷ []))
+  pub push_flown : (flown : Flown) (rows : List (Row T)) (row : Row T) → AllByRecursion (λ (lookup : Lookup). is_flying lookup ≡ false) (lookups row) → AreFlown flown (all_lookups rows) → AreFlown flown (all_lookups (rows ++ row ∷ []))
   push_flown flown rows row idle are =
-      subst (AreFlown flown) (sym (parts rows [] row)) (more_sides flown (all_sides rows) [] (sides row) idle (subst (AreFlown flown) (sym (append-nil (all_sides rows))) are))
+      subst (AreFlown flown) (sym (parts rows [] row)) (more_lookups flown (all_lookups rows) [] (lookups row) idle (subst (AreFlown flown) (sym (append-nil (all_lookups rows))) are))
 
-  pub ends_flown : (flown : Flown) (flags : Flags) (concerned : Hits) (judged : Judged) (reply : List ℕ) (most : ℕ) (answer : Option Answer) (index : ℕ) (rows : List (Row T)) (tickets : List (Ticket T)) (new_rows : List (Row T)) (new_tickets : List (Ticket T))
-      (ends : EndsRow flags concerned judged reply most answer index rows tickets new_rows new_tickets) → AreFlown flown (all_sides rows) → AreFlown (ended_of concerned (is_some answer) ends.row flown) (all_sides new_rows)
+  pub ends_flown : (flown : Flown) (flags : Flags) (concerned : Concerned) (judged : Judged) (reply : List ℕ) (most : ℕ) (answer : Option Answer) (index : ℕ) (rows : List (Row T)) (tickets : List (Ticket T)) (new_rows : List (Row T)) (new_tickets : List (Ticket T))
+      (ends : EndsRow flags concerned judged reply most answer index rows tickets new_rows new_tickets) → AreFlown flown (all_lookups rows) → AreFlown (ended_of concerned (is_some answer) ends.row flown) (all_lookups new_rows)
   ends_flown flown flags concerned judged reply most answer index rows tickets new_rows new_tickets ends are =
       by_after (after flags concerned judged reply most ends.row answer) ends.becomes
-      (after_flown flown (all_sides before) (all_sides behind) ends.row flags concerned judged reply most answer (subst (AreFlown flown) (ap all_sides ends.parts ∙ parts before behind ends.row) are))
+      (after_flown flown (all_lookups before) (all_lookups behind) ends.row flags concerned judged reply most answer (subst (AreFlown flown) (ap all_lookups ends.parts ∙ parts before behind ends.row) are))
     where
       before : List (Row T)
       before = take index rows
@@ -142,17 +109,17 @@ module _ {T : Type 0} where
       behind : List (Row T)
       behind = drop (index + 1) rows
 
-      by_after : (a : After T) → Becomes before behind tickets new_rows new_tickets a → AreFlown (ended_of concerned (is_some answer) ends.row flown) (all_sides before ++ (sides_left a ++ all_sides behind)) → AreFlown (ended_of concerned (is_some answer) ends.row flown) (all_sides new_rows)
-      by_after (Stays row) becomes there = subst (AreFlown (ended_of concerned (is_some answer) ends.row flown)) (sym (ap all_sides becomes.0 ∙ parts before behind row)) there
-      by_after (Ends ticket) becomes there = subst (AreFlown (ended_of concerned (is_some answer) ends.row flown)) (sym (ap all_sides becomes.0 ∙ flat_map-append sides before behind)) there
+      by_after : (a : After T) → Becomes before behind tickets new_rows new_tickets a → AreFlown (ended_of concerned (is_some answer) ends.row flown) (all_lookups before ++ (lookups_left a ++ all_lookups behind)) → AreFlown (ended_of concerned (is_some answer) ends.row flown) (all_lookups new_rows)
+      by_after (Stays row) becomes there = subst (AreFlown (ended_of concerned (is_some answer) ends.row flown)) (sym (ap all_lookups becomes.0 ∙ parts before behind row)) there
+      by_after (Ends ticket) becomes there = subst (AreFlown (ended_of concerned (is_some answer) ends.row flown)) (sym (ap all_lookups becomes.0 ∙ flat_map-append lookups before behind)) there
 
-  pub begins_flown : (flown : Flown) (flying : Flying) (index : ℕ) (second : Bool) (rows new_rows : List (Row T)) (begins : BeginsRow flying index second rows new_rows) (side : Side) → side_at second begins.row ≡ Some side → flying_of side ≡ None
-      → finite.get flown.flights flying.id ≡ None → finite.get flown.deadlines (key_of_side side) ≡ None → AreFlown flown (all_sides rows) → AreFlown (begun_flown (key_of_side side) flying.id flying.due flown) (all_sides new_rows)
-  begins_flown flown flying index second rows new_rows begins side at none free idle are =
+  pub begins_flown : (flown : Flown) (flying : Flying) (index : ℕ) (second : Bool) (rows new_rows : List (Row T)) (begins : BeginsRow flying index second rows new_rows) (lookup : Lookup) → lookup_at second begins.row ≡ Some lookup → flying_of lookup ≡ None
+      → finite.get flown.flights flying.id ≡ None → finite.get flown.deadlines (key_of_lookup lookup) ≡ None → AreFlown flown (all_lookups rows) → AreFlown (begun_flown (key_of_lookup lookup) flying.id flying.due flown) (all_lookups new_rows)
+  begins_flown flown flying index second rows new_rows begins lookup at none free idle are =
       let before = take index rows in
       let behind = drop (index + 1) rows in
-      subst (AreFlown (begun_flown (key_of_side side) flying.id flying.due flown)) (sym (ap all_sides begins.becomes ∙ parts before behind (begun_row flying second begins.row)))
-      (begin_flown flown (all_sides before) (all_sides behind) begins.row flying second side at none free idle (subst (AreFlown flown) (ap all_sides begins.parts ∙ parts before behind begins.row) are))
+      subst (AreFlown (begun_flown (key_of_lookup lookup) flying.id flying.due flown)) (sym (ap all_lookups begins.becomes ∙ parts before behind (begun_row flying second begins.row)))
+      (begin_flown flown (all_lookups before) (all_lookups behind) begins.row flying second lookup at none free idle (subst (AreFlown flown) (ap all_lookups begins.parts ∙ parts before behind begins.row) are))
 
   -- ---- one row after the other
 
@@ -163,28 +130,28 @@ module _ {T : Type 0} where
     taken : take (i + 1) rows ≡ take i rows ++ row ∷ []
     taken = take_more rows i row inside ∙ ap (λ (r : Row T). take i rows ++ r ∷ []) (sym is)
 
-    pub gone_step : AreFlown flown (all_sides (drop i rows)) → AreFlown (left_of true true row flown) (all_sides (drop (i + 1) rows))
-    gone_step are = row_gone flown [] (all_sides (drop (i + 1) rows)) row (subst (λ (rs : List (Row T)). AreFlown flown (all_sides rs)) rest are)
+    pub gone_step : AreFlown flown (all_lookups (drop i rows)) → AreFlown (left_of true true row flown) (all_lookups (drop (i + 1) rows))
+    gone_step are = row_gone flown [] (all_lookups (drop (i + 1) rows)) row (subst (λ (rs : List (Row T)). AreFlown flown (all_lookups rs)) rest are)
 
-    next : (before : List (Row T)) (new : Row T) → (all_sides before ++ (sides new ++ all_sides (drop (i + 1) rows))) ≡ all_sides (before ++ new ∷ []) ++ all_sides (drop (i + 1) rows)
+    next : (before : List (Row T)) (new : Row T) → (all_lookups before ++ (lookups new ++ all_lookups (drop (i + 1) rows))) ≡ all_lookups (before ++ new ∷ []) ++ all_lookups (drop (i + 1) rows)
     next before new =
-        sym (append_assoc (all_sides before) (sides new) (all_sides (drop (i + 1) rows)))
-        ∙ ap (λ ss. ss ++ all_sides (drop (i + 1) rows)) (ap (λ ss. all_sides before ++ ss) (sym (append-nil (sides new))) ∙ sym (parts before [] new))
+        sym (append_assoc (all_lookups before) (lookups new) (all_lookups (drop (i + 1) rows)))
+        ∙ ap (λ ss. ss ++ all_lookups (drop (i + 1) rows)) (ap (λ ss. all_lookups before ++ ss) (sym (append-nil (lookups new))) ∙ sym (parts before [] new))
 
-    pub set_step : (list : List ServerKey) → AreFlown flown (all_sides (map (row_set list) (take i rows)) ++ all_sides (drop i rows))
-        → AreFlown (left_of (has_left list row.first) (left_second list row.second) row flown) (all_sides (map (row_set list) (take (i + 1) rows)) ++ all_sides (drop (i + 1) rows))
+    pub set_step : (list : List ServerKey) → AreFlown flown (all_lookups (map (row_set list) (take i rows)) ++ all_lookups (drop i rows))
+        → AreFlown (left_of (has_left list row.first) (left_second list row.second) row flown) (all_lookups (map (row_set list) (take (i + 1) rows)) ++ all_lookups (drop (i + 1) rows))
     set_step list are =
         let before = map (row_set list) (take i rows) in
-        let there = set_flown flown (all_sides before) (all_sides (drop (i + 1) rows)) row list (subst (λ (rs : List (Row T)). AreFlown flown (all_sides before ++ all_sides rs)) rest are) in
+        let there = set_flown flown (all_lookups before) (all_lookups (drop (i + 1) rows)) row list (subst (λ (rs : List (Row T)). AreFlown flown (all_lookups before ++ all_lookups rs)) rest are) in
         subst (AreFlown (left_of (has_left list row.first) (left_second list row.second) row flown))
-        (next before (row_set list row) ∙ ap (λ (rs : List (Row T)). all_sides rs ++ all_sides (drop (i + 1) rows)) (sym (ap (map (row_set list)) taken ∙ map-append (row_set list) (take i rows) (row ∷ [])))) there
+        (next before (row_set list row) ∙ ap (λ (rs : List (Row T)). all_lookups rs ++ all_lookups (drop (i + 1) rows)) (sym (ap (map (row_set list)) taken ∙ map-append (row_set list) (take i rows) (row ∷ [])))) there
 
-    pub over_step : (flags : Flags) (concerned : Hits) (judged : Judged) (reply : List ℕ) (most : ℕ) (answer : Row T → Option Answer)
-        → AreFlown flown (all_sides (filter_map kept_of (map (λ (r : Row T). after flags concerned judged reply most r (answer r)) (take i rows))) ++ all_sides (drop i rows))
-        → AreFlown (ended_of concerned (is_some (answer row)) row flown) (all_sides (filter_map kept_of (map (λ (r : Row T). after flags concerned judged reply most r (answer r)) (take (i + 1) rows))) ++ all_sides (drop (i + 1) rows))
+    pub over_step : (flags : Flags) (concerned : Concerned) (judged : Judged) (reply : List ℕ) (most : ℕ) (answer : Row T → Option Answer)
+        → AreFlown flown (all_lookups (filter_map kept_of (map (λ (r : Row T). after flags concerned judged reply most r (answer r)) (take i rows))) ++ all_lookups (drop i rows))
+        → AreFlown (ended_of concerned (is_some (answer row)) row flown) (all_lookups (filter_map kept_of (map (λ (r : Row T). after flags concerned judged reply most r (answer r)) (take (i + 1) rows))) ++ all_lookups (drop (i + 1) rows))
     over_step flags concerned judged reply most answer are =
-        subst (λ (rs : List (Row T)). AreFlown (ended_of concerned (is_some (answer row)) row flown) (all_sides (filter_map kept_of (map f rs)) ++ all_sides (drop (i + 1) rows))) (sym taken)
-        (by_after (f row) refl (after_flown flown (all_sides before) (all_sides (drop (i + 1) rows)) row flags concerned judged reply most (answer row) (subst (λ (rs : List (Row T)). AreFlown flown (all_sides before ++ all_sides rs)) rest are)))
+        subst (λ (rs : List (Row T)). AreFlown (ended_of concerned (is_some (answer row)) row flown) (all_lookups (filter_map kept_of (map f rs)) ++ all_lookups (drop (i + 1) rows))) (sym taken)
+        (by_after (f row) refl (after_flown flown (all_lookups before) (all_lookups (drop (i + 1) rows)) row flags concerned judged reply most (answer row) (subst (λ (rs : List (Row T)). AreFlown flown (all_lookups before ++ all_lookups rs)) rest are)))
       where
         f : Row T → After T
         f r = after flags concerned judged reply most r (answer r)
@@ -192,10 +159,10 @@ module _ {T : Type 0} where
         before : List (Row T)
         before = filter_map kept_of (map f (take i rows))
 
-        by_after : (a : After T) → f row ≡ a → AreFlown (ended_of concerned (is_some (answer row)) row flown) (all_sides before ++ (sides_left a ++ all_sides (drop (i + 1) rows)))
-            → AreFlown (ended_of concerned (is_some (answer row)) row flown) (all_sides (filter_map kept_of (map f (take i rows ++ row ∷ []))) ++ all_sides (drop (i + 1) rows))
-        by_after (Stays new) e there = subst (AreFlown (ended_of concerned (is_some (answer row)) row flown)) (next before new ∙ ap (λ (rs : List (Row T)). all_sides rs ++ all_sides (drop (i + 1) rows)) (sym (stays_more f (take i rows) row new e).0)) there
-        by_after (Ends ticket) e there = subst (λ (rs : List (Row T)). AreFlown (ended_of concerned (is_some (answer row)) row flown) (all_sides rs ++ all_sides (drop (i + 1) rows))) (sym (ends_more f (take i rows) row ticket e).0) there
+        by_after : (a : After T) → f row ≡ a → AreFlown (ended_of concerned (is_some (answer row)) row flown) (all_lookups before ++ (lookups_left a ++ all_lookups (drop (i + 1) rows)))
+            → AreFlown (ended_of concerned (is_some (answer row)) row flown) (all_lookups (filter_map kept_of (map f (take i rows ++ row ∷ []))) ++ all_lookups (drop (i + 1) rows))
+        by_after (Stays new) e there = subst (AreFlown (ended_of concerned (is_some (answer row)) row flown)) (next before new ∙ ap (λ (rs : List (Row T)). all_lookups rs ++ all_lookups (drop (i + 1) rows)) (sym (stays_more f (take i rows) row new e).0)) there
+        by_after (Ends ticket) e there = subst (λ (rs : List (Row T)). AreFlown (ended_of concerned (is_some (answer row)) row flown) (all_lookups rs ++ all_lookups (drop (i + 1) rows))) (sym (ends_more f (take i rows) row ticket e).0) there
 
 -- ---- the begin of an attempt
 
@@ -204,28 +171,28 @@ waiting_idle phases.Waiting waits = refl
 waiting_idle (phases.InFlight flying) waits = absurd waits
 waiting_idle (phases.Ended status) waits = absurd waits
 
-module _ {T : Type 0} (flown : Flown) (index : ℕ) (second : Bool) (rows : List (Row T)) (apart : IsApart index second rows) (are : AreFlown flown (all_sides rows)) (got : Side) where
-  -- the leg of the side has no attempt that is found
-  pub leg_idle : (row : Row T) → row ≡ get_or rows index row → IfSome (side_at second row) (λ (side : Side). got ≡ side) → finite.contains_key flown.deadlines (key_of_side got) ≡ false
-  leg_idle row is told = by_side (side_at second row) (subst (λ (r : Row T). IsSomeAnd (side_at second r) (λ (side : Side). NoneFlies (leg_of_side side) (all_sides rows))) (sym is) (apart row)) told
+module _ {T : Type 0} (flown : Flown) (index : ℕ) (second : Bool) (rows : List (Row T)) (apart : IsApart index second rows) (are : AreFlown flown (all_lookups rows)) (got : Lookup) where
+  -- the leg of the lookup has no attempt that is found
+  pub leg_idle : (row : Row T) → row ≡ get_or rows index row → IfSome (lookup_at second row) (λ (lookup : Lookup). got ≡ lookup) → finite.contains_key flown.deadlines (key_of_lookup got) ≡ false
+  leg_idle row is told = by_lookup (lookup_at second row) (subst (λ (r : Row T). IsSomeAnd (lookup_at second r) (λ (lookup : Lookup). NoneFlies (leg_of_lookup lookup) (all_lookups rows))) (sym is) (apart row)) told
     where
-      by_side : (o : Option Side) → IsSomeAnd o (λ (side : Side). NoneFlies (leg_of_side side) (all_sides rows)) → IfSome o (λ (side : Side). got ≡ side) → finite.contains_key flown.deadlines (key_of_side got) ≡ false
-      by_side None none told = absurd none
-      by_side (Some side) none told = ap is_some (leg_free flown (all_sides rows) (key_of_side got) are (subst (λ (s : Side). NoneFlies (leg_of_side s) (all_sides rows)) (sym told) none))
+      by_lookup : (o : Option Lookup) → IsSomeAnd o (λ (lookup : Lookup). NoneFlies (leg_of_lookup lookup) (all_lookups rows)) → IfSome o (λ (lookup : Lookup). got ≡ lookup) → finite.contains_key flown.deadlines (key_of_lookup got) ≡ false
+      by_lookup None none told = absurd none
+      by_lookup (Some lookup) none told = ap is_some (leg_free flown (all_lookups rows) (key_of_lookup got) are (subst (λ (s : Lookup). NoneFlies (leg_of_lookup s) (all_lookups rows)) (sym told) none))
 
   -- and it is found with its attempt
-  pub begin_found : (flying : Flying) (new_rows : List (Row T)) (begins : BeginsRow flying index second rows new_rows) → WaitsAt index second rows → list_any (row_has_id flying.id) rows ≡ false → IfSome (side_at second begins.row) (λ (side : Side). got ≡ side)
-      → AreFlown (begun_flown (key_of_side got) flying.id flying.due flown) (all_sides new_rows)
+  pub begin_found : (flying : Flying) (new_rows : List (Row T)) (begins : BeginsRow flying index second rows new_rows) → WaitsAt index second rows → list_any (row_has_id flying.id) rows ≡ false → IfSome (lookup_at second begins.row) (λ (lookup : Lookup). got ≡ lookup)
+      → AreFlown (begun_flown (key_of_lookup got) flying.id flying.due flown) (all_lookups new_rows)
   begin_found flying new_rows begins waits free told =
-      by_side (side_at second begins.row) refl (subst (λ (r : Row T). IfSome (side_at second r) (λ (side : Side). IsWaiting side.leg.phase)) (begins.is begins.row) (waits begins.row))
-      (subst (λ (r : Row T). IsSomeAnd (side_at second r) (λ (side : Side). NoneFlies (leg_of_side side) (all_sides rows))) (begins.is begins.row) (apart begins.row)) told
+      by_lookup (lookup_at second begins.row) refl (subst (λ (r : Row T). IfSome (lookup_at second r) (λ (lookup : Lookup). IsWaiting lookup.leg.phase)) (begins.is begins.row) (waits begins.row))
+      (subst (λ (r : Row T). IsSomeAnd (lookup_at second r) (λ (lookup : Lookup). NoneFlies (leg_of_lookup lookup) (all_lookups rows))) (begins.is begins.row) (apart begins.row)) told
     where
-      by_side : (o : Option Side) → side_at second begins.row ≡ o → IfSome o (λ (side : Side). IsWaiting side.leg.phase) → IsSomeAnd o (λ (side : Side). NoneFlies (leg_of_side side) (all_sides rows)) → IfSome o (λ (side : Side). got ≡ side)
-          → AreFlown (begun_flown (key_of_side got) flying.id flying.due flown) (all_sides new_rows)
-      by_side None at waits none told = absurd none
-      by_side (Some side) at waits none told =
-          subst (λ (s : Side). AreFlown (begun_flown (key_of_side s) flying.id flying.due flown) (all_sides new_rows)) (sym told)
-          (begins_flown flown flying index second rows new_rows begins side at (waiting_idle side.leg.phase waits) (id_free flown rows are flying.id free) (leg_free flown (all_sides rows) (key_of_side side) are none) are)
+      by_lookup : (o : Option Lookup) → lookup_at second begins.row ≡ o → IfSome o (λ (lookup : Lookup). IsWaiting lookup.leg.phase) → IsSomeAnd o (λ (lookup : Lookup). NoneFlies (leg_of_lookup lookup) (all_lookups rows)) → IfSome o (λ (lookup : Lookup). got ≡ lookup)
+          → AreFlown (begun_flown (key_of_lookup got) flying.id flying.due flown) (all_lookups new_rows)
+      by_lookup None at waits none told = absurd none
+      by_lookup (Some lookup) at waits none told =
+          subst (λ (s : Lookup). AreFlown (begun_flown (key_of_lookup s) flying.id flying.due flown) (all_lookups new_rows)) (sym told)
+          (begins_flown flown flying index second rows new_rows begins lookup at (waiting_idle lookup.leg.phase waits) (id_free flown rows are flying.id free) (leg_free flown (all_lookups rows) (key_of_lookup lookup) are none) are)
 
 -- ---- lists
 
@@ -240,8 +207,8 @@ map_at f [] i x d inside is = absurd (omega (arith, inside))
 map_at f (y ∷ xs) zero x d inside is = ap f (sym is)
 map_at f (y ∷ xs) (suc i) x d inside is = map_at f xs i x d (omega (arith, inside)) is
 
--- the sides of a new request have no attempt
+-- the lookups of a new request have no attempt
 pub new_idle : (number leg_number : ℕ) (asked : Asked) (second : Option Asked) (leg : machine.Leg) → flying_in leg.phase ≡ None
-    → AllByRecursion (λ (side : Side). is_flying side ≡ false) (new_side number leg_number asked leg ∷ option_to_list (option_map (λ (a : Asked). new_side number 1 a leg) second))
+    → AllByRecursion (λ (lookup : Lookup). is_flying lookup ≡ false) (new_lookup number leg_number asked leg ∷ option_to_list (option_map (λ (a : Asked). new_lookup number 1 a leg) second))
 new_idle number leg_number asked None leg none = (ap is_some none, tt)
 new_idle number leg_number asked (Some other) leg none = (ap is_some none, (ap is_some none, tt))

@@ -1,20 +1,8 @@
 -- A leg without a Start stands as a fresh one.
-use Rattle.std.proofs.Common.{◌≡◌, ◌∙◌, Bool, true, false, List, [], ◌∷◌, Option, Some, None, refl, ap, ap₂, sym, cond, arith}
-use Rattle.std.proofs.lemmas.Bool.{or_parts}
-use Rattle.std.specs.Prelude.{is_some, option_map, ◌&&◌, ◌||◌}
-use Rattle.channel_model.proofs.Theorems.{started-says}
-use Rattle.channel_model.specs.Choice.{deadline}
-use Rattle.channel_model.specs.Flight.{Attempt, closes, flight, has_leg, started}
-use Rattle.channel_model.specs.Journal.{Past}
-use Rattle.channel_model.specs.LegEnd.{end_of}
+use Rattle.channel_table.proofs.Base.{◌≡◌, ◌∙◌, Bool, true, false, List, [], ◌∷◌, Option, Some, None, refl, ap, ap₂, sym, cond, arith, or_parts, is_some, option_map, ◌&&◌, ◌||◌, started-says, deadline, Attempt, closes, flight, has_leg, started, Past, end_of, Leg, closing_of, closings, forced_server, has_opt, is_over_tcp, spent, with_closing, Setting, has_item, fresh_leg, LegStands, facts_of}
 use Rattle.channel_model.specs.LegFacts.{leg_facts}
-use Rattle.channel_model.specs.Legs.{Leg}
-use Rattle.channel_model.specs.Past.{closing_of, closings, forced_behind, forced_by, forced_server, has_opt, if_left, is_over_tcp, spent, with_closing}
-use Rattle.channel_model.specs.Setting.{Setting}
-use Rattle.channel_model.specs.Verdict.{has_item}
-use Rattle.query_machine.specs.Legs.{fresh_leg}
+use Rattle.channel_model.specs.Past.{forced_behind, forced_by, if_left}
 use Rattle.channel_table.proofs.Finding.{no_attempt}
-use Rattle.channel_table.specs.Legs.{LegStands, facts_of}
 
 or_nothing : (b : Bool) → (b || false) ≡ b
 or_nothing true = refl

@@ -1,31 +1,7 @@
 -- How what finds the legs follows a change of the rows.
-use Rattle.std.proofs.Common.{◌≡◌, ◌∙◌, ℕ, ◌+◌, ◌<◌, Bool, true, false, ◌||◌, List, [], ◌∷◌, ◌++◌, Option, Some, None, refl, ap, sym, subst, map, take, drop}
-use Rattle.std.proofs.lemmas.List.{map-append}
+use Rattle.channel_table.proofs.Base.{◌≡◌, ◌∙◌, ℕ, ◌+◌, ◌<◌, Bool, true, false, List, [], ◌∷◌, ◌++◌, Option, Some, None, refl, ap, sym, subst, map, take, drop, map-append, AllByRecursion, list_any, filter_map, if◌then◌else◌, option_map, option_to_list, Answer, ServerKey, Ticket, each-append, Judged, Legs, fresh_leg, Flying, Flags, after, has_next, last_status, next_row, lookups_behind, Becomes, EndsRow, kept_of, IsListed, IsRising, key_of, some_waits, stays, row_set, begun_row, number_of, waits, BeginsRow, After, Ends, Stays, Row, Concerned, Lookup}
+use Rattle.std.proofs.Common.{◌||◌}
 use Rattle.std.specs.FinSet as set
-use Rattle.std.specs.List.{AllByRecursion, list_any}
-use Rattle.std.specs.Prelude.{filter_map, if◌then◌else◌, option_map, option_to_list}
-use Rattle.chan_types.specs.declared.answer.Answer.{Answer}
-use Rattle.chan_types.specs.declared.server_key.ServerKey.{ServerKey}
-use Rattle.chan_types.specs.declared.ticket.Ticket.{Ticket}
-use Rattle.channel_model.proofs.Theorems.{each-append}
-use Rattle.channel_model.specs.declared.judged.Judged.{Judged}
-use Rattle.leg_index.specs.Waiting.{Legs}
-use Rattle.query_machine.specs.Legs.{fresh_leg}
-use Rattle.query_machine.specs.declared.leg.Flying.{Flying}
-use Rattle.resolv_options.specs.declared.flags.Flags.{Flags}
-use Rattle.channel_table.specs.After.{after, has_next, last_status, next_row, sides_behind}
-use Rattle.channel_table.specs.Ends.{Becomes, EndsRow}
-use Rattle.channel_table.specs.Failing.{kept_of}
-use Rattle.channel_table.specs.Listed.{IsListed, IsRising, key_of, some_waits, stays}
-use Rattle.channel_table.specs.Listing.{row_set}
-use Rattle.channel_table.specs.Rows.{begun_row, number_of}
-use Rattle.channel_table.specs.Sides.{waits}
-use Rattle.channel_table.specs.Starting.{BeginsRow}
-use Rattle.channel_table.specs.declared.row.After.{After}
-use Rattle.channel_table.specs.declared.row.After.TheVariants.{Ends, Stays}
-use Rattle.channel_table.specs.declared.row.Row.{Row}
-use Rattle.channel_table.specs.declared.side.Hits.{Hits}
-use Rattle.channel_table.specs.declared.side.Side.{Side}
 
 -- what holds of each item of two lists in a row holds of those of each
 pub each_before : {X : Type 0} (P : X → Type 0) (xs ys : List X) → AllByRecursion P (xs ++ ys) → AllByRecursion P xs
@@ -70,12 +46,12 @@ module _ {T : Type 0} where
 
   -- ---- the end of an attempt
 
-  module _ (flags : Flags) (concerned : Hits) (judged : Judged) (reply : List ℕ) (most : ℕ) where
+  module _ (flags : Flags) (concerned : Concerned) (judged : Judged) (reply : List ℕ) (most : ℕ) where
     -- the row stays with its number, or is gone
     pub became : (P : List (Row T) → Type 0) (before behind : List (Row T)) (row : Row T) (tickets new_tickets : List (Ticket T)) (new_rows : List (Row T)) (answer : Option Answer)
         → ((new : Row T) → new.number ≡ row.number → stays answer row ≡ true → P (before ++ new ∷ behind)) → P (before ++ behind)
         → Becomes before behind tickets new_rows new_tickets (after flags concerned judged reply most row answer) → P new_rows
-    became P before behind row tickets new_tickets new_rows None on off becomes = subst P (sym becomes.0) (on (sides_behind concerned judged reply most row) refl refl)
+    became P before behind row tickets new_tickets new_rows None on off becomes = subst P (sym becomes.0) (on (lookups_behind concerned judged reply most row) refl refl)
     became P before behind row tickets new_tickets new_rows (Some answer) on off becomes = by_test (has_next answer.status row) refl becomes
       where
         by_test : (b : Bool) → has_next answer.status row ≡ b
@@ -112,10 +88,10 @@ module _ {T : Type 0} where
   begun_waits flying false row e = or_right (waits row.first) (list_any waits (option_to_list row.second)) e
   begun_waits flying true row e = by_second row.second (waits row.first) e
     where
-      by_second : (o : Option Side) (b : Bool) → (b || list_any waits (option_to_list (option_map (Rattle.channel_table.specs.Sides.begun_side flying) o))) ≡ true → (b || list_any waits (option_to_list o)) ≡ true
+      by_second : (o : Option Lookup) (b : Bool) → (b || list_any waits (option_to_list (option_map (Rattle.channel_table.specs.Lookups.begun_lookup flying) o))) ≡ true → (b || list_any waits (option_to_list o)) ≡ true
       by_second o true e = refl
       by_second None false e = e
-      by_second (Some side) false e = absurd cc
+      by_second (Some lookup) false e = absurd cc
 
   module _ (flying : Flying) (index : ℕ) (second : Bool) (rows new_rows : List (Row T)) (begins : BeginsRow flying index second rows new_rows) where
     pub begins_rising : IsRising (map number_of rows) → IsRising (map number_of new_rows)
@@ -156,8 +132,8 @@ module _ {T : Type 0} where
         by_after (Ends ticket) is all rest = rw is rest
 
   -- what the end of its attempt makes of a row that stays has its number
-  pub after_number : (flags : Flags) (concerned : Hits) (judged : Judged) (reply : List ℕ) (most : ℕ) (row new : Row T) (answer : Option Answer) → after flags concerned judged reply most row answer ≡ Stays new → new.number ≡ row.number
-  after_number flags concerned judged reply most row new None e = let same : sides_behind concerned judged reply most row ≡ new = cc in sym (ap number_of same)
+  pub after_number : (flags : Flags) (concerned : Concerned) (judged : Judged) (reply : List ℕ) (most : ℕ) (row new : Row T) (answer : Option Answer) → after flags concerned judged reply most row answer ≡ Stays new → new.number ≡ row.number
+  after_number flags concerned judged reply most row new None e = let same : lookups_behind concerned judged reply most row ≡ new = cc in sym (ap number_of same)
   after_number flags concerned judged reply most row new (Some answer) e = by_test (has_next answer.status row) e
     where
       by_test : (b : Bool) → (if b then Stays (next_row (fresh_leg flags) answer.status row) else Ends (record { token = row.token; call = record answer { status = last_status row.empty answer.status } })) ≡ Stays new → new.number ≡ row.number

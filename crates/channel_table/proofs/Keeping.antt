@@ -1,32 +1,17 @@
 -- What a table keeps true of its fields, behind one entry more.
-use Rattle.std.proofs.Common.{◌≡◌, ◌∙◌, ℕ, ◌+◌, ◌≤◌, Bool, true, false, List, [], ◌∷◌, ◌++◌, Some, None, refl, ap, sym, subst, map, cond, arith, length, ◌^◌, deque_len, deque_capacity}
-use Rattle.std.proofs.lemmas.List.{append-nil, length-map, length_push}
-use Rattle.std.specs.Prelude.{◌≢◌}
-use Rattle.chan_types.specs.declared.journal.Entry.{Entry}
-use Rattle.chan_types.specs.declared.journal.What.{What}
-use Rattle.chan_types.specs.declared.journal.What.TheVariants.{Accept}
-use Rattle.chan_types.specs.declared.script.Script.{Script}
-use Rattle.chan_types.specs.declared.spec.Spec.{Spec}
-use Rattle.resolv_options.specs.Values.{AreWithinLimits}
+use Rattle.channel_table.proofs.Base.{◌≡◌, ◌∙◌, ℕ, ◌+◌, ◌≤◌, Bool, true, false, List, [], ◌∷◌, ◌++◌, Some, None, refl, ap, sym, subst, map, cond, arith, length, ◌^◌, deque_len, deque_capacity, append-nil, length-map, length_push, ◌≢◌, Entry, What, Accept, Script, Spec, AreWithinLimits, Past, accepted, accepted_by, is_destroyed, past_of, Meaning, Happens, Setting, AreCounted, IsKept, setting_of, TableStands, Inside}
 use Rattle.channel_model.proofs.Theorems.{accepted-none, lawful_push, past_of-push}
-use Rattle.channel_model.specs.Journal.{Past, accepted, accepted_by, is_destroyed, past_of}
 use Rattle.channel_model.specs.Lawful.{IsAllowed}
-use Rattle.channel_model.specs.Meanings.{Meaning}
-use Rattle.channel_model.specs.Seen.{Happens}
-use Rattle.channel_model.specs.Setting.{Setting}
-use Rattle.channel_table.specs.Counted.{AreCounted}
-use Rattle.channel_table.specs.Kept.{IsKept, seen_of, setting_of, still_to_tell}
-use Rattle.channel_table.specs.Rows.{TableStands}
-use Rattle.channel_table.specs.declared.table.Table.TheInside.{Inside}
+use Rattle.channel_table.specs.Kept.{seen_of, still_to_tell}
 
 module _ {T J : Type 0} (plan : T → Script) (told : J → List Entry) (room_of : J → ℕ) where
   -- a table that went on with one entry, allowed there, and stands for the past behind it: there was room for this many entries, and it may have to tell fewer now
   pub kept_more : (old new : Inside T J) (entry : Entry) → setting_of new ≡ setting_of old → told new.journal ≡ told old.journal ++ entry ∷ []
       → IsKept plan told room_of old → IsAllowed (setting_of old) (past_of (told old.journal)) entry.what
       → TableStands plan (setting_of old) (entry.what ∷ past_of (told old.journal)) new.rows new.ready.items
-      → AreCounted (setting_of old) (entry.what ∷ past_of (told old.journal)) new.list new.servers new.greatest_key new.greatest_link new.started
+      → AreCounted (setting_of old) (entry.what ∷ past_of (told old.journal)) new.servers
       → length (accepted (entry.what ∷ past_of (told old.journal))) ≡ new.accepted → is_destroyed (entry.what ∷ past_of (told old.journal)) ≡ new.closed
-      → new.accepted ≤ old.accepted + 1 → new.greatest_link ≤ old.greatest_link + 1 → new.started ≤ old.started + 1
+      → new.accepted ≤ old.accepted + 1 → new.servers.greatest_link ≤ old.servers.greatest_link + 1 → new.servers.started ≤ old.servers.started + 1
       → (many room : ℕ) → many ≤ room → length (told old.journal) + many ≤ 2 ^ 63 → room ≤ room_of new.journal + 1 → still_to_tell new + 1 ≤ many
       → length new.rows + deque_len new.ready ≤ deque_capacity new.ready → IsKept plan told room_of new
   kept_more old new entry same added kept allowed stands counted accepts destroyed few few_links few_starts many room made fits less left room_ready =

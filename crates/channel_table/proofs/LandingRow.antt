@@ -1,11 +1,6 @@
 -- What was found of the row at an index was found among the rows.
-use Rattle.std.proofs.Common.{◌≡◌, ℕ, ◌<◌, List, Option, Some, None, arith, get_or, length, subst, sym}
-use Rattle.std.proofs.lemmas.List.{get_or_read}
-use Rattle.std.specs.Prelude.{IfSome}
-use Rattle.resolv_options.specs.declared.flags.Flags.{Flags}
-use Rattle.channel_table.specs.Arriving.{FindsAt, IsLanding, RowFinds}
-use Rattle.channel_table.specs.declared.row.Row.{Row}
-use Rattle.channel_table.specs.declared.table.landing.Landing.{Landing}
+use Rattle.channel_table.proofs.Base.{◌≡◌, ℕ, ◌<◌, List, Option, Some, None, arith, get_or, length, subst, sym, get_or_read, IfSome, Flags, FindsAt, RowFinds, Row, Landing}
+use Rattle.channel_table.specs.Arriving.{IsLanding}
 
 pub found_row : {T : Type 0} (flags : Flags) (server link : ℕ) (bytes : List ℕ) (rows : List (Row T)) (index : ℕ) (row : Row T) (o : Option Landing) → index < length rows → row ≡ get_or rows index row → RowFinds flags server link bytes index row o
     → IfSome o (FindsAt flags server link bytes rows)

@@ -1,39 +1,18 @@
 -- How many attempts are on servers that leave the list, as the links tell it, and what a new list changes where none is.
-use Rattle.std.proofs.Common.{◌≡◌, ◌≢◌, ◌∙◌, ℕ, ◌+◌, ◌-◌, ◌==◌, ◌&&◌, Bool, true, false, cond, not, List, [], ◌∷◌, ◌++◌, Option, Some, None, refl, ap, ap₂, sym, subst, map, take, drop, arith, eqb-true, eq-eqb, true≢false}
-use Rattle.std.proofs.lemmas.Bool.{and_parts}
-use Rattle.std.proofs.lemmas.Grind.{flat_map-append}
-use Rattle.std.proofs.lemmas.List.{map-append}
-use Rattle.std.proofs.lemmas.List.Sums.{sum_by-cons}
-use Rattle.std.specs.Bool.{then_some}
+use Rattle.channel_table.proofs.Base.{◌≡◌, ◌∙◌, ℕ, ◌+◌, ◌-◌, Bool, true, false, cond, List, [], ◌∷◌, ◌++◌, Option, Some, None, refl, ap, ap₂, sym, subst, map, take, drop, arith, eqb-true, eq-eqb, true≢false, and_parts, flat_map-append, map-append, sum_by-cons, then_some, AllByRecursion, sum_by, count_by, is_some, option_map, option_to_list, ServerKey, each-append, has_key, is_link, used, Legs, LinkUse, flying_in, Flying, AreFlown, left_of, left_second, AreLinked, left_use, over_left, IsListed, IsRising, Keeps, key_of, flying_left, has_left, kept_in, left_in, leg_set, row_set, lookup_set, all_lookups, forced_in, number_of, over_in, lookups, flew_over, flying_of, flying_over, is_forced, Row, Lookup, Flown}
+use Rattle.std.proofs.Common.{◌==◌}
+use Rattle.std.proofs.Common.{◌≢◌, ◌&&◌, not}
 use Rattle.std.specs.FinSet as set
-use Rattle.std.specs.List.{AllByRecursion, sum_by}
-use Rattle.std.specs.Prelude.{count_by, is_some, option_map, option_to_list}
-use Rattle.chan_types.specs.declared.server_key.ServerKey.{ServerKey}
-use Rattle.channel_model.proofs.Theorems.{each-append}
-use Rattle.channel_model.specs.Servers.{has_key}
-use Rattle.leg_index.specs.Links.{is_link, used, used_in}
-use Rattle.leg_index.specs.Waiting.{Legs}
-use Rattle.leg_index.specs.declared.links.LinkUse.{LinkUse}
-use Rattle.query_machine.specs.Legs.{flying_in}
-use Rattle.query_machine.specs.declared.leg.Flying.{Flying}
+use Rattle.leg_index.specs.Links.{used_in}
 use Rattle.query_machine.specs.declared.leg.Leg as machine
 use Rattle.query_machine.specs.declared.leg.Phase.TheVariants as phases
 use Rattle.channel_table.proofs.FlownLemmas.{set_flown}
 use Rattle.channel_table.proofs.IndexLemmas.{each_before, each_behind, rising_same}
 use Rattle.channel_table.proofs.LinkedLemmas.{set_counted}
 use Rattle.channel_table.proofs.ListedLemmas.{kept_listed}
-use Rattle.channel_table.proofs.SideLists.{count_sides}
+use Rattle.channel_table.proofs.LookupLists.{count_lookups}
 use Rattle.channel_table.proofs.TallyLemmas.{replaced}
-use Rattle.channel_table.specs.Flown.{AreFlown}
-use Rattle.channel_table.specs.Forgotten.{left_of, left_second}
-use Rattle.channel_table.specs.Linked.{AreLinked, left_use, over_left}
-use Rattle.channel_table.specs.Listed.{IsListed, IsRising, Keeps, key_of}
-use Rattle.channel_table.specs.Listing.{SetsRow, flying_left, has_left, kept_in, left_in, leg_set, row_set, side_set}
-use Rattle.channel_table.specs.Rows.{all_sides, forced_in, number_of, over_in, sides}
-use Rattle.channel_table.specs.Sides.{flew_over, flying_of, flying_over, is_forced}
-use Rattle.channel_table.specs.declared.row.Row.{Row}
-use Rattle.channel_table.specs.declared.side.Side.{Side}
-use Rattle.channel_table.specs.declared.table.flown.Flown.{Flown}
+use Rattle.channel_table.specs.Leaving.{SetsRow}
 
 -- ---- how many legs are in flight over the links of which this is so, by the counts of each
 
@@ -99,14 +78,14 @@ module _ (server link : ℕ) where
             let here = here_less item (λ none. true≢false (sym (eq-eqb (used_in server link item) 0 none) ∙ is)) in
             omega (arith, here, sum_by-cons (counts_so w) item items, sum_by-cons (counts_so w) (record item { count = item.count - 1 }) items)
 
--- as many are in flight as sides fly, where it is so of each link
+-- as many are in flight as lookups fly, where it is so of each link
 module _ (w : ℕ → ℕ → Bool) where
-  alike : (ss : List Side) (items : List LinkUse) → ((s l : ℕ) → used s l items ≡ count_by (flew_over s l) ss) → sum_by (counts_so w) items ≡ sum_by (λ (side : Side). flies_so w (flying_of side)) ss
+  alike : (ss : List Lookup) (items : List LinkUse) → ((s l : ℕ) → used s l items ≡ count_by (flew_over s l) ss) → sum_by (counts_so w) items ≡ sum_by (λ (lookup : Lookup). flies_so w (flying_of lookup)) ss
   alike [] items same = none_so w items same
-  alike (side ∷ ss) items same = by_flying (flying_of side) (alike ss) (λ s l. same s l ∙ sum_by-cons (λ (x : Side). cond (flew_over s l x) 1 0) side ss) ∙ sym (sum_by-cons (λ (x : Side). flies_so w (flying_of x)) side ss)
+  alike (lookup ∷ ss) items same = by_flying (flying_of lookup) (alike ss) (λ s l. same s l ∙ sum_by-cons (λ (x : Lookup). cond (flew_over s l x) 1 0) lookup ss) ∙ sym (sum_by-cons (λ (x : Lookup). flies_so w (flying_of x)) lookup ss)
     where
-      by_flying : (o : Option Flying) → ((new : List LinkUse) → ((s l : ℕ) → used s l new ≡ count_by (flew_over s l) ss) → sum_by (counts_so w) new ≡ sum_by (λ (x : Side). flies_so w (flying_of x)) ss)
-          → ((s l : ℕ) → used s l items ≡ cond (flying_over s l o) 1 0 + count_by (flew_over s l) ss) → sum_by (counts_so w) items ≡ flies_so w o + sum_by (λ (x : Side). flies_so w (flying_of x)) ss
+      by_flying : (o : Option Flying) → ((new : List LinkUse) → ((s l : ℕ) → used s l new ≡ count_by (flew_over s l) ss) → sum_by (counts_so w) new ≡ sum_by (λ (x : Lookup). flies_so w (flying_of x)) ss)
+          → ((s l : ℕ) → used s l items ≡ cond (flying_over s l o) 1 0 + count_by (flew_over s l) ss) → sum_by (counts_so w) items ≡ flies_so w o + sum_by (λ (x : Lookup). flies_so w (flying_of x)) ss
       by_flying None more each = omega (arith, more items (λ s l. omega (arith, each s l)))
       by_flying (Some flying) more each =
           let on : flying_over flying.server flying.link (Some flying) ≡ true = ap₂ (λ a b. a && b) (eq-eqb flying.server flying.server refl) (eq-eqb flying.link flying.link refl) in
@@ -120,14 +99,14 @@ module _ (w : ℕ → ℕ → Bool) where
 -- the links tell how many attempts are on servers that aren't in the list
 pub left_told : {T : Type 0} (list : List ServerKey) (uses : List LinkUse) (rows : List (Row T)) → AreLinked uses rows → sum_by (left_use list) uses ≡ sum_by (left_in list) rows
 left_told list uses rows are =
-    alike (λ server link. not (has_key server list)) (all_sides rows) uses (λ s l. are s l ∙ count_sides (flew_over s l) rows)
-    ∙ left_sides (all_sides rows) ∙ sym (count_sides (has_left list) rows)
+    alike (λ server link. not (has_key server list)) (all_lookups rows) uses (λ s l. are s l ∙ count_lookups (flew_over s l) rows)
+    ∙ left_lookups (all_lookups rows) ∙ sym (count_lookups (has_left list) rows)
   where
-    left_sides : (ss : List Side) → sum_by (λ (side : Side). flies_so (λ server link. not (has_key server list)) (flying_of side)) ss ≡ count_by (has_left list) ss
-    left_sides [] = refl
-    left_sides (side ∷ ss) =
-        sum_by-cons (λ (x : Side). flies_so (λ server link. not (has_key server list)) (flying_of x)) side ss
-        ∙ ap₂ (λ m n. m + n) (by_flying (flying_of side)) (left_sides ss) ∙ sym (sum_by-cons (λ (x : Side). cond (has_left list x) 1 0) side ss)
+    left_lookups : (ss : List Lookup) → sum_by (λ (lookup : Lookup). flies_so (λ server link. not (has_key server list)) (flying_of lookup)) ss ≡ count_by (has_left list) ss
+    left_lookups [] = refl
+    left_lookups (lookup ∷ ss) =
+        sum_by-cons (λ (x : Lookup). flies_so (λ server link. not (has_key server list)) (flying_of x)) lookup ss
+        ∙ ap₂ (λ m n. m + n) (by_flying (flying_of lookup)) (left_lookups ss) ∙ sym (sum_by-cons (λ (x : Lookup). cond (has_left list x) 1 0) lookup ss)
       where
         by_flying : (o : Option Flying) → flies_so (λ server link. not (has_key server list)) o ≡ cond (flying_left list o) 1 0
         by_flying None = refl
@@ -147,8 +126,8 @@ module _ (list : List ServerKey) where
       ap (λ b. cond b (record leg { phase = phases.Waiting; forced = None }) (record leg { forced = kept_in list leg.forced })) stays
       ∙ ap (λ o. record leg { forced = o }) (ap (kept_in list) none ∙ sym none)
 
-  side_same : (side : Side) → has_left list side ≡ false → is_forced side ≡ false → side_set list side ≡ side
-  side_same side stays free = ap (λ leg. record side { leg = leg }) (leg_same side.leg stays free)
+  lookup_same : (lookup : Lookup) → has_left list lookup ≡ false → is_forced lookup ≡ false → lookup_set list lookup ≡ lookup
+  lookup_same lookup stays free = ap (λ leg. record lookup { leg = leg }) (leg_same lookup.leg stays free)
 
   none_counted : (b : Bool) → cond {A = ℕ} b 1 0 ≡ 0 → b ≡ false
   none_counted true e = absurd (omega (arith, e))
@@ -157,15 +136,15 @@ module _ (list : List ServerKey) where
   module _ {T : Type 0} where
     row_same : (row : Row T) → left_in list row ≡ 0 → forced_in row ≡ 0 → row_set list row ≡ row
     row_same row stays free =
-        let one = side_same row.first (none_counted (has_left list row.first) (omega (arith, stays, sum_by-cons (λ (x : Side). cond (has_left list x) 1 0) row.first (option_to_list row.second))))
-        (none_counted (is_forced row.first) (omega (arith, free, sum_by-cons (λ (x : Side). cond (is_forced x) 1 0) row.first (option_to_list row.second)))) in
-        let two = by_second row.second (omega (arith, stays, sum_by-cons (λ (x : Side). cond (has_left list x) 1 0) row.first (option_to_list row.second)))
-        (omega (arith, free, sum_by-cons (λ (x : Side). cond (is_forced x) 1 0) row.first (option_to_list row.second))) in
+        let one = lookup_same row.first (none_counted (has_left list row.first) (omega (arith, stays, sum_by-cons (λ (x : Lookup). cond (has_left list x) 1 0) row.first (option_to_list row.second))))
+        (none_counted (is_forced row.first) (omega (arith, free, sum_by-cons (λ (x : Lookup). cond (is_forced x) 1 0) row.first (option_to_list row.second)))) in
+        let two = by_second row.second (omega (arith, stays, sum_by-cons (λ (x : Lookup). cond (has_left list x) 1 0) row.first (option_to_list row.second)))
+        (omega (arith, free, sum_by-cons (λ (x : Lookup). cond (is_forced x) 1 0) row.first (option_to_list row.second))) in
         ap₂ (λ a b. record row { first = a; second = b }) one two
       where
-        by_second : (o : Option Side) → count_by (has_left list) (option_to_list o) ≡ 0 → count_by is_forced (option_to_list o) ≡ 0 → option_map (side_set list) o ≡ o
+        by_second : (o : Option Lookup) → count_by (has_left list) (option_to_list o) ≡ 0 → count_by is_forced (option_to_list o) ≡ 0 → option_map (lookup_set list) o ≡ o
         by_second None stays free = refl
-        by_second (Some side) stays free = ap Some (side_same side (none_counted (has_left list side) (omega (arith, stays))) (none_counted (is_forced side) (omega (arith, free))))
+        by_second (Some lookup) stays free = ap Some (lookup_same lookup (none_counted (has_left list lookup) (omega (arith, stays))) (none_counted (is_forced lookup) (omega (arith, free))))
 
     -- rows are as the list has them of which no attempt is on such a server and no leg is forced
     pub rows_same : (rows : List (Row T)) → sum_by (left_in list) rows ≡ 0 → sum_by forced_in rows ≡ 0 → map (row_set list) rows ≡ rows
@@ -197,16 +176,16 @@ module _ (list : List ServerKey) where
           ap (λ b. cond b (record leg { phase = phases.Waiting; forced = None }) (record leg { forced = kept_in list (kept_in list leg.forced) })) is
           ∙ ap (λ o. record leg { forced = o }) (kept_again leg.forced)
 
-  side_again : (side : Side) → side_set list (side_set list side) ≡ side_set list side
-  side_again side = ap (λ leg. record side { leg = leg }) (leg_again side.leg)
+  lookup_again : (lookup : Lookup) → lookup_set list (lookup_set list lookup) ≡ lookup_set list lookup
+  lookup_again lookup = ap (λ leg. record lookup { leg = leg }) (leg_again lookup.leg)
 
-  second_again : (o : Option Side) → option_map (side_set list) (option_map (side_set list) o) ≡ option_map (side_set list) o
+  second_again : (o : Option Lookup) → option_map (lookup_set list) (option_map (lookup_set list) o) ≡ option_map (lookup_set list) o
   second_again None = refl
-  second_again (Some side) = ap Some (side_again side)
+  second_again (Some lookup) = ap Some (lookup_again lookup)
 
   module _ {T : Type 0} where
     row_again : (row : Row T) → row_set list (row_set list row) ≡ row_set list row
-    row_again row = ap₂ (λ a b. record row { first = a; second = b }) (side_again row.first) (second_again row.second)
+    row_again row = ap₂ (λ a b. record row { first = a; second = b }) (lookup_again row.first) (second_again row.second)
 
     module _ (index : ℕ) (rows new_rows : List (Row T)) (sets : SetsRow list index rows new_rows) where
       front : List (Row T)
@@ -240,11 +219,11 @@ module _ (list : List ServerKey) where
           subst (λ (rs : List (Row T)). AllByRecursion (IsListed legs) rs) (sym sets.becomes)
           (each-append (IsListed legs) front (new ∷ back) (each_before (IsListed legs) front (sets.row ∷ back) kept) ((λ waiting. there), (each_behind (IsListed legs) front (sets.row ∷ back) kept).1))
 
-      pub sets_flown : (flown : Flown) → AreFlown flown (all_sides rows) → AreFlown (left_of (has_left list sets.row.first) (left_second list sets.row.second) sets.row flown) (all_sides new_rows)
+      pub sets_flown : (flown : Flown) → AreFlown flown (all_lookups rows) → AreFlown (left_of (has_left list sets.row.first) (left_second list sets.row.second) sets.row flown) (all_lookups new_rows)
       unfolding front back new
       sets_flown flown are =
-          subst (AreFlown (left_of (has_left list sets.row.first) (left_second list sets.row.second) sets.row flown)) (sym (ap all_sides sets.becomes ∙ flat_map-append sides front (new ∷ back)))
-          (set_flown flown (all_sides front) (all_sides back) sets.row list (subst (AreFlown flown) (ap all_sides sets.parts ∙ flat_map-append sides front (sets.row ∷ back)) are))
+          subst (AreFlown (left_of (has_left list sets.row.first) (left_second list sets.row.second) sets.row flown)) (sym (ap all_lookups sets.becomes ∙ flat_map-append lookups front (new ∷ back)))
+          (set_flown flown (all_lookups front) (all_lookups back) sets.row list (subst (AreFlown flown) (ap all_lookups sets.parts ∙ flat_map-append lookups front (sets.row ∷ back)) are))
 
       pub sets_linked : (links new_links : List LinkUse) → AreLinked links rows → ((server link : ℕ) → used server link new_links ≡ used server link links - over_left list server link sets.row) → AreLinked new_links new_rows
       unfolding front back new

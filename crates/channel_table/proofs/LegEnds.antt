@@ -1,27 +1,10 @@
 -- How a leg follows the entry that closes its attempt.
-use Rattle.std.proofs.Common.{◌≡◌, ◌∙◌, ℕ, ◌+◌, ◌<◌, ◌≤◌, Bool, true, false, List, ◌∷◌, Option, Some, None, refl, ap, ap₂, sym, cond, arith}
-use Rattle.std.proofs.lemmas.Bool.{leb-false}
-use Rattle.std.specs.Bool.{then_some}
-use Rattle.std.specs.Prelude.{nat_le, not, option_map, ◌&&◌, ◌||◌}
-use Rattle.chan_types.specs.declared.journal.What.{What}
-use Rattle.chan_types.specs.declared.status.Status.{Status}
+use Rattle.channel_table.proofs.Base.{◌≡◌, ◌∙◌, ℕ, ◌+◌, ◌<◌, ◌≤◌, Bool, true, false, List, ◌∷◌, Option, Some, None, refl, ap, ap₂, sym, cond, arith, leb-false, then_some, nat_le, not, option_map, ◌&&◌, ◌||◌, What, Status, begun_by, closes, flight, Past, ending_status, leg_end, LegFacts, facts_closed, Leg, bytes_of, closings, outcome_of, spent, attempts, Setting, Judged, Failed, Final, NextPlain, NextTcp, flying_in, leg_behind, phase_with, spent_with, status_in, Flying, Phase, LegStands, attempt_of, facts_of, flown_by}
 use Rattle.channel_model.proofs.Theorems.{closed-end, closed-facts}
-use Rattle.channel_model.specs.Flight.{begun_by, closes, flight}
-use Rattle.channel_model.specs.Journal.{Past}
-use Rattle.channel_model.specs.LegEnd.{ending_status, leg_end}
-use Rattle.channel_model.specs.LegFacts.{LegFacts, facts_closed}
-use Rattle.channel_model.specs.Legs.{Leg}
-use Rattle.channel_model.specs.Past.{bytes_of, closings, is_failed, is_next_plain, is_next_tcp, outcome_of, spent}
-use Rattle.channel_model.specs.Servers.{attempts}
-use Rattle.channel_model.specs.Setting.{Setting}
-use Rattle.channel_model.specs.declared.judged.Judged.{Judged}
-use Rattle.channel_model.specs.declared.judged.Judged.TheVariants.{Failed, Final, NextPlain, NextTcp}
-use Rattle.query_machine.specs.Legs.{flying_in, forced_with, leg_behind, phase_with, spent_with, status_in}
-use Rattle.query_machine.specs.declared.leg.Flying.{Flying}
+use Rattle.channel_model.specs.Past.{is_failed, is_next_plain, is_next_tcp}
+use Rattle.query_machine.specs.Legs.{forced_with}
 use Rattle.query_machine.specs.declared.leg.Leg as machine
-use Rattle.query_machine.specs.declared.leg.Phase.{Phase}
 use Rattle.query_machine.specs.declared.leg.Phase.TheVariants as phases
-use Rattle.channel_table.specs.Legs.{LegStands, attempt_of, facts_of, flown_by}
 
 or_comm : (a b : Bool) → (a || b) ≡ (b || a)
 or_comm true true = refl

@@ -1,43 +1,31 @@
 -- Rows in the order of their numbers, and the first of them that waits.
-use Rattle.std.proofs.Common.{◌≡◌, ◌∙◌, ℕ, zero, suc, ◌+◌, ◌-◌, ◌<◌, ◌≤◌, leb, Bool, true, false, cond, not, ◌&&◌, ◌||◌, List, [], ◌∷◌, ◌++◌, Option, Some, None, refl, ap, sym, subst, map, take, get_or, length, arith}
-use Rattle.std.proofs.lemmas.Bool.{false≢true, leb-false, leb-true}
+use Rattle.channel_table.proofs.Base.{◌≡◌, ◌∙◌, ℕ, zero, suc, ◌+◌, ◌-◌, ◌<◌, ◌≤◌, Bool, true, false, cond, List, [], ◌∷◌, ◌++◌, Option, Some, None, refl, ap, sym, subst, map, take, get_or, length, arith, false≢true, leb-false, get_or_read, AllByRecursion, list_any, eq_by_cmp, is_le, nat_cmp, ordering_then, flat_map, if◌then◌else◌, ◌≢◌, Less, Equal, Greater, each-then, leg_of, Legs, key_cmp_total, tied_keys, key_cmp, Key, IsListed, IsRising, Keeps, key_of, some_waits, number_of, row_waits, lookups, leg_of_lookup, waits, waits_of, Row, IsIdle, Lookup}
+use Rattle.std.proofs.Common.{leb}
+use Rattle.std.proofs.lemmas.Bool.{leb-true}
+use Rattle.std.proofs.Common.{not, ◌&&◌, ◌||◌}
 use Rattle.std.proofs.lemmas.Cmp.{eq_by_cmp_equiv, ranked}
-use Rattle.std.proofs.lemmas.List.{get_or_read}
 use Rattle.std.specs.FinSet as set
-use Rattle.std.specs.List.{AllByRecursion, list_any}
-use Rattle.std.specs.Ordering.{eq_by_cmp, is_le, nat_cmp, ordering_then}
-use Rattle.std.specs.Prelude.{flat_map, if◌then◌else◌, ◌≢◌}
-use Rattle.std.specs.declared.cmp.Ordering.TheVariants.{Less, Equal, Greater}
-use Rattle.channel_model.proofs.Theorems.{each-then}
-use Rattle.channel_model.specs.Legs.{leg_of}
-use Rattle.leg_index.specs.Waiting.{Legs, WaitsFirst}
-use Rattle.timeout_queue.proofs.Theorems.{key_cmp_total, tied_keys}
-use Rattle.timeout_queue.specs.Key.{key_cmp}
-use Rattle.timeout_queue.specs.declared.key.Key.{Key}
+use Rattle.leg_index.specs.Waiting.{WaitsFirst}
 use Rattle.channel_table.proofs.Finding.{found_first}
 use Rattle.channel_table.proofs.RowAt.{item_at}
-use Rattle.channel_table.specs.Listed.{FindsIdleWith, IsListed, IsRising, Keeps, key_of, some_waits}
-use Rattle.channel_table.specs.Rows.{number_of, row_waits, sides}
-use Rattle.channel_table.specs.Sides.{leg_of_side, waits, waits_of}
-use Rattle.channel_table.specs.declared.row.Row.{Row}
-use Rattle.channel_table.specs.Starting.{FindsAt, FindsIdle, FindsIdleSide, IsIdle}
-use Rattle.channel_table.specs.declared.side.Side.{Side}
+use Rattle.channel_table.specs.Listed.{FindsIdleWith}
+use Rattle.channel_table.specs.Starting.{FindsAt, FindsIdle, FindsIdleLookup}
 use Rattle.channel_table.specs.declared.table.starting.Idle.{Idle}
 
--- sides of which none waits give no leg that does, and the other way round
-pub none_waits : (ss : List Side) → list_any waits ss ≡ false → flat_map waits_of ss ≡ []
+-- lookups of which none waits give no leg that does, and the other way round
+pub none_waits : (ss : List Lookup) → list_any waits ss ≡ false → flat_map waits_of ss ≡ []
 none_waits [] e = refl
-none_waits (side ∷ ss) e = by_test (waits side) e (none_waits ss)
+none_waits (lookup ∷ ss) e = by_test (waits lookup) e (none_waits ss)
   where
-    by_test : (b : Bool) → (b || list_any waits ss) ≡ false → (list_any waits ss ≡ false → flat_map waits_of ss ≡ []) → (if b then leg_of_side side ∷ [] else []) ++ flat_map waits_of ss ≡ []
+    by_test : (b : Bool) → (b || list_any waits ss) ≡ false → (list_any waits ss ≡ false → flat_map waits_of ss ≡ []) → (if b then leg_of_lookup lookup ∷ [] else []) ++ flat_map waits_of ss ≡ []
     by_test true e rest = absurd (false≢true (sym e))
     by_test false e rest = rest e
 
-waits_none : (ss : List Side) → flat_map waits_of ss ≡ [] → list_any waits ss ≡ false
+waits_none : (ss : List Lookup) → flat_map waits_of ss ≡ [] → list_any waits ss ≡ false
 waits_none [] e = refl
-waits_none (side ∷ ss) e = by_test (waits side) e (waits_none ss)
+waits_none (lookup ∷ ss) e = by_test (waits lookup) e (waits_none ss)
   where
-    by_test : (b : Bool) → (if b then leg_of_side side ∷ [] else []) ++ flat_map waits_of ss ≡ [] → (flat_map waits_of ss ≡ [] → list_any waits ss ≡ false) → (b || list_any waits ss) ≡ false
+    by_test : (b : Bool) → (if b then leg_of_lookup lookup ∷ [] else []) ++ flat_map waits_of ss ≡ [] → (flat_map waits_of ss ≡ [] → list_any waits ss ≡ false) → (b || list_any waits ss) ≡ false
     by_test true none rest = absurd cc
     by_test false none rest = rest none
 
@@ -120,7 +108,7 @@ module _ {T : Type 0} where
       → AllByRecursion (λ (r : Row T). r.number ≡ number → some_waits r ≡ false) rows
   idle_with [] number i row up inside is numbered none = tt
   idle_with (r ∷ rows) number zero row up inside is numbered none =
-      let here : some_waits r ≡ false = subst (λ (x : Row T). some_waits x ≡ false) is (waits_none (sides row) none) in
+      let here : some_waits r ≡ false = subst (λ (x : Row T). some_waits x ≡ false) is (waits_none (lookups row) none) in
       (λ same. here, above_with r.number number rows (sym (ap number_of is) ∙ numbered) up.0)
   idle_with (r ∷ rows) number (suc i) row up inside is numbered none =
       let over = above r.number rows i row up.0 (omega (arith, inside)) in
@@ -128,7 +116,7 @@ module _ {T : Type 0} where
       (λ same. absurd (omega (arith, over, here, numbered, same)), idle_with rows number i row up.1 (omega (arith, inside)) is numbered none)
 
   -- what was found of the row at an index is what was sought of its number
-  pub finds_with : (rows : List (Row T)) (number i : ℕ) (row : Row T) (o : Option Idle) → IsRising (map number_of rows) → i < length rows → row ≡ get_or rows i row → row.number ≡ number → FindsIdleSide i row o → FindsIdleWith number rows o
+  pub finds_with : (rows : List (Row T)) (number i : ℕ) (row : Row T) (o : Option Idle) → IsRising (map number_of rows) → i < length rows → row ≡ get_or rows i row → row.number ≡ number → FindsIdleLookup i row o → FindsIdleWith number rows o
   finds_with rows number i row None up inside is numbered found = idle_with rows number i row up inside is numbered found
   finds_with rows number i row (Some idle) up inside is numbered found = (
     omega (arith, inside, found.0),
@@ -172,7 +160,7 @@ module _ {T : Type 0} where
       where
         by_test : (b : Bool) → some_waits row ≡ b → row_waits row ≡ []
         by_test true is = absurd (later key (key_of row.number) less (first.least (key_of row.number) (listed is)))
-        by_test false is = none_waits (sides row) is
+        by_test false is = none_waits (lookups row) is
 
     -- no row before that of the first number waits
     pub none_before : (rows : List (Row T)) (i : ℕ) (d : Row T) → IsRising (map number_of rows) → AllByRecursion (IsListed legs) rows → i < length rows → (get_or rows i d).number ≡ key.number → flat_map row_waits (take i rows) ≡ []
@@ -190,7 +178,7 @@ module _ {T : Type 0} where
     where
       here : (b : Bool) → some_waits row ≡ b → row_waits row ≡ []
       here true is = absurd (false≢true (sym (set.contains-empty key_cmp (key_of row.number)) ∙ listed.0 is))
-      here false is = none_waits (sides row) is
+      here false is = none_waits (lookups row) is
 
   -- what was found of the first number is the first that waits
   pub found_idle : (legs : Legs) (key : Key) (rows : List (Row T)) (idle : Idle) → WaitsFirst legs key → IsRising (map number_of rows) → AllByRecursion (IsListed legs) rows → FindsIdleWith key.number rows (Some idle) → FindsIdle rows (Some idle)

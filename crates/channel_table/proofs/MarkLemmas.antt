@@ -1,21 +1,12 @@
 -- Which rows a Fault fails, where those are marked that have so many attempts as there are.
-use Rattle.std.proofs.Common.{◌≡◌, ◌≤◌, ◌<◌, ◌∙◌, ℕ, ◌+◌, ◌-◌, ◌==◌, true, List, [], ◌∷◌, ◌++◌, Option, refl, ap, sym, subst, take, drop, get_or, length, append_assoc, arith, length-drop, length-take-le, take-add, take-append-drop, true≢false}
-use Rattle.std.proofs.lemmas.List.{take_more}
-use Rattle.std.proofs.lemmas.List.Sums.{sum_by-append, sum_by-cons, sum_by-take-drop, sum_by_push}
+use Rattle.channel_table.proofs.Base.{◌≡◌, ◌≤◌, ◌<◌, ◌∙◌, ℕ, ◌+◌, ◌-◌, true, List, [], ◌∷◌, ◌++◌, Option, refl, ap, sym, subst, take, drop, get_or, length, append_assoc, arith, true≢false, take_more, sum_by-append, sum_by-cons, sum_by_push, AllByRecursion, sum_by, not, Answer, each-append, each-then, Options, Legs, AreMarked, IsSpared, answer_over, IsListedOver, Keeps, key_of, over_in, lookups, Row, Mark}
+use Rattle.std.proofs.Common.{◌==◌}
+use Rattle.std.proofs.Common.{length-drop, length-take-le, take-add, take-append-drop}
+use Rattle.std.proofs.lemmas.List.Sums.{sum_by-take-drop}
 use Rattle.std.specs.FinSet as set
-use Rattle.std.specs.List.{AllByRecursion, sum_by}
-use Rattle.std.specs.Prelude.{not}
-use Rattle.chan_types.specs.declared.answer.Answer.{Answer}
-use Rattle.channel_model.proofs.Theorems.{each-append, each-then}
-use Rattle.resolv_options.specs.declared.options.Options.{Options}
-use Rattle.leg_index.specs.Waiting.{Legs}
 use Rattle.channel_table.proofs.LinkedLemmas.{any_counted}
 use Rattle.channel_table.proofs.ListedLemmas.{insert_keeps, listed_itself}
-use Rattle.channel_table.specs.Failing.{AreMarked, AreMarkedTo, IsSpared, answer_over}
-use Rattle.channel_table.specs.Listed.{IsListedOver, Keeps, key_of}
-use Rattle.channel_table.specs.Rows.{over_in, sides}
-use Rattle.channel_table.specs.declared.row.Row.{Row}
-use Rattle.channel_table.specs.declared.table.marking.Mark.{Mark}
+use Rattle.channel_table.specs.Faulting.{AreMarkedTo}
 
 module _ {T : Type 0} (server link : ℕ) where
   -- rows are spared that have no attempt over the link
@@ -24,7 +15,7 @@ module _ {T : Type 0} (server link : ℕ) where
   none_over (row ∷ rows) none =
       let sums = sum_by-cons (over_in server link) row rows in
       let here : over_in server link row ≡ 0 = omega (arith, sums, none) in
-      (any_counted server link (sides row) ∙ ap (λ n. not (n == 0)) here, none_over rows (omega (arith, sums, none)))
+      (any_counted server link (lookups row) ∙ ap (λ n. not (n == 0)) here, none_over rows (omega (arith, sums, none)))
 
   -- and don't have to wait
   spared_listed : (legs : Legs) (rows : List (Row T)) → AllByRecursion (IsSpared server link) rows → AllByRecursion (IsListedOver server link legs) rows

@@ -1,17 +1,7 @@
 -- The next request has a greater number than those that are pending.
-use Rattle.std.proofs.Common.{◌≡◌, ℕ, zero, suc, ◌+◌, ◌<◌, ◌≤◌, Bool, true, false, List, [], ◌∷◌, ap, subst, map, arith, length, refl}
+use Rattle.channel_table.proofs.Base.{◌≡◌, ℕ, zero, suc, ◌+◌, ◌<◌, ◌≤◌, Bool, true, false, List, [], ◌∷◌, ap, subst, map, arith, length, refl, AllByRecursion, range_with_len, if◌then◌else◌, option_map, Script, Ticket, asked_once, occurrences, Accepted, Past, accepted, IsLawfulPast, Setting, RowStands, TableStands, number_of, Row, ◌==◌}
 use Rattle.std.proofs.lemmas.Bool.{eqb-true}
-use Rattle.std.specs.List.{AllByRecursion, range_with_len}
-use Rattle.std.specs.Prelude.{if◌then◌else◌, option_map, ◌==◌}
-use Rattle.chan_types.specs.declared.script.Script.{Script}
-use Rattle.chan_types.specs.declared.ticket.Ticket.{Ticket}
-use Rattle.channel_model.proofs.Theorems.{asked_once, requests_numbered}
-use Rattle.channel_model.specs.Completion.{occurrences}
-use Rattle.channel_model.specs.Journal.{Accepted, Past, accepted}
-use Rattle.channel_model.specs.Lawful.{IsLawfulPast}
-use Rattle.channel_model.specs.Setting.{Setting}
-use Rattle.channel_table.specs.Rows.{RowStands, TableStands, number_of}
-use Rattle.channel_table.specs.declared.row.Row.{Row}
+use Rattle.channel_model.proofs.Theorems.{requests_numbered}
 
 -- a number that stands in a run is below its end
 in_run : (number first len : ℕ) → 1 ≤ occurrences number (range_with_len first len) → number < first + len

@@ -1,10 +1,8 @@
 -- Entries by numbers: which is the first with a number, in lists one behind the other, and what the map of all of them says.
-use Rattle.std.proofs.Common.{◌≡◌, ◌∙◌, ℕ, ◌==◌, Bool, true, false, cond, List, [], ◌∷◌, ◌++◌, Option, Some, None, refl, ap, ap₂, sym, arith}
-use Rattle.std.proofs.lemmas.Bool.Decides.{nat_tests}
+use Rattle.channel_table.proofs.Base.{◌≡◌, ◌∙◌, ℕ, Bool, true, false, cond, List, [], ◌∷◌, ◌++◌, Option, Some, None, refl, ap, ap₂, sym, arith, nat_tests, option_or, eq_by_cmp, nat_cmp}
+use Rattle.std.proofs.Common.{◌==◌}
 use Rattle.std.specs.Cmp.{nat_cmp_total}
 use Rattle.std.specs.FinMap as map
-use Rattle.std.specs.Option.{option_or}
-use Rattle.std.specs.Ordering.{eq_by_cmp, nat_cmp}
 
 same_number : (x y : ℕ) → eq_by_cmp nat_cmp x y ≡ (y == x)
 same_number x y = grind (arith, nat_tests)

@@ -1,21 +1,8 @@
 -- A table of which an entry changes one row: it stays as another, or it ends.
-use Rattle.std.proofs.Common.{◌≡◌, List, [], ◌∷◌, ◌++◌, None, refl, subst, map}
-use Rattle.std.proofs.lemmas.List.{append-nil}
-use Rattle.std.specs.List.{AllByRecursion}
-use Rattle.std.specs.Prelude.{filter_map}
-use Rattle.chan_types.specs.declared.journal.What.{What}
-use Rattle.chan_types.specs.declared.script.Script.{Script}
-use Rattle.chan_types.specs.declared.ticket.Ticket.{Ticket}
-use Rattle.channel_model.proofs.Theorems.{each-append}
-use Rattle.channel_model.specs.Completion.{taken_by}
-use Rattle.channel_model.specs.Flight.{begun_by}
-use Rattle.channel_model.specs.Journal.{Past, accepted_by}
-use Rattle.channel_model.specs.Setting.{Setting}
+use Rattle.channel_table.proofs.Base.{◌≡◌, List, [], ◌∷◌, ◌++◌, None, refl, subst, map, append-nil, AllByRecursion, filter_map, What, Script, Ticket, each-append, taken_by, begun_by, Past, accepted_by, Setting, RowStands, TableStands, TicketStands, flown, number_of, ticket_number, Row}
 use Rattle.channel_table.proofs.Outcomes.{Becomes, Follows, Outcome, ends, row_behind, row_of, stays, ticket_behind}
 use Rattle.channel_table.proofs.RowFrames.{IsSpared, becomes-append, keep_all, keep_all-becomes, keep_all-follow, keep_all-stand}
 use Rattle.channel_table.proofs.TableSteps.{Stands, table_behind}
-use Rattle.channel_table.specs.Rows.{RowStands, TableStands, TicketStands, flown, number_of, ticket_number}
-use Rattle.channel_table.specs.declared.row.Row.{Row}
 
 -- what holds of each item of two lists holds of each in the first, of the one between, and of each in the second
 pub each-split : {X : Type 0} (P : X → Type 0) (xs : List X) (y : X) (zs : List X) → AllByRecursion P (xs ++ y ∷ zs) → AllByRecursion P xs × P y × AllByRecursion P zs

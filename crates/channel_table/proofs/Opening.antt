@@ -1,52 +1,23 @@
 -- How a table follows an Accept, by what its request comes to.
-use Rattle.std.proofs.Common.{◌≡◌, ◌∙◌, ℕ, ◌+◌, Bool, true, false, cond, List, [], ◌∷◌, ◌++◌, Option, Some, None, refl, ap, sym, subst, length}
-use Rattle.chan_types.specs.declared.answer.Answer.{Answer}
-use Rattle.chan_types.specs.declared.journal.What.TheVariants.{Accept}
-use Rattle.chan_types.specs.declared.script.Script.{Script}
-use Rattle.chan_types.specs.declared.spec.Spec.{Spec}
-use Rattle.chan_types.specs.declared.spec.Spec.TheVariants.{Address, Query, Reverse, Search}
-use Rattle.chan_types.specs.declared.status.Status.{Status}
-use Rattle.chan_types.specs.declared.status.Status.TheVariants.{BadName, NoData, NotFound, Success}
-use Rattle.chan_types.specs.declared.ticket.Ticket.{Ticket}
-use Rattle.std.specs.Option.{option_or}
-use Rattle.std.specs.Prelude.{IfSome, codes, option_map, option_to_list}
+use Rattle.channel_table.proofs.Base.{◌≡◌, ◌∙◌, ℕ, ◌+◌, Bool, true, false, cond, List, [], ◌∷◌, ◌++◌, Option, Some, None, refl, ap, sym, subst, length, Answer, Accept, Script, Spec, Address, Query, Reverse, Search, Status, BadName, NoData, NotFound, Success, Ticket, option_or, IfSome, codes, option_map, option_to_list, class_in, kind_a, kind_aaaa, Question, Name, NameText, Addr, Family, at_once, Past, accepted, IsLawfulPast, bare, found, candidates_of, name_of_text, question_for, Setting, has_item, AreWithinLimits, legs_of, wanted_by, first_number, AreAsked, Opens, Asked, IsNewRow, Places, TableStands, Row, Opening, Answered, Asks}
 use Rattle.dns_message.specs.Name.{last_is}
 use Rattle.dns_message.specs.NameText.{name_text}
-use Rattle.dns_message.specs.Numbers.{class_in, kind_a, kind_aaaa, kind_ptr}
-use Rattle.dns_message.specs.declared.message.Question.{Question}
-use Rattle.dns_message.specs.declared.name.Name.{Name}
-use Rattle.dns_message.specs.declared.name.NameText.{NameText}
+use Rattle.dns_message.specs.Numbers.{kind_ptr}
 use Rattle.net_addr.specs.Mapped.{allows}
 use Rattle.net_addr.specs.Reading.{address_of}
-use Rattle.net_addr.specs.declared.addr.Addr.{Addr}
-use Rattle.net_addr.specs.declared.addr.Family.{Family}
 use Rattle.net_addr.specs.Reverse.{reverse_labels}
-use Rattle.channel_model.specs.AtOnce.{asks_servers, at_once, known_host, listed, listed_name, literal, loopbacks, unless_asked}
-use Rattle.channel_model.specs.Journal.{Past, accepted}
-use Rattle.channel_model.specs.Lawful.{IsLawfulPast}
-use Rattle.channel_model.specs.Merge.{bare, found}
-use Rattle.channel_model.specs.Questions.{candidates_of, name_of_text, question_for}
-use Rattle.channel_model.specs.Setting.{Setting}
-use Rattle.channel_model.specs.Verdict.{has_item}
-use Rattle.resolv_options.specs.Values.{AreWithinLimits}
+use Rattle.channel_model.specs.AtOnce.{asks_servers, known_host, listed, listed_name, literal, loopbacks, unless_asked}
 use Rattle.channel_table.proofs.AcceptSteps.{new_flown, row_stands, table_answered, table_asked}
 use Rattle.channel_table.proofs.Candidates.{few_candidates}
-use Rattle.channel_model.specs.Legs.{legs_of}
-use Rattle.channel_table.specs.Aims.{aim_of, first_number}
-use Rattle.channel_table.specs.Opening.{AreAsked, Opens, OpensHost, OpensName, OpensRead, OpensText, itself, searched, with_second}
-use Rattle.channel_table.specs.Sides.{asked_with_kind}
-use Rattle.channel_table.specs.declared.side.Asked.{Asked}
-use Rattle.channel_table.specs.Places.{IsNewRow, Places}
-use Rattle.channel_table.specs.Rows.{TableStands}
-use Rattle.channel_table.specs.declared.row.Row.{Row}
-use Rattle.channel_table.specs.declared.table.accepting.Opening.{Opening}
-use Rattle.channel_table.specs.declared.table.accepting.Opening.TheVariants.{Answered, Asks, Ends}
+use Rattle.channel_table.specs.Opening.{OpensHost, OpensName, OpensRead, OpensText, itself, searched, with_second}
+use Rattle.channel_table.specs.Lookups.{asked_with_kind}
+use Rattle.channel_table.specs.declared.table.accepting.Opening.TheVariants.{Ends}
 
 -- a request that asks: its legs, the first candidate, for which these questions ask, and it isn't answered at once
 record AsksQuestion (setting : Setting) (number : ℕ) (spec : Spec) (asked : Asked) (second : Option Asked) : Type 0 where
-  legs : legs_of spec 0 ≡ first_number (aim_of spec) ∷ option_to_list (option_map (λ (a : Asked). 1) second)
+  legs : legs_of spec 0 ≡ first_number (wanted_by spec) ∷ option_to_list (option_map (λ (a : Asked). 1) second)
   candidates : candidates_of setting spec ≡ asked.question.name ∷ asked.names
-  asks : question_for spec (first_number (aim_of spec)) asked.question.name ≡ asked.question
+  asks : question_for spec (first_number (wanted_by spec)) asked.question.name ≡ asked.question
   too : IfSome second (λ (a : Asked). (a.question.name ≡ asked.question.name) × (a.names ≡ asked.names) × (question_for spec 1 a.question.name ≡ a.question))
   not_at_once : at_once setting number spec ≡ None
 
@@ -262,13 +233,13 @@ known_number setting number (Reverse address) answer opens = absurd cc
 
 module _ {T : Type 0} (plan : T → Script) (setting : Setting) (past : Past) (spec : Spec) (token : T) (number : ℕ) (limits : AreWithinLimits setting.options) (lawful : IsLawfulPast setting past) (next : number ≡ length (accepted past) + 1) (rows : List (Row T)) (tickets : List (Ticket T)) where
   -- the request that asks has a row
-  pub asked : (first : Asked) (second : Option Asked) (row : Row T) → Opens setting number spec (Asks first second) → IsNewRow setting.options.flags number (aim_of spec) token first second row
+  pub asked : (first : Asked) (second : Option Asked) (row : Row T) → Opens setting number spec (Asks first second) → IsNewRow setting.options.flags number (wanted_by spec) token first second row
       → TableStands plan setting past rows tickets → TableStands plan setting (Accept number spec (plan token) ∷ past) (rows ++ row ∷ []) tickets
   asked first second row opens is table =
       let asks = asks_question setting number spec first second opens in
       table_asked plan setting past spec (plan token) number lawful next rows tickets row is.numbered asks.not_at_once
-      (row_stands plan setting past spec (plan token) number lawful next (aim_of spec) first second row refl asks.legs asks.candidates (few_candidates setting limits spec) asks.asks asks.too asks.not_at_once
-      (subst (λ (t : T). IsNewRow setting.options.flags number (aim_of spec) t first second row) (sym is.for') is) (ap plan is.for')) (new_flown setting.options.flags number (aim_of spec) token first second row is) table
+      (row_stands plan setting past spec (plan token) number lawful next (wanted_by spec) first second row refl asks.legs asks.candidates (few_candidates setting limits spec) asks.asks asks.too asks.not_at_once
+      (subst (λ (t : T). IsNewRow setting.options.flags number (wanted_by spec) t first second row) (sym is.for') is) (ap plan is.for')) (new_flown setting.options.flags number (wanted_by spec) token first second row is) table
 
   -- the request that ends at once has a ticket
   pub answered : (status : Status) (ticket : Ticket T) → Opens setting number spec (Ends status) → ticket ≡ record { token = token; call = bare number status [] }
@@ -283,7 +254,7 @@ module _ {T : Type 0} (plan : T → Script) (setting : Setting) (past : Past) (s
       table_answered plan setting past spec (plan token) number lawful next rows tickets ticket (ap (λ (t : Ticket T). t.call.number) is ∙ numbered) (opens ∙ ap (λ (t : Ticket T). Some t.call) (sym is)) (ap (λ (t : Ticket T). plan t.token) is) table
 
   -- the table with the new request
-  pub placed : (opening : Opening) (new_rows : List (Row T)) (new_tickets : List (Ticket T)) → Opens setting number spec opening → Places setting.options.flags number (aim_of spec) token rows new_rows tickets new_tickets opening
+  pub placed : (opening : Opening) (new_rows : List (Row T)) (new_tickets : List (Ticket T)) → Opens setting number spec opening → Places setting.options.flags number (wanted_by spec) token rows new_rows tickets new_tickets opening
       → TableStands plan setting past rows tickets → TableStands plan setting (Accept number spec (plan token) ∷ past) new_rows new_tickets
   placed (Asks first second) new_rows new_tickets opens places table = rw (places.2, places.3) (asked first second places.0 opens places.1 table)
   placed (Ends status) new_rows new_tickets opens places table = rw (places.0, places.1) (answered status _ opens refl table)

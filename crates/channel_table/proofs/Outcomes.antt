@@ -1,18 +1,6 @@
 -- A whole table behind one entry: what the entry makes of each row.
-use Rattle.std.proofs.Common.{◌≡◌, ◌∙◌, ℕ, true, false, List, [], ◌∷◌, ◌++◌, Option, Some, None, refl, ap, ap₂, sym, subst, map}
-use Rattle.std.proofs.lemmas.List.{map-append}
-use Rattle.std.proofs.lemmas.List.Elements.{filter-append}
-use Rattle.std.specs.List.{AllByRecursion}
-use Rattle.std.specs.Prelude.{filter, filter_map, flat_map, is_none, is_some, not}
-use Rattle.chan_types.specs.declared.answer.Answer.{Answer}
-use Rattle.chan_types.specs.declared.journal.What.{What}
-use Rattle.channel_model.specs.Completion.{completed_by, left_by, taken_by}
-use Rattle.channel_model.specs.Flight.{Attempt, begun_by, closes, in_flight}
-use Rattle.channel_model.specs.Journal.{Past, accepted_by}
-use Rattle.channel_model.specs.Setting.{Setting}
-use Rattle.channel_model.proofs.Theorems.{as_many-filter, in_flight-closed, completed-behind, pending-behind}
-use Rattle.channel_model.specs.AsMany.{HaveAsMany}
-use Rattle.channel_table.specs.Rows.{StandFor}
+use Rattle.channel_table.proofs.Base.{◌≡◌, ◌∙◌, ℕ, true, false, List, [], ◌∷◌, ◌++◌, Option, Some, None, refl, ap, ap₂, sym, subst, map, map-append, filter-append, AllByRecursion, filter, filter_map, flat_map, is_none, is_some, not, Answer, What, completed_by, left_by, taken_by, Attempt, begun_by, closes, in_flight, Past, accepted_by, Setting, as_many-filter, in_flight-closed, HaveAsMany, StandFor}
+use Rattle.channel_model.proofs.Theorems.{completed-behind, pending-behind}
 
 -- what an entry makes of a row: another row, or a ticket
 pub data Outcome (R K : Type 0) : Type 0 where

@@ -1,30 +1,12 @@
 -- The token of a new request.
-use Rattle.std.proofs.Common.{◌≡◌, ◌∙◌, ℕ, ◌+◌, ◌≤◌, ◌==◌, Bool, true, false, cond, List, [], ◌∷◌, ◌++◌, Option, Some, None, refl, ap, ap₂, sym, subst, map, length, arith}
+use Rattle.channel_table.proofs.Base.{◌≡◌, ◌∙◌, ℕ, ◌+◌, ◌≤◌, Bool, true, false, cond, List, [], ◌∷◌, ◌++◌, Option, Some, None, refl, ap, ap₂, sym, subst, map, length, arith, map-append, AllByRecursion, option_or, option_map, Script, Spec, Ticket, asked_once, next_unasked, fate, occurrences, requests, Accepted, Past, accepted, IsLawfulPast, Setting, Flags, wanted_by, Opens, Places, RowStands, TableStands, TicketStands, entries_of, row_entry, ticket_entry, tokens_of, Row, Opening, Answered, Asks}
+use Rattle.std.proofs.Common.{◌==◌}
 use Rattle.std.proofs.lemmas.Bool.{eqb-true}
-use Rattle.std.proofs.lemmas.List.{map-append}
 use Rattle.std.specs.FinMap as finite
-use Rattle.std.specs.List.{AllByRecursion}
-use Rattle.std.specs.Option.{option_or}
-use Rattle.std.specs.Prelude.{option_map}
-use Rattle.chan_types.specs.declared.script.Script.{Script}
-use Rattle.chan_types.specs.declared.spec.Spec.{Spec}
-use Rattle.chan_types.specs.declared.ticket.Ticket.{Ticket}
-use Rattle.channel_model.proofs.Theorems.{asked_once, next_unasked, unasked_fate}
-use Rattle.channel_model.specs.Completion.{fate, occurrences, requests}
-use Rattle.channel_model.specs.Journal.{Accepted, Past, accepted}
-use Rattle.channel_model.specs.Lawful.{IsLawfulPast}
-use Rattle.channel_model.specs.Setting.{Setting}
-use Rattle.resolv_options.specs.declared.flags.Flags.{Flags}
+use Rattle.channel_model.proofs.Theorems.{unasked_fate}
 use Rattle.channel_table.proofs.NumberedEntries.{one_put, or_last, or_put, value-append, value_of}
 use Rattle.channel_table.proofs.Opening.{known_number}
-use Rattle.channel_table.specs.Aims.{aim_of}
-use Rattle.channel_table.specs.Opening.{Opens}
-use Rattle.channel_table.specs.Places.{Places}
-use Rattle.channel_table.specs.Rows.{RowStands, TableStands, TicketStands}
-use Rattle.channel_table.specs.Tokens.{entries_of, row_entry, ticket_entry, tokens_of}
-use Rattle.channel_table.specs.declared.row.Row.{Row}
-use Rattle.channel_table.specs.declared.table.accepting.Opening.{Opening}
-use Rattle.channel_table.specs.declared.table.accepting.Opening.TheVariants.{Answered, Asks, Ends}
+use Rattle.channel_table.specs.declared.table.accepting.Opening.TheVariants.{Ends}
 
 module _ {T : Type 0} (plan : T → Script) (setting : Setting) (past : Past) (number : ℕ) (unasked : occurrences number (requests past) ≡ 0) where
   -- no row has the number of a request that wasn't asked
@@ -86,7 +68,7 @@ module _ {T : Type 0} (plan : T → Script) (setting : Setting) (past : Past) (n
         ∙ ap (cond (number == n) (Some token)) (sym (value-append n (map row_entry rows) (map ticket_entry tickets))))
 
     placed_by : (flags : Flags) (spec : Spec) (opening : Opening) (new_rows : List (Row T)) (new_tickets : List (Ticket T)) → Opens setting number spec opening
-        → Places flags number (aim_of spec) token rows new_rows tickets new_tickets opening → tokens_of new_rows new_tickets ≡ finite.insert (tokens_of rows tickets) number token
+        → Places flags number (wanted_by spec) token rows new_rows tickets new_tickets opening → tokens_of new_rows new_tickets ≡ finite.insert (tokens_of rows tickets) number token
     placed_by flags spec (Asks first second) new_rows new_tickets opens places =
         ap₂ (λ rs ts. tokens_of rs ts) places.2 places.3 ∙ row_put places.0 (ap₂ (λ (n : ℕ) (t : T). (n, t)) places.1.numbered places.1.for')
     placed_by flags spec (Ends status) new_rows new_tickets opens places = ap₂ (λ rs ts. tokens_of rs ts) places.0 places.1 ∙ ticket_put _ refl
@@ -97,7 +79,7 @@ module _ {T : Type 0} (plan : T → Script) (setting : Setting) (past : Past) (n
 pub tokens_placed : {T : Type 0} (plan : T → Script) (setting : Setting) (past : Past) → IsLawfulPast setting past → (number : ℕ)
     → number ≡ length (accepted past) + 1
     → (token : T) (rows new_rows : List (Row T)) (tickets new_tickets : List (Ticket T)) → TableStands plan setting past rows tickets
-    → (flags : Flags) (spec : Spec) (opening : Opening) → Opens setting number spec opening → Places flags number (aim_of spec) token rows new_rows tickets new_tickets opening
+    → (flags : Flags) (spec : Spec) (opening : Opening) → Opens setting number spec opening → Places flags number (wanted_by spec) token rows new_rows tickets new_tickets opening
     → tokens_of new_rows new_tickets ≡ finite.insert (tokens_of rows tickets) number token
 tokens_placed plan setting past lawful number next token rows new_rows tickets new_tickets table flags spec opening opens places =
     placed_by plan setting past number (subst (λ n. occurrences n (requests past) ≡ 0) (sym next) (next_unasked setting past lawful)) token rows tickets table flags spec opening new_rows new_tickets opens places

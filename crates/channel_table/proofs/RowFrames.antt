@@ -1,35 +1,12 @@
 -- Rows that an entry doesn't concern, and a table of which one row changes.
-use Rattle.std.proofs.Common.{◌≡◌, ◌∙◌, ℕ, Bool, true, false, List, [], ◌∷◌, ◌++◌, Option, Some, None, refl, ap, ap₂, sym, subst, map, length, cond, eq-eqb}
-use Rattle.std.proofs.lemmas.List.{append-nil, map-append}
-use Rattle.std.proofs.lemmas.List.Elements.{filter-append, filter_map-append}
-use Rattle.std.specs.List.{AllByRecursion}
-use Rattle.std.specs.Prelude.{IfSome, IsFalse, filter, flat_map, not, option_map, option_to_list}
-use Rattle.chan_types.specs.declared.journal.What.{What}
-use Rattle.chan_types.specs.declared.journal.What.TheVariants.{Take}
-use Rattle.chan_types.specs.declared.script.Script.{Script}
-use Rattle.chan_types.specs.declared.ticket.Ticket.{Ticket}
-use Rattle.channel_model.proofs.Theorems.{Spares, request_of-later, spared-end, spared-facts, spec_of-later, take_spares, unless_closed-spared}
-use Rattle.channel_model.specs.Completion.{completed_by, left_by}
-use Rattle.channel_model.specs.Flight.{Attempt, begun_by, closes, flight, has_leg, is_of_leg, started, unless_closed, with_leg}
-use Rattle.channel_model.specs.Journal.{Accepted, Past, spec_of}
-use Rattle.channel_model.specs.LegFacts.{LegFacts}
-use Rattle.channel_model.specs.Legs.{Leg}
-use Rattle.channel_model.specs.Legs.{leg_of}
-use Rattle.channel_model.specs.Search.{search_answer}
-use Rattle.channel_model.specs.Setting.{Setting}
+use Rattle.channel_table.proofs.Base.{◌≡◌, ◌∙◌, ℕ, Bool, true, false, List, [], ◌∷◌, ◌++◌, Option, Some, None, refl, ap, ap₂, sym, subst, map, length, cond, eq-eqb, append-nil, map-append, filter-append, filter_map-append, AllByRecursion, IfSome, IsFalse, filter, flat_map, not, option_map, option_to_list, What, Take, Script, Ticket, Spares, request_of-later, spec_of-later, completed_by, left_by, Attempt, begun_by, closes, flight, has_leg, is_of_leg, started, unless_closed, with_leg, Accepted, Past, spec_of, LegFacts, Leg, leg_of, search_answer, Setting, LegStands, flown_by, RowStands, LookupStands, StandFor, TableStands, flown, number_of, lookups, ticket_number, flown_lookup, flying_of, leg_of_lookup, Lookup, Spec, Name, Row}
+use Rattle.channel_model.proofs.Theorems.{spared-end, spared-facts, take_spares, unless_closed-spared}
 use Rattle.query_machine.specs.declared.leg.Leg as machine
 use Rattle.channel_table.proofs.Outcomes.{Becomes, Follows, Outcome, row_behind, row_of, stands_behind, stays, ticket_behind}
 use Rattle.channel_table.proofs.RowAnswers.{row_answers}
 use Rattle.channel_table.proofs.SearchSteps.{no_answer, passed_stay}
-use Rattle.channel_table.proofs.SideLists.{LegOf, legs_stand}
+use Rattle.channel_table.proofs.LookupLists.{LegOf, legs_stand}
 use Rattle.channel_table.proofs.TableSteps.{Stands, tickets_later}
-use Rattle.channel_table.specs.Legs.{LegStands, flown_by}
-use Rattle.channel_table.specs.Rows.{RowStands, SideStands, StandFor, TableStands, flown, number_of, sides, ticket_number}
-use Rattle.channel_table.specs.Sides.{flown_side, flying_of, leg_of_side}
-use Rattle.channel_table.specs.declared.side.Side.{Side}
-use Rattle.chan_types.specs.declared.spec.Spec.{Spec}
-use Rattle.dns_message.specs.declared.name.Name.{Name}
-use Rattle.channel_table.specs.declared.row.Row.{Row}
 
 -- a leg that an entry doesn't concern stands as before
 pub leg_spared : (setting : Setting) (what : What) (past : Past) (leg : Leg) (state : machine.Leg) (reply : List ℕ) → Spares setting what past leg → LegStands setting past leg state reply → LegStands setting (what ∷ past) leg state reply
@@ -49,24 +26,24 @@ begun_other leg (Some a) legs spared = by_test (has_leg a.leg legs)
     by_test false = rw spared refl
 
 module _ (setting : Setting) (what : What) (past : Past) where
-  -- so does a side
-  pub side_spared : (number : ℕ) (spec : Spec) (name : Name) (rest : List Name) (side : Side) → Spares setting what past (leg_of_side side) → SideStands setting past number spec name rest side → SideStands setting (what ∷ past) number spec name rest side
-  side_spared number spec name rest side spared stands = record {
+  -- so does a lookup
+  pub lookup_spared : (number : ℕ) (spec : Spec) (name : Name) (rest : List Name) (lookup : Lookup) → Spares setting what past (leg_of_lookup lookup) → LookupStands setting past number spec name rest lookup → LookupStands setting (what ∷ past) number spec name rest lookup
+  lookup_spared number spec name rest lookup spared stands = record {
     numbered = stands.numbered;
     current = stands.current;
     behind = stands.behind;
     asks = stands.asks;
-    leg = leg_spared setting what past (leg_of_side side) side.leg side.reply spared stands.leg;
-    begun = begun_other (leg_of_side side) (begun_by what) (started past) spared.begins_other ∙ stands.begun;
+    leg = leg_spared setting what past (leg_of_lookup lookup) lookup.leg lookup.reply spared stands.leg;
+    begun = begun_other (leg_of_lookup lookup) (begun_by what) (started past) spared.begins_other ∙ stands.begun;
   }
 
-  -- an entry doesn't concern the leg of a side
-  abbrev pub SparesSide : Side → Type 0
-  SparesSide side = Spares setting what past (leg_of_side side)
+  -- an entry doesn't concern the leg of a lookup
+  abbrev pub SparesLookup : Lookup → Type 0
+  SparesLookup lookup = Spares setting what past (leg_of_lookup lookup)
 
-  pub sides_spared : (number : ℕ) (spec : Spec) (name : Name) (rest : List Name) (ss : List Side) → AllByRecursion SparesSide ss → AllByRecursion (SideStands setting past number spec name rest) ss → AllByRecursion (SideStands setting (what ∷ past) number spec name rest) ss
-  sides_spared number spec name rest [] spared each = tt
-  sides_spared number spec name rest (side ∷ ss) spared each = (side_spared number spec name rest side spared.0 each.0, sides_spared number spec name rest ss spared.1 each.1)
+  pub lookups_spared : (number : ℕ) (spec : Spec) (name : Name) (rest : List Name) (ss : List Lookup) → AllByRecursion SparesLookup ss → AllByRecursion (LookupStands setting past number spec name rest) ss → AllByRecursion (LookupStands setting (what ∷ past) number spec name rest) ss
+  lookups_spared number spec name rest [] spared each = tt
+  lookups_spared number spec name rest (lookup ∷ ss) spared each = (lookup_spared number spec name rest lookup spared.0 each.0, lookups_spared number spec name rest ss spared.1 each.1)
 
   -- what an entry leaves of an attempt, if there is one
   pub left_one : (o : Option Attempt) → filter (λ a. not (closes setting a what past)) (option_to_list o) ≡ option_to_list (unless_closed setting what past o)
@@ -77,20 +54,20 @@ module _ (setting : Setting) (what : What) (past : Past) where
       by_test true = refl
       by_test false = refl
 
-  -- the attempt of a side in flight
-  pub flight_of_side : (side : Side) → LegOf setting past side → flight setting (leg_of_side side) past ≡ flown_by (leg_of_side side) (flying_of side)
-  flight_of_side side stands = ap (λ (f : LegFacts). f.flies) stands.facts
+  -- the attempt of a lookup in flight
+  pub flight_of_lookup : (lookup : Lookup) → LegOf setting past lookup → flight setting (leg_of_lookup lookup) past ≡ flown_by (leg_of_lookup lookup) (flying_of lookup)
+  flight_of_lookup lookup stands = ap (λ (f : LegFacts). f.flies) stands.facts
 
-  -- it is left by an entry that doesn't concern the side
-  pub side_left : (side : Side) → Spares setting what past (leg_of_side side) → LegOf setting past side → filter (λ a. not (closes setting a what past)) (flown_side side) ≡ flown_side side
-  side_left side spared stands =
-      left_one (flown_by (leg_of_side side) (flying_of side))
-      ∙ ap option_to_list (subst (λ o. unless_closed setting what past o ≡ o) (flight_of_side side stands) (unless_closed-spared setting what past (flight setting (leg_of_side side) past) spared.closes_none))
+  -- it is left by an entry that doesn't concern the lookup
+  pub lookup_left : (lookup : Lookup) → Spares setting what past (leg_of_lookup lookup) → LegOf setting past lookup → filter (λ a. not (closes setting a what past)) (flown_lookup lookup) ≡ flown_lookup lookup
+  lookup_left lookup spared stands =
+      left_one (flown_by (leg_of_lookup lookup) (flying_of lookup))
+      ∙ ap option_to_list (subst (λ o. unless_closed setting what past o ≡ o) (flight_of_lookup lookup stands) (unless_closed-spared setting what past (flight setting (leg_of_lookup lookup) past) spared.closes_none))
 
-  pub sides_left : (ss : List Side) → AllByRecursion SparesSide ss → AllByRecursion (LegOf setting past) ss → filter (λ a. not (closes setting a what past)) (flat_map flown_side ss) ≡ flat_map flown_side ss
-  sides_left [] spared each = refl
-  sides_left (side ∷ ss) spared each =
-      filter-append (λ a. not (closes setting a what past)) (flown_side side) (flat_map flown_side ss) ∙ ap₂ (λ xs ys. xs ++ ys) (side_left side spared.0 each.0) (sides_left ss spared.1 each.1)
+  pub lookups_left : (ss : List Lookup) → AllByRecursion SparesLookup ss → AllByRecursion (LegOf setting past) ss → filter (λ a. not (closes setting a what past)) (flat_map flown_lookup ss) ≡ flat_map flown_lookup ss
+  lookups_left [] spared each = refl
+  lookups_left (lookup ∷ ss) spared each =
+      filter-append (λ a. not (closes setting a what past)) (flown_lookup lookup) (flat_map flown_lookup ss) ∙ ap₂ (λ xs ys. xs ++ ys) (lookup_left lookup spared.0 each.0) (lookups_left ss spared.1 each.1)
 
 module _ {T : Type 0} (plan : T → Script) (setting : Setting) (what : What) (past : Past) where
   -- what a row's request asks
@@ -102,12 +79,12 @@ module _ {T : Type 0} (plan : T → Script) (setting : Setting) (what : What) (p
   BeginsOther request = (k : ℕ) → IfSome (begun_by what) (λ a. IsFalse (is_of_leg (leg_of request k) a))
 
   -- a row that an entry doesn't concern and doesn't complete stands as before
-  pub row_spared : (row : Row T) → AllByRecursion (SparesSide setting what past) (sides row) → BeginsOther row.number → completed_by setting row.number what past ≡ None → RowStands plan setting past row → RowStands plan setting (what ∷ past) row
+  pub row_spared : (row : Row T) → AllByRecursion (SparesLookup setting what past) (lookups row) → BeginsOther row.number → completed_by setting row.number what past ≡ None → RowStands plan setting past row → RowStands plan setting (what ∷ past) row
   row_spared row spared others completes stands =
       let stay = passed_stay setting row.number stands.spec what past 0 stands.passed stands.came in
       record {
         spec = stands.spec;
-        aims = stands.aims;
+        wants = stands.wants;
         passed = stands.passed;
         name = stands.name;
         rest = stands.rest;
@@ -118,23 +95,23 @@ module _ {T : Type 0} (plan : T → Script) (setting : Setting) (what : What) (p
         emptied = stay.1 ∙ stands.emptied;
         accepts = request_of-later row.number what past _ stands.accepts;
         undecided = rw (stands.undecided, completes) refl;
-        each_side = sides_spared setting what past row.number stands.spec stands.name stands.rest (sides row) spared stands.each_side;
+        each_lookup = lookups_spared setting what past row.number stands.spec stands.name stands.rest (lookups row) spared stands.each_lookup;
         unanswered = stands.unanswered;
         later = λ k above. begun_other (leg_of row.number k) (begun_by what) (started past) (others k) ∙ stands.later k above;
       }
 
   -- where an entry completes a request as its search has ended, it doesn't complete one of whose legs it concerns none
-  pub spared_uncompleted : (row : Row T) → completed_by setting row.number what past ≡ search_answer setting row.number (what ∷ past) → AllByRecursion (SparesSide setting what past) (sides row) → RowStands plan setting past row
+  pub spared_uncompleted : (row : Row T) → completed_by setting row.number what past ≡ search_answer setting row.number (what ∷ past) → AllByRecursion (SparesLookup setting what past) (lookups row) → RowStands plan setting past row
       → completed_by setting row.number what past ≡ None
   spared_uncompleted row by_search spared stands =
       let stay = passed_stay setting row.number stands.spec what past 0 stands.passed stands.came in
-      let each = sides_spared setting what past row.number stands.spec stands.name stands.rest (sides row) spared stands.each_side in
+      let each = lookups_spared setting what past row.number stands.spec stands.name stands.rest (lookups row) spared stands.each_lookup in
       by_search ∙ no_answer setting row.number stands.spec (what ∷ past) stands.passed stands.name stands.rest (spec_of-later row.number what past stands.spec (spec_of_row row stands)) stands.candidates stay.0
-      (row_answers setting (what ∷ past) stands.spec (length stands.passed) stands.name stands.rest row stands.aims stands.legged each ∙ stands.unanswered)
+      (row_answers setting (what ∷ past) stands.spec (length stands.passed) stands.name stands.rest row stands.wants stands.legged each ∙ stands.unanswered)
 
   -- the row stays, of whose legs the entry concerns none and which it doesn't complete
   pub record IsSpared (row : Row T) : Type 0 where
-    pub spared : AllByRecursion (SparesSide setting what past) (sides row)
+    pub spared : AllByRecursion (SparesLookup setting what past) (lookups row)
     pub others : BeginsOther row.number
     pub uncompleted : completed_by setting row.number what past ≡ None
 
@@ -142,7 +119,7 @@ module _ {T : Type 0} (plan : T → Script) (setting : Setting) (what : What) (p
   it_stays row = stays row row
 
   pub spared_follows : (row : Row T) → IsSpared row → RowStands plan setting past row → Follows number_of ticket_number flown setting what past (it_stays row)
-  spared_follows row is stands = (refl, is.uncompleted, sym (sides_left setting what past (sides row) is.spared (legs_stand plan setting past row stands)))
+  spared_follows row is stands = (refl, is.uncompleted, sym (lookups_left setting what past (lookups row) is.spared (legs_stand plan setting past row stands)))
 
   -- all of these rows stay
   pub keep_all : List (Row T) → List (Outcome (Row T) (Ticket T))
@@ -181,11 +158,11 @@ becomes-append os ps old new old' new' tickets tickets' b c = record {
 module _ {T : Type 0} (plan : T → Script) (setting : Setting) (past : Past) where
   take_spared : (number : ℕ) (rows : List (Row T)) → AllByRecursion (IsSpared plan setting (Take number) past) rows
   take_spared number [] = tt
-  take_spared number (row ∷ rows) = (record { spared = each_taken (sides row); others = λ k. tt; uncompleted = refl }, take_spared number rows)
+  take_spared number (row ∷ rows) = (record { spared = each_taken (lookups row); others = λ k. tt; uncompleted = refl }, take_spared number rows)
     where
-      each_taken : (ss : List Side) → AllByRecursion (SparesSide setting (Take number) past) ss
+      each_taken : (ss : List Lookup) → AllByRecursion (SparesLookup setting (Take number) past) ss
       each_taken [] = tt
-      each_taken (side ∷ ss) = (take_spares setting past (leg_of_side side) number, each_taken ss)
+      each_taken (lookup ∷ ss) = (take_spares setting past (leg_of_lookup lookup) number, each_taken ss)
 
   -- a Take takes its ticket away, and leaves the rows
   pub table_taken : (rows : List (Row T)) (ticket : Ticket T) (rest : List (Ticket T)) → TableStands plan setting past rows (ticket ∷ rest) → TableStands plan setting (Take ticket.call.number ∷ past) rows rest

@@ -1,34 +1,12 @@
 -- How far a search has come behind one entry more, and with which answer it is over.
-use Rattle.std.proofs.Common.{◌≡◌, ◌∙◌, ℕ, suc, ◌+◌, ◌*◌, ◌%◌, ◌≤◌, Bool, true, false, List, [], ◌∷◌, ◌++◌, Option, Some, None, refl, ap, ap₂, sym, subst, map, cond, arith, length}
-use Rattle.std.proofs.lemmas.Bool.{and_parts}
-use Rattle.std.specs.Prelude.{IfSome, option_to_list, option_and_then, option_map, slice_get, unwrap_or, ◌==◌, ◌&&◌, ◌||◌}
-use Rattle.chan_types.specs.declared.answer.Answer.{Answer}
-use Rattle.chan_types.specs.declared.journal.What.{What}
-use Rattle.chan_types.specs.declared.spec.Spec.{Spec}
-use Rattle.chan_types.specs.declared.spec.Spec.TheVariants.{Address, Query, Reverse, Search}
-use Rattle.chan_types.specs.declared.status.Status.{Status}
-use Rattle.chan_types.specs.declared.status.Status.TheVariants.{BadName, BadResp, Cancelled, ConnRefused, Destruction, FormErr, NoData, NotFound, NotImp, Refused, ServFail, Success, TimedOut}
-use Rattle.dns_message.specs.declared.message.Question.{Question}
-use Rattle.dns_message.specs.declared.name.Name.{Name}
+use Rattle.channel_table.proofs.Base.{◌≡◌, ◌∙◌, ℕ, suc, ◌+◌, ◌*◌, ◌%◌, ◌≤◌, Bool, true, false, List, [], ◌∷◌, ◌++◌, Option, Some, None, refl, ap, ap₂, sym, subst, map, cond, arith, length, and_parts, IfSome, option_to_list, option_map, slice_get, unwrap_or, ◌&&◌, ◌||◌, Answer, What, Spec, Address, Query, Reverse, Search, Status, BadName, Cancelled, ConnRefused, Destruction, NoData, NotFound, Success, TimedOut, Question, Name, Attempt, closes, flight, Past, spec_of, LegEnd, end_of, leg_end, Leg, candidate_of, leg_of, legs_of, addresses_v4, addresses_v6, bare, merged, merged_one, same_status, closing_of, closings, with_closing, candidates_of, question_for, wanted_kind, any_empty, candidate_answer, goes_on, is_empty, search_answer, Setting, last_status, wanted_by, answer_of_ends, is_of_addresses, are_passed, Wanted, Addresses, Options, Family, class_in, kind_a, kind_aaaa, ◌==◌}
+use Rattle.std.specs.Prelude.{option_and_then}
+use Rattle.chan_types.specs.declared.status.Status.TheVariants.{BadResp, FormErr, NotImp, Refused, ServFail}
 use Rattle.channel_model.proofs.Theorems.{asking_no_answer}
 use Rattle.channel_model.specs.Completion.{current_legs, legs_at}
-use Rattle.channel_model.specs.Flight.{Attempt, closes, flight}
-use Rattle.channel_model.specs.Journal.{Past, spec_of}
-use Rattle.channel_model.specs.LegEnd.{LegEnd, end_of, leg_end}
-use Rattle.channel_model.specs.Legs.{Leg, candidate_of, leg_of, legs_of}
-use Rattle.channel_model.specs.Merge.{addresses_v4, addresses_v6, bare, merged, merged_one, same_status}
-use Rattle.channel_model.specs.Past.{closing_of, closings, with_closing}
-use Rattle.channel_model.specs.Questions.{candidates_of, question_for, wanted_kind}
-use Rattle.channel_model.specs.Search.{Stand, answer_at, answer_of_search, any_empty, asking, behind_candidate, candidate_answer, goes_on, is_empty, last_answer, over, search_answer, stand_at, stand_of}
-use Rattle.channel_model.specs.Setting.{Setting}
-use Rattle.channel_table.specs.After.{last_status}
-use Rattle.channel_table.specs.Aims.{aim_of, answer_of_ends, is_of_addresses}
-use Rattle.channel_table.specs.Searching.{are_passed, gives_way}
-use Rattle.channel_table.specs.declared.aim.Aim.{Aim}
-use Rattle.channel_table.specs.declared.aim.Aim.TheVariants.{Addresses, Reply}
-use Rattle.resolv_options.specs.declared.options.Options.{Options}
-use Rattle.net_addr.specs.declared.addr.Family.{Family}
-use Rattle.dns_message.specs.Numbers.{class_in, kind_a, kind_aaaa}
+use Rattle.channel_model.specs.Search.{Stand, answer_at, answer_of_search, asking, behind_candidate, last_answer, over, stand_at, stand_of}
+use Rattle.channel_table.specs.Searching.{gives_way}
+use Rattle.channel_table.specs.declared.wanted.Wanted.TheVariants.{Reply}
 
 plus_none : (n : ℕ) → n + 0 ≡ n
 plus_none n = omega arith
@@ -127,7 +105,7 @@ next_question spec k m name next question more is = by_spec spec ∙ ap (λ (q :
     by_spec (Reverse address) = refl
 
 -- the kind of which an answer is wanted, by what the answer is made of
-pub kind_is : (spec : Spec) (k : ℕ) (name : Name) (question : Question) → question_for spec k name ≡ question → wanted_kind (Some spec) k ≡ cond (is_of_addresses (aim_of spec)) (Some question.kind) None
+pub kind_is : (spec : Spec) (k : ℕ) (name : Name) (question : Question) → question_for spec k name ≡ question → wanted_kind (Some spec) k ≡ cond (is_of_addresses (wanted_by spec)) (Some question.kind) None
 kind_is (Query text kind class) k name question is = refl
 kind_is (Search text kind class) k name question is = refl
 kind_is (Address host family nosort) k name question is = ap (λ (q : Question). Some q.kind) is
@@ -138,7 +116,7 @@ item_behind [] y zs = refl
 item_behind (x ∷ xs) y zs = item_behind xs y zs
 
 -- the answer of a candidate whose first leg hasn't ended
-pub no_end : (options : Options) (request : ℕ) (aim : Aim) (name : Name) (right : Option LegEnd) → answer_of_ends options request aim name None right ≡ None
+pub no_end : (options : Options) (request : ℕ) (wanted : Wanted) (name : Name) (right : Option LegEnd) → answer_of_ends options request wanted name None right ≡ None
 no_end options request Reply name right = refl
 no_end options request (Addresses Family.Any nosort) name right = refl
 no_end options request (Addresses Family.V4 nosort) name right = refl
@@ -150,7 +128,7 @@ end_if setting request past j = option_and_then (λ n. leg_end setting (leg_of r
 
 -- the answer of a candidate, by how its legs ended
 pub leg_answers : (setting : Setting) (request : ℕ) (past : Past) (spec : Spec) (c k : ℕ) (j : Option ℕ) (name : Name) → legs_of spec c ≡ k ∷ option_to_list j
-    → candidate_answer setting request spec c name past ≡ answer_of_ends setting.options request (aim_of spec) name (leg_end setting (leg_of request k) past) (end_if setting request past j)
+    → candidate_answer setting request spec c name past ≡ answer_of_ends setting.options request (wanted_by spec) name (leg_end setting (leg_of request k) past) (end_if setting request past j)
 leg_answers setting request past (Query text kind class) c k j name legs =
     ap (λ n. option_map (λ (e : LegEnd). bare request e.status e.reply) (leg_end setting (leg_of request n) past)) (one_number (2 * c) k j legs).0
 leg_answers setting request past (Search text kind class) c k j name legs =

@@ -1,51 +1,24 @@
 -- A message answers no row but the one whose attempt has its identifier.
-use Rattle.std.proofs.Common.{◌≡◌, ◌∙◌, ℕ, zero, suc, ◌+◌, ◌*◌, ◌<◌, ◌==◌, Bool, true, false, List, [], ◌∷◌, ◌++◌, Option, Some, None, Result, Ok, Err, refl, ap, ap₂, sym, subst, map, get_or, length, append_assoc, arith, eq-eqb, eqb-true}
-use Rattle.std.proofs.lemmas.Bool.{and_parts, false≢true}
-use Rattle.std.proofs.lemmas.Cmp.{nat_cmp_total}
-use Rattle.std.specs.Bool.{then_some}
+use Rattle.channel_table.proofs.Base.{◌≡◌, ◌∙◌, ℕ, zero, suc, ◌+◌, ◌*◌, ◌<◌, Bool, true, false, List, [], ◌∷◌, ◌++◌, Option, Some, None, Result, Ok, Err, refl, ap, ap₂, sym, subst, map, get_or, length, append_assoc, arith, eq-eqb, eqb-true, and_parts, false≢true, nat_cmp_total, then_some, AllByRecursion, list_any, option_and_then, IfOk, if◌then◌else◌, is_some, not, option_map, ◌||◌, ◌≢◌, Script, Ticket, each-then, answer_to, answers, asked_with, Past, Reply, Setting, verdict_of, Judged, Question, NoMemory, Flying, Flags, Key, RowFinds, kind_wanted, lands_on, reply_for, row_lands, AreFlown, entry_by_id, key_of_lookup, IsRising, RowStands, LookupStands, TableStands, all_lookups, number_of, lookups, flew_over, flying_of, flying_id, has_id, IsNumbered, IsOnlyWith, id_of, Wanted, Row, Lookup, Flown, Landing}
+use Rattle.std.proofs.Common.{◌==◌}
 use Rattle.std.specs.FinMap as finite
-use Rattle.std.specs.List.{AllByRecursion, list_any}
-use Rattle.std.specs.Option.{option_and_then}
-use Rattle.std.specs.Prelude.{IfOk, if◌then◌else◌, is_some, not, option_map, ◌||◌, ◌≢◌}
-use Rattle.chan_types.specs.declared.script.Script.{Script}
-use Rattle.chan_types.specs.declared.ticket.Ticket.{Ticket}
-use Rattle.channel_model.proofs.Theorems.{each-then}
-use Rattle.channel_model.specs.Flight.{answer_to, answers, asked_with}
-use Rattle.channel_model.specs.Journal.{Past}
-use Rattle.channel_model.specs.Replies.{Reply, reply_of, reply_with}
-use Rattle.channel_model.specs.Setting.{Setting}
-use Rattle.channel_model.specs.Verdict.{verdict_of}
-use Rattle.channel_model.specs.declared.judged.Judged.{Judged}
+use Rattle.channel_model.specs.Replies.{reply_of, reply_with}
 use Rattle.dns_message.proofs.Theorems.{message_is_spelled}
 use Rattle.dns_message.specs.Grammar.{Spells}
 use Rattle.dns_message.specs.Reading.{message_read}
 use Rattle.dns_message.specs.declared.fault.MessageFault.{MessageFault}
 use Rattle.dns_message.specs.declared.message.Message.{Message}
-use Rattle.dns_message.specs.declared.message.Question.{Question}
 use Rattle.edns_opt.specs.Reading.{opt_of}
 use Rattle.edns_opt.specs.declared.fault.EdnsFault.{EdnsFault}
 use Rattle.edns_opt.specs.declared.opt.Opt.{Opt}
-use Rattle.item_list.specs.declared.no_memory.NoMemory.{NoMemory}
-use Rattle.query_machine.specs.declared.leg.Flying.{Flying}
-use Rattle.resolv_options.specs.declared.flags.Flags.{Flags}
-use Rattle.timeout_queue.specs.declared.key.Key.{Key}
 use Rattle.channel_table.proofs.EntryLemmas.{entry_there}
 use Rattle.channel_table.proofs.FlownRows.{ids_alike}
 use Rattle.channel_table.proofs.IndexLemmas.{each_before, each_behind}
 use Rattle.channel_table.proofs.LandingRow.{found_row}
 use Rattle.channel_table.proofs.ListedLemmas.{above}
-use Rattle.channel_table.specs.Arriving.{Finds, RowFinds, kind_wanted, lands_on, reply_for, row_lands}
-use Rattle.channel_table.specs.Flown.{AreFlown, entry_by_id, key_of_side}
-use Rattle.channel_table.specs.Listed.{FindsNumber, IsRising}
-use Rattle.channel_table.specs.Rows.{RowStands, SideStands, TableStands, all_sides, number_of, sides}
-use Rattle.channel_table.specs.Sides.{flew_over, flying_of}
-use Rattle.channel_table.specs.Starting.{flying_id, has_id}
-use Rattle.channel_table.specs.Strays.{Differs, IsNumbered, IsOnlyWith, flying_with, id_of, row_shares_id, shares_id}
-use Rattle.channel_table.specs.declared.aim.Aim.{Aim}
-use Rattle.channel_table.specs.declared.row.Row.{Row}
-use Rattle.channel_table.specs.declared.side.Side.{Side}
-use Rattle.channel_table.specs.declared.table.flown.Flown.{Flown}
-use Rattle.channel_table.specs.declared.table.landing.Landing.{Landing}
+use Rattle.channel_table.specs.Arriving.{Finds}
+use Rattle.channel_table.specs.Listed.{FindsNumber}
+use Rattle.channel_table.specs.Strays.{Differs, flying_with, row_shares_id, shares_id}
 
 or_false : (b c : Bool) → (b || c) ≡ false → (b ≡ false) × (c ≡ false)
 or_false true c e = absurd (false≢true (sym e))
@@ -86,38 +59,38 @@ answer_shows id exact asked bytes h = by_read (message_read bytes) refl h
     by_read (Err fault) is e = absurd (false≢true e)
 
 module _ (flags : Flags) (server link : ℕ) (bytes : List ℕ) where
-  -- a side that it answers has the identifier
-  lands_shares : (aim : Aim) (side : Side) → lands_on flags server link bytes aim side ≡ true → shares_id (id_of bytes) side ≡ true
-  lands_shares aim side h = by_test (flew_over server link side) h
+  -- a lookup that it answers has the identifier
+  lands_shares : (wanted : Wanted) (lookup : Lookup) → lands_on flags server link bytes wanted lookup ≡ true → shares_id (id_of bytes) lookup ≡ true
+  lands_shares wanted lookup h = by_test (flew_over server link lookup) h
     where
       verdict : Reply → Judged
-      verdict = verdict_of flags (not (link == 0)) side.leg.has_opt (kind_wanted aim side)
+      verdict = verdict_of flags (not (link == 0)) lookup.leg.has_opt (kind_wanted wanted lookup)
 
       mapped : (o : Option Reply) → is_some (option_map verdict o) ≡ true → is_some o ≡ true
       mapped None e = e
       mapped (Some reply) e = refl
 
-      by_flying : (o : Option Flying) → is_some (option_map verdict (reply_for bytes side.question o)) ≡ true → flying_with (id_of bytes) o ≡ true
+      by_flying : (o : Option Flying) → is_some (option_map verdict (reply_for bytes lookup.question o)) ≡ true → flying_with (id_of bytes) o ≡ true
       by_flying None e = absurd (false≢true e)
       by_flying (Some flying) e =
-          ap (λ (i : Option ℕ). flying_with i (Some flying)) (answer_shows flying.id (is_some flying.mix) (Some (asked_with flying.mix side.question)) bytes (mapped (reply_for bytes side.question (Some flying)) e))
+          ap (λ (i : Option ℕ). flying_with i (Some flying)) (answer_shows flying.id (is_some flying.mix) (Some (asked_with flying.mix lookup.question)) bytes (mapped (reply_for bytes lookup.question (Some flying)) e))
           ∙ eq-eqb flying.id flying.id refl
 
-      by_test : (b : Bool) → is_some (if b then option_map verdict (reply_for bytes side.question (flying_of side)) else None) ≡ true → shares_id (id_of bytes) side ≡ true
-      by_test true e = by_flying (flying_of side) e
+      by_test : (b : Bool) → is_some (if b then option_map verdict (reply_for bytes lookup.question (flying_of lookup)) else None) ≡ true → shares_id (id_of bytes) lookup ≡ true
+      by_test true e = by_flying (flying_of lookup) e
       by_test false e = absurd (false≢true e)
 
-  side_less : (aim : Aim) (side : Side) → shares_id (id_of bytes) side ≡ false → lands_on flags server link bytes aim side ≡ false
-  side_less aim side none = by_test (lands_on flags server link bytes aim side) refl
+  lookup_less : (wanted : Wanted) (lookup : Lookup) → shares_id (id_of bytes) lookup ≡ false → lands_on flags server link bytes wanted lookup ≡ false
+  lookup_less wanted lookup none = by_test (lands_on flags server link bytes wanted lookup) refl
     where
-      by_test : (b : Bool) → lands_on flags server link bytes aim side ≡ b → lands_on flags server link bytes aim side ≡ false
-      by_test true is = absurd (false≢true (sym none ∙ lands_shares aim side is))
+      by_test : (b : Bool) → lands_on flags server link bytes wanted lookup ≡ b → lands_on flags server link bytes wanted lookup ≡ false
+      by_test true is = absurd (false≢true (sym none ∙ lands_shares wanted lookup is))
       by_test false is = is
 
   module _ {T : Type 0} where
     -- it answers no row that hasn't the identifier
     row_less : (row : Row T) → row_shares_id (id_of bytes) row ≡ false → row_lands flags server link bytes row ≡ false
-    row_less row none = any_less (lands_on flags server link bytes row.aim) (shares_id (id_of bytes)) (side_less row.aim) (sides row) none
+    row_less row none = any_less (lands_on flags server link bytes row.wanted) (shares_id (id_of bytes)) (lookup_less row.wanted) (lookups row) none
 
     above_none : (n : ℕ) (rows : List (Row T)) → AllByRecursion (λ (m : ℕ). n < m) (map number_of rows) → AllByRecursion (Differs (id_of bytes) n) rows → list_any (row_lands flags server link bytes) rows ≡ false
     above_none n [] over differ = refl
@@ -154,63 +127,63 @@ module _ (flags : Flags) (server link : ℕ) (bytes : List ℕ) where
 pub none_without : {T : Type 0} (rows : List (Row T)) → IsOnlyWith None rows None
 none_without rows = no_row rows
   where
-    no_side : (ss : List Side) → list_any (shares_id None) ss ≡ false
-    no_side [] = refl
-    no_side (side ∷ ss) = no_side ss
+    no_lookup : (ss : List Lookup) → list_any (shares_id None) ss ≡ false
+    no_lookup [] = refl
+    no_lookup (lookup ∷ ss) = no_lookup ss
 
     no_row : {T : Type 0} (rs : List (Row T)) → list_any (row_shares_id None) rs ≡ false
     no_row [] = refl
-    no_row (row ∷ rs) = ap₂ (λ b c. b || c) (no_side (sides row)) (no_row rs)
+    no_row (row ∷ rs) = ap₂ (λ b c. b || c) (no_lookup (lookups row)) (no_row rs)
 
-module _ {T : Type 0} (flown : Flown) (rows : List (Row T)) (are : AreFlown flown (all_sides rows)) (id : ℕ) where
+module _ {T : Type 0} (flown : Flown) (rows : List (Row T)) (are : AreFlown flown (all_lookups rows)) (id : ℕ) where
   -- where it isn't found no row has it
   pub none_flown_with : finite.get flown.flights id ≡ None → IsOnlyWith (Some id) rows None
   none_flown_with none = sym (ids_alike flown rows are id) ∙ ap is_some none
 
   module _ (key : Key) (there : finite.get flown.flights id ≡ Some key) where
-    -- a side that has it is of the leg that is found
-    abbrev IsOwn : Side → Type 0
-    IsOwn side = has_id id side ≡ true → key_of_side side ≡ key
+    -- a lookup that has it is of the leg that is found
+    abbrev IsOwn : Lookup → Type 0
+    IsOwn lookup = has_id id lookup ≡ true → key_of_lookup lookup ≡ key
 
-    each_own : (xs ss : List Side) → AreFlown flown (xs ++ ss) → AllByRecursion IsOwn ss
+    each_own : (xs ss : List Lookup) → AreFlown flown (xs ++ ss) → AllByRecursion IsOwn ss
     each_own xs [] all = tt
-    each_own xs (side ∷ ss) all = (by_flying (flying_of side) refl, each_own (xs ++ side ∷ []) ss (subst (AreFlown flown) (sym (append_assoc xs (side ∷ []) ss)) all))
+    each_own xs (lookup ∷ ss) all = (by_flying (flying_of lookup) refl, each_own (xs ++ lookup ∷ []) ss (subst (AreFlown flown) (sym (append_assoc xs (lookup ∷ []) ss)) all))
       where
         some_same : (one two : Key) → ◌≡◌ {A = Option Key} (Some one) (Some two) → one ≡ two
         some_same one two e = cc
 
-        by_flying : (o : Option Flying) → flying_of side ≡ o → flying_id id o ≡ true → key_of_side side ≡ key
+        by_flying : (o : Option Flying) → flying_of lookup ≡ o → flying_id id o ≡ true → key_of_lookup lookup ≡ key
         by_flying None is e = absurd (false≢true e)
         by_flying (Some flying) is e =
-            let found = entry_there nat_cmp_total entry_by_id flown.flights xs ss side flying.id (key_of_side side) (ap (λ (o : Option Flying). option_map (λ (f : Flying). (f.id, key_of_side side)) o) is) all.by_id in
-            some_same (key_of_side side) key (sym found ∙ ap (finite.get flown.flights) (eqb-true flying.id id e) ∙ there)
+            let found = entry_there nat_cmp_total entry_by_id flown.flights xs ss lookup flying.id (key_of_lookup lookup) (ap (λ (o : Option Flying). option_map (λ (f : Flying). (f.id, key_of_lookup lookup)) o) is) all.by_id in
+            some_same (key_of_lookup lookup) key (sym found ∙ ap (finite.get flown.flights) (eqb-true flying.id id e) ∙ there)
 
-    row_differs : (row : Row T) → AllByRecursion IsOwn (sides row) → IsNumbered row → Differs (Some id) key.number row
-    row_differs row own numbered other = by_sides (sides row) own numbered
+    row_differs : (row : Row T) → AllByRecursion IsOwn (lookups row) → IsNumbered row → Differs (Some id) key.number row
+    row_differs row own numbered other = by_lookups (lookups row) own numbered
       where
-        by_sides : (ss : List Side) → AllByRecursion IsOwn ss → AllByRecursion (λ (side : Side). side.number ≡ row.number) ss → list_any (has_id id) ss ≡ false
-        by_sides [] own numbered = refl
-        by_sides (side ∷ ss) own numbered = by_test (has_id id side) refl (by_sides ss own.1 numbered.1)
+        by_lookups : (ss : List Lookup) → AllByRecursion IsOwn ss → AllByRecursion (λ (lookup : Lookup). lookup.number ≡ row.number) ss → list_any (has_id id) ss ≡ false
+        by_lookups [] own numbered = refl
+        by_lookups (lookup ∷ ss) own numbered = by_test (has_id id lookup) refl (by_lookups ss own.1 numbered.1)
           where
-            by_test : (b : Bool) → has_id id side ≡ b → list_any (has_id id) ss ≡ false → (b || list_any (has_id id) ss) ≡ false
+            by_test : (b : Bool) → has_id id lookup ≡ b → list_any (has_id id) ss ≡ false → (b || list_any (has_id id) ss) ≡ false
             by_test true is rest = absurd (other (sym numbered.0 ∙ ap (λ (k : Key). k.number) (own.0 is)))
             by_test false is rest = rest
 
-    rows_differ : (rs : List (Row T)) → AllByRecursion IsOwn (all_sides rs) → AllByRecursion IsNumbered rs → AllByRecursion (Differs (Some id) key.number) rs
+    rows_differ : (rs : List (Row T)) → AllByRecursion IsOwn (all_lookups rs) → AllByRecursion IsNumbered rs → AllByRecursion (Differs (Some id) key.number) rs
     rows_differ [] own numbered = tt
-    rows_differ (row ∷ rs) own numbered = (row_differs row (each_before IsOwn (sides row) (all_sides rs) own) numbered.0, rows_differ rs (each_behind IsOwn (sides row) (all_sides rs) own) numbered.1)
+    rows_differ (row ∷ rs) own numbered = (row_differs row (each_before IsOwn (lookups row) (all_lookups rs) own) numbered.0, rows_differ rs (each_behind IsOwn (lookups row) (all_lookups rs) own) numbered.1)
 
     -- the row of its number is the only one
     pub only_with : AllByRecursion IsNumbered rows → (o : Option ℕ) → FindsNumber key.number rows o → IsOnlyWith (Some id) rows o
-    only_with numbered None none = by_rows rows (rows_differ rows (each_own [] (all_sides rows) are) numbered) none
+    only_with numbered None none = by_rows rows (rows_differ rows (each_own [] (all_lookups rows) are) numbered) none
       where
         by_rows : (rs : List (Row T)) → AllByRecursion (Differs (Some id) key.number) rs → AllByRecursion (λ (row : Row T). row.number ≢ key.number) rs → list_any (row_shares_id (Some id)) rs ≡ false
         by_rows [] differ other = refl
         by_rows (row ∷ rs) differ other = ap₂ (λ b c. b || c) (differ.0 other.0) (by_rows rs differ.1 other.1)
     only_with numbered (Some index) found =
-        (found.0, λ d. subst (λ (n : ℕ). AllByRecursion (Differs (Some id) n) rows) (sym (found.1 d)) (rows_differ rows (each_own [] (all_sides rows) are) numbered))
+        (found.0, λ d. subst (λ (n : ℕ). AllByRecursion (Differs (Some id) n) rows) (sym (found.1 d)) (rows_differ rows (each_own [] (all_lookups rows) are) numbered))
 
--- the sides of the rows of a table have their numbers
+-- the lookups of the rows of a table have their numbers
 pub rows_numbered : {T : Type 0} (plan : T → Script) (setting : Setting) (past : Past) (rows : List (Row T)) (tickets : List (Ticket T)) → TableStands plan setting past rows tickets → AllByRecursion IsNumbered rows
 rows_numbered plan setting past rows tickets table =
-    each-then (RowStands plan setting past) IsNumbered rows (λ row stands. each-then (SideStands setting past row.number stands.spec stands.name stands.rest) (λ (side : Side). side.number ≡ row.number) (sides row) (λ side s. s.numbered) stands.each_side) table.each_row
+    each-then (RowStands plan setting past) IsNumbered rows (λ row stands. each-then (LookupStands setting past row.number stands.spec stands.name stands.rest) (λ (lookup : Lookup). lookup.number ≡ row.number) (lookups row) (λ lookup s. s.numbered) stands.each_lookup) table.each_row

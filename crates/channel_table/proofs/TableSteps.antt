@@ -1,19 +1,7 @@
 -- How a whole table follows one entry.
-use Rattle.std.proofs.Common.{◌≡◌, ℕ, true, List, [], ◌∷◌, ◌++◌, Some, None, refl, ap, sym, subst, map}
-use Rattle.std.specs.List.{AllByRecursion}
-use Rattle.std.specs.Prelude.{filter, filter_map, not, option_map}
-use Rattle.chan_types.specs.declared.journal.What.{What}
-use Rattle.chan_types.specs.declared.script.Script.{Script}
-use Rattle.chan_types.specs.declared.status.Status.{Status}
-use Rattle.chan_types.specs.declared.ticket.Ticket.{Ticket}
-use Rattle.channel_model.proofs.Theorems.{each-append, each-then, script_of-later}
-use Rattle.channel_model.specs.Completion.{bare_if_accepted, completed_by, left_by, taken_by}
-use Rattle.channel_model.specs.Flight.{Attempt, begun_by, closes}
-use Rattle.channel_model.specs.Journal.{Accepted, Past, accepted_by, spec_of}
-use Rattle.channel_model.specs.Setting.{Setting}
+use Rattle.channel_table.proofs.Base.{◌≡◌, ℕ, true, List, [], ◌∷◌, ◌++◌, Some, None, refl, ap, sym, subst, map, AllByRecursion, filter, filter_map, not, option_map, What, Script, Status, Ticket, each-append, each-then, script_of-later, completed_by, left_by, taken_by, Attempt, begun_by, closes, Accepted, Past, accepted_by, spec_of, Setting, RowStands, TableStands, TicketStands, ended_with, flown, number_of, ticket_number, Row}
+use Rattle.channel_model.specs.Completion.{bare_if_accepted}
 use Rattle.channel_table.proofs.Outcomes.{Outcome, stays, ends, row_behind, ticket_behind, Becomes, Follows, stands_behind}
-use Rattle.channel_table.specs.Rows.{RowStands, TableStands, TicketStands, ended_with, flown, number_of, ticket_number}
-use Rattle.channel_table.specs.declared.row.Row.{Row}
 
 module _ {T : Type 0} (plan : T → Script) (setting : Setting) (what : What) (past : Past) where
   ticket_later : (ticket : Ticket T) → TicketStands plan setting past ticket → TicketStands plan setting (what ∷ past) ticket

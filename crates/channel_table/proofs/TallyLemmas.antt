@@ -1,29 +1,8 @@
 -- How the tally of the rows follows a change of them.
-use Rattle.std.proofs.Common.{◌≡◌, ◌∙◌, ℕ, zero, suc, ◌+◌, ◌*◌, ◌<◌, ◌≤◌, ◌^◌, Bool, true, false, cond, List, [], ◌∷◌, ◌++◌, Option, Some, None, refl, ap, sym, subst, take, drop, get_or, length, arith}
-use Rattle.std.proofs.lemmas.List.{length-append}
-use Rattle.std.proofs.lemmas.List.Sums.{sum_by-append, sum_by-cons, sum_by_push}
-use Rattle.std.specs.List.{sum_by}
-use Rattle.std.specs.Prelude.{IfSome, IsSomeAnd, count_by, option_map, option_to_list}
-use Rattle.chan_types.specs.declared.answer.Answer.{Answer}
-use Rattle.chan_types.specs.declared.ticket.Ticket.{Ticket}
-use Rattle.channel_model.specs.declared.judged.Judged.{Judged}
-use Rattle.query_machine.specs.Legs.{IsWaiting}
-use Rattle.query_machine.specs.declared.leg.Flying.{Flying}
-use Rattle.query_machine.specs.declared.leg.Phase.{Phase}
+use Rattle.channel_table.proofs.Base.{◌≡◌, ◌∙◌, ℕ, zero, suc, ◌+◌, ◌*◌, ◌<◌, ◌≤◌, ◌^◌, Bool, true, false, cond, List, [], ◌∷◌, ◌++◌, Option, Some, None, refl, ap, sym, subst, take, drop, get_or, length, arith, length-append, sum_by-append, sum_by-cons, sum_by_push, sum_by, IfSome, IsSomeAnd, count_by, option_map, option_to_list, Answer, Ticket, Judged, IsWaiting, Flying, Phase, Flags, after, IsApart, NoneFlies, Becomes, EndsRow, all_lookups, begun_row, forced_in, lookup_at, lookups, waiting_in, begun_lookup, is_flying, is_forced, leg_of_lookup, waits, BeginsRow, WaitsAt, IsTally, IsTallyLeft, After, Ends, Stays, Row, Concerned, Lookup}
 use Rattle.query_machine.specs.declared.leg.Phase.TheVariants as phases
-use Rattle.resolv_options.specs.declared.flags.Flags.{Flags}
-use Rattle.channel_table.specs.After.{after}
-use Rattle.channel_table.specs.Apart.{IsApart, NoneFlies}
-use Rattle.channel_table.specs.Ends.{Becomes, EndsRow}
-use Rattle.channel_table.specs.Rows.{all_sides, begun_row, flying_in, forced_in, side_at, sides, waiting_in}
-use Rattle.channel_table.specs.Sides.{begun_side, is_flying, is_forced, leg_of_side, waits}
-use Rattle.channel_table.specs.Starting.{BeginsRow, WaitsAt}
-use Rattle.channel_table.specs.Tally.{HasMoved, IsTally, IsTallyLeft, Moves, no_tally, one_flying, one_waiting, tally_of}
-use Rattle.channel_table.specs.declared.row.After.{After}
-use Rattle.channel_table.specs.declared.row.After.TheVariants.{Ends, Stays}
-use Rattle.channel_table.specs.declared.row.Row.{Row}
-use Rattle.channel_table.specs.declared.side.Hits.{Hits}
-use Rattle.channel_table.specs.declared.side.Side.{Side}
+use Rattle.channel_table.specs.Rows.{flying_in}
+use Rattle.channel_table.specs.Tally.{HasMoved, Moves, no_tally, one_flying, one_waiting, tally_of}
 use Rattle.channel_table.specs.declared.table.counting.Tally.{Tally}
 
 -- an item in the place of another one stands at its index
@@ -50,9 +29,9 @@ pub sum_few : {X : Type 0} (f : X → ℕ) → ((x : X) → f x ≤ 2) → (xs :
 sum_few f few [] = omega arith
 sum_few f few (x ∷ xs) = omega (arith, sum_by-cons f x xs, few x, sum_few f few xs)
 
--- a row has two sides at most
-pub two_sides : {T : Type 0} (p : Side → Bool) (row : Row T) → count_by p (sides row) ≤ 2
-two_sides p row = by_second row.second
+-- a row has two lookups at most
+pub two_lookups : {T : Type 0} (p : Lookup → Bool) (row : Row T) → count_by p (lookups row) ≤ 2
+two_lookups p row = by_second row.second
   where
     by_test : (a : Bool) → 0 + cond a 1 0 ≤ 2
     by_test true = omega arith
@@ -64,9 +43,9 @@ two_sides p row = by_second row.second
     by_tests false true = omega arith
     by_tests false false = omega arith
 
-    by_second : (o : Option Side) → count_by p (row.first ∷ option_to_list o) ≤ 2
+    by_second : (o : Option Lookup) → count_by p (row.first ∷ option_to_list o) ≤ 2
     by_second None = by_test (p row.first)
-    by_second (Some side) = by_tests (p row.first) (p side)
+    by_second (Some lookup) = by_tests (p row.first) (p lookup)
 
 module _ {T : Type 0} (rows new_rows : List (Row T)) (short : length new_rows < 2 ^ 63) where
   -- a count that has moved as the sum has
@@ -84,9 +63,9 @@ module _ {T : Type 0} (rows new_rows : List (Row T)) (short : length new_rows < 
       let flying = changes flying_in (λ (t : Tally). t.flying) (λ r. refl) refl in
       let forced = changes forced_in (λ (t : Tally). t.forced) (λ r. refl) refl in
       record {
-        waiting = count_moved waiting_in (two_sides waits) tally.waiting before.waiting behind.waiting new.waiting waiting.0 is.waiting waiting.1 moves.waiting;
-        flying = count_moved flying_in (two_sides is_flying) tally.flying before.flying behind.flying new.flying flying.0 is.flying flying.1 moves.flying;
-        forced = count_moved forced_in (two_sides is_forced) tally.forced before.forced behind.forced new.forced forced.0 is.forced forced.1 moves.forced;
+        waiting = count_moved waiting_in (two_lookups waits) tally.waiting before.waiting behind.waiting new.waiting waiting.0 is.waiting waiting.1 moves.waiting;
+        flying = count_moved flying_in (two_lookups is_flying) tally.flying before.flying behind.flying new.flying flying.0 is.flying flying.1 moves.flying;
+        forced = count_moved forced_in (two_lookups is_forced) tally.forced before.forced behind.forced new.forced forced.0 is.forced forced.1 moves.forced;
       }
 
   -- where a row of the one tally has become one of the other, or has left
@@ -116,15 +95,15 @@ becomes_tally index rows new_rows row new row_is parts becomes inside short tall
     (λ f g told none. ap (λ rs. sum_by f rs + f row) becomes ∙ replaced f front back row new ∙ ap (λ rs. sum_by f rs + f new) (sym parts)
     ∙ ap (λ n. sum_by f rows + n) (sym (told new) ∙ ap g (sym (same_behind ∙ ap tally_of here))))
 
--- the side in another phase of its leg
-abbrev in_phase : Side → Phase → Side
-in_phase side phase = record side { leg = record side.leg { phase = phase } }
+-- the lookup in another phase of its leg
+abbrev in_phase : Lookup → Phase → Lookup
+in_phase lookup phase = record lookup { leg = record lookup.leg { phase = phase } }
 
--- a side that waits has no attempt in flight
-idle_side : (side : Side) → IsWaiting side.leg.phase → (waits side ≡ true) × (is_flying side ≡ false)
-idle_side side = by_phase side.leg.phase
+-- a lookup that waits has no attempt in flight
+idle_lookup : (lookup : Lookup) → IsWaiting lookup.leg.phase → (waits lookup ≡ true) × (is_flying lookup ≡ false)
+idle_lookup lookup = by_phase lookup.leg.phase
   where
-    by_phase : (phase : Phase) → IsWaiting phase → (waits (in_phase side phase) ≡ true) × (is_flying (in_phase side phase) ≡ false)
+    by_phase : (phase : Phase) → IsWaiting phase → (waits (in_phase lookup phase) ≡ true) × (is_flying (in_phase lookup phase) ≡ false)
     by_phase phases.Waiting waiting = (refl, refl)
     by_phase (phases.InFlight flying) waiting = absurd waiting
     by_phase (phases.Ended status) waiting = absurd waiting
@@ -133,51 +112,51 @@ idle_side side = by_phase side.leg.phase
 abbrev one_if : Bool → ℕ
 one_if so = cond so 1 0
 
--- what is counted of a row before and behind the attempt of a side that waited
+-- what is counted of a row before and behind the attempt of a lookup that waited
 abbrev Begun : {T : Type 0} → Row T → Row T → Type 0
 Begun row begun = (waiting_in begun + 1 ≡ waiting_in row) × (flying_in begun ≡ flying_in row + 1) × (forced_in begun ≡ forced_in row)
 
--- a side that waited has its attempt in flight
-begun_counts : {T : Type 0} (flying : Flying) (second : Bool) (row : Row T) (Q : Side → Type 0) → IsSomeAnd (side_at second row) Q → IfSome (side_at second row) (λ (side : Side). IsWaiting side.leg.phase)
+-- a lookup that waited has its attempt in flight
+begun_counts : {T : Type 0} (flying : Flying) (second : Bool) (row : Row T) (Q : Lookup → Type 0) → IsSomeAnd (lookup_at second row) Q → IfSome (lookup_at second row) (λ (lookup : Lookup). IsWaiting lookup.leg.phase)
     → Begun row (begun_row flying second row)
 begun_counts flying false row Q has waiting = by_second row.second
   where
     idle : (one_if (waits row.first) ≡ 1) × (one_if (is_flying row.first) ≡ 0)
-    idle = let both = idle_side row.first waiting in (ap one_if both.0, ap one_if both.1)
+    idle = let both = idle_lookup row.first waiting in (ap one_if both.0, ap one_if both.1)
 
-    by_second : (o : Option Side) → (count_by waits (begun_side flying row.first ∷ option_to_list o) + 1 ≡ count_by waits (row.first ∷ option_to_list o))
-        × (count_by is_flying (begun_side flying row.first ∷ option_to_list o) ≡ count_by is_flying (row.first ∷ option_to_list o) + 1)
-        × (count_by is_forced (begun_side flying row.first ∷ option_to_list o) ≡ count_by is_forced (row.first ∷ option_to_list o))
+    by_second : (o : Option Lookup) → (count_by waits (begun_lookup flying row.first ∷ option_to_list o) + 1 ≡ count_by waits (row.first ∷ option_to_list o))
+        × (count_by is_flying (begun_lookup flying row.first ∷ option_to_list o) ≡ count_by is_flying (row.first ∷ option_to_list o) + 1)
+        × (count_by is_forced (begun_lookup flying row.first ∷ option_to_list o) ≡ count_by is_forced (row.first ∷ option_to_list o))
     by_second None = (omega (arith, idle.0), omega (arith, idle.1), refl)
-    by_second (Some side) = (omega (arith, idle.0), omega (arith, idle.1), refl)
+    by_second (Some lookup) = (omega (arith, idle.0), omega (arith, idle.1), refl)
 begun_counts flying true row Q has waiting = by_second row.second has waiting
   where
-    by_second : (o : Option Side) → IsSomeAnd o Q → IfSome o (λ (side : Side). IsWaiting side.leg.phase)
-        → (count_by waits (row.first ∷ option_to_list (option_map (begun_side flying) o)) + 1 ≡ count_by waits (row.first ∷ option_to_list o))
-        × (count_by is_flying (row.first ∷ option_to_list (option_map (begun_side flying) o)) ≡ count_by is_flying (row.first ∷ option_to_list o) + 1)
-        × (count_by is_forced (row.first ∷ option_to_list (option_map (begun_side flying) o)) ≡ count_by is_forced (row.first ∷ option_to_list o))
+    by_second : (o : Option Lookup) → IsSomeAnd o Q → IfSome o (λ (lookup : Lookup). IsWaiting lookup.leg.phase)
+        → (count_by waits (row.first ∷ option_to_list (option_map (begun_lookup flying) o)) + 1 ≡ count_by waits (row.first ∷ option_to_list o))
+        × (count_by is_flying (row.first ∷ option_to_list (option_map (begun_lookup flying) o)) ≡ count_by is_flying (row.first ∷ option_to_list o) + 1)
+        × (count_by is_forced (row.first ∷ option_to_list (option_map (begun_lookup flying) o)) ≡ count_by is_forced (row.first ∷ option_to_list o))
     by_second None has waiting = absurd has
-    by_second (Some side) has waiting =
-        let both = idle_side side waiting in
-        let idle : one_if (waits side) ≡ 1 = ap one_if both.0 in
-        let still : one_if (is_flying side) ≡ 0 = ap one_if both.1 in
+    by_second (Some lookup) has waiting =
+        let both = idle_lookup lookup waiting in
+        let idle : one_if (waits lookup) ≡ 1 = ap one_if both.0 in
+        let still : one_if (is_flying lookup) ≡ 0 = ap one_if both.1 in
         (omega (arith, idle), omega (arith, still), refl)
 
 -- with the attempt of a row begun: a leg that waited has its attempt in flight
 pub begins_tally : {T : Type 0} (flying : Flying) (index : ℕ) (second : Bool) (rows new_rows : List (Row T)) (begins : BeginsRow flying index second rows new_rows) → IsApart index second rows → WaitsAt index second rows → length new_rows < 2 ^ 63
     → (tally new : Tally) → IsTally rows tally → HasMoved tally one_waiting one_flying new → IsTally new_rows new
 begins_tally {T = T} flying index second rows new_rows begins apart waits_at short tally new is moves = record {
-  waiting = count_moved rows new_rows short waiting_in (two_sides waits) tally.waiting 1 0 new.waiting (omega (arith, part, counts.0)) is.waiting (omega (arith, sums waiting_in, counts.0)) moves.waiting;
-  flying = count_moved rows new_rows short flying_in (two_sides is_flying) tally.flying 0 1 new.flying (omega arith) is.flying (omega (arith, sums flying_in, counts.1)) moves.flying;
-  forced = count_moved rows new_rows short forced_in (two_sides is_forced) tally.forced 0 0 new.forced (omega arith) is.forced (omega (arith, sums forced_in, counts.2)) moves.forced;
+  waiting = count_moved rows new_rows short waiting_in (two_lookups waits) tally.waiting 1 0 new.waiting (omega (arith, part, counts.0)) is.waiting (omega (arith, sums waiting_in, counts.0)) moves.waiting;
+  flying = count_moved rows new_rows short flying_in (two_lookups is_flying) tally.flying 0 1 new.flying (omega arith) is.flying (omega (arith, sums flying_in, counts.1)) moves.flying;
+  forced = count_moved rows new_rows short forced_in (two_lookups is_forced) tally.forced 0 0 new.forced (omega arith) is.forced (omega (arith, sums forced_in, counts.2)) moves.forced;
 }
   where
     row : Row T
     row = begun_row flying second begins.row
 
     counts : Begun begins.row row
-    counts = begun_counts flying second begins.row _ (subst (λ r. IsSomeAnd (side_at second r) (λ (side : Side). NoneFlies (leg_of_side side) (all_sides rows))) (begins.is begins.row) (apart begins.row))
-        (subst (λ r. IfSome (side_at second r) (λ (side : Side). IsWaiting side.leg.phase)) (begins.is begins.row) (waits_at begins.row))
+    counts = begun_counts flying second begins.row _ (subst (λ r. IsSomeAnd (lookup_at second r) (λ (lookup : Lookup). NoneFlies (leg_of_lookup lookup) (all_lookups rows))) (begins.is begins.row) (apart begins.row))
+        (subst (λ r. IfSome (lookup_at second r) (λ (lookup : Lookup). IsWaiting lookup.leg.phase)) (begins.is begins.row) (waits_at begins.row))
 
     part : waiting_in begins.row ≤ sum_by waiting_in rows
     part = subst (λ rs. waiting_in begins.row ≤ sum_by waiting_in rs) (sym begins.parts) (within waiting_in (take index rows) (drop (index + 1) rows) begins.row)
@@ -186,7 +165,7 @@ begins_tally {T = T} flying index second rows new_rows begins apart waits_at sho
     sums f = ap (λ rs. sum_by f rs + f begins.row) begins.becomes ∙ replaced f (take index rows) (drop (index + 1) rows) begins.row row ∙ ap (λ rs. sum_by f rs + f row) (sym begins.parts)
 
 -- with the attempts of a row ended
-pub ends_tally : {T : Type 0} (flags : Flags) (concerned : Hits) (judged : Judged) (reply : List ℕ) (most : ℕ) (answer : Option Answer) (index : ℕ) (rows : List (Row T)) (tickets : List (Ticket T)) (new_rows : List (Row T)) (new_tickets : List (Ticket T))
+pub ends_tally : {T : Type 0} (flags : Flags) (concerned : Concerned) (judged : Judged) (reply : List ℕ) (most : ℕ) (answer : Option Answer) (index : ℕ) (rows : List (Row T)) (tickets : List (Ticket T)) (new_rows : List (Row T)) (new_tickets : List (Ticket T))
     (ends : EndsRow flags concerned judged reply most answer index rows tickets new_rows new_tickets) → index < length rows → length new_rows < 2 ^ 63
     → (tally before behind new : Tally) (one : Row T) → before ≡ tally_of one → one ≡ get_or rows index one → IsTallyLeft index (length rows) new_rows behind → IsTally rows tally
     → HasMoved tally before behind new → IsTally new_rows new

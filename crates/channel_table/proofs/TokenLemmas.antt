@@ -1,44 +1,12 @@
 -- How the tokens of a table's requests follow its calls: a request keeps its token while its row changes and where it becomes a ticket.
-use Rattle.std.proofs.Common.{◌≡◌, ◌∙◌, ℕ, ◌+◌, ◌≤◌, ◌==◌, Bool, true, false, cond, List, [], ◌∷◌, ◌++◌, Option, Some, None, refl, ap, ap₂, sym, subst, map, drop, take, arith, eq-eqb}
+use Rattle.channel_table.proofs.Base.{◌≡◌, ◌∙◌, ℕ, ◌+◌, ◌≤◌, Bool, true, false, cond, List, [], ◌∷◌, ◌++◌, Option, Some, None, refl, ap, ap₂, sym, subst, map, drop, take, arith, eq-eqb, map-append, AllByRecursion, option_or, nat_cmp, IfSome, filter_map, if◌then◌else◌, Answer, Script, ServerKey, Status, ConnRefused, Ticket, pending_once, fate, occurrences, Past, IsLawfulPast, Setting, Judged, Failed, fresh_leg, Flags, Options, after, answer_behind, has_next, last_status, next_row, Becomes, EndsRow, FailsOver, answer_over, fails_at, kept_of, ticket_made, row_set, RowStands, TableStands, TicketStands, ended_with, number_of, ticket_number, entries_of, row_entry, ticket_entry, tokens_of, After, Ends, Stays, Row, Concerned, Over}
+use Rattle.std.proofs.Common.{◌==◌}
 use Rattle.std.proofs.lemmas.Bool.{eqb-true}
-use Rattle.std.proofs.lemmas.List.{map-append}
 use Rattle.std.specs.FinMap as finite
-use Rattle.std.specs.List.{AllByRecursion}
-use Rattle.std.specs.Option.{option_or}
-use Rattle.std.specs.Ordering.{nat_cmp}
-use Rattle.std.specs.Prelude.{IfSome, filter_map, if◌then◌else◌}
-use Rattle.chan_types.specs.declared.answer.Answer.{Answer}
-use Rattle.chan_types.specs.declared.script.Script.{Script}
-use Rattle.chan_types.specs.declared.server_key.ServerKey.{ServerKey}
-use Rattle.chan_types.specs.declared.status.Status.{Status}
-use Rattle.chan_types.specs.declared.status.Status.TheVariants.{ConnRefused}
-use Rattle.chan_types.specs.declared.ticket.Ticket.{Ticket}
-use Rattle.channel_model.proofs.Theorems.{pending_once, taken_once}
-use Rattle.channel_model.specs.Completion.{fate, occurrences}
-use Rattle.channel_model.specs.Journal.{Past}
-use Rattle.channel_model.specs.Lawful.{IsLawfulPast}
-use Rattle.channel_model.specs.Setting.{Setting}
-use Rattle.channel_model.specs.declared.judged.Judged.{Judged}
-use Rattle.channel_model.specs.declared.judged.Judged.TheVariants.{Failed}
-use Rattle.query_machine.specs.Legs.{fresh_leg}
-use Rattle.query_machine.specs.declared.leg.Flying.{Flying}
-use Rattle.resolv_options.specs.declared.flags.Flags.{Flags}
-use Rattle.resolv_options.specs.declared.options.Options.{Options}
+use Rattle.channel_model.proofs.Theorems.{taken_once}
 use Rattle.channel_table.proofs.NumberedEntries.{none_of_or, one_out, or_behind, or_front, or_moved, or_none, or_swapped, get-value, same_tokens, value-append, value_of}
-use Rattle.channel_table.proofs.RowEnding.{IsOther, other_rows}
+use Rattle.channel_table.proofs.TableEnds.{IsOther, other_rows}
 use Rattle.channel_table.proofs.RowEnds.{ends_numbered}
-use Rattle.channel_table.specs.After.{after, answer_behind, has_next, last_status, next_row}
-use Rattle.channel_table.specs.Ends.{Becomes, EndsRow}
-use Rattle.channel_table.specs.Failing.{FailsOver, answer_over, fails_at, kept_of, ticket_made}
-use Rattle.channel_table.specs.Listing.{row_set}
-use Rattle.channel_table.specs.Rows.{RowStands, TableStands, TicketStands, begun_row, ended_with, number_of, ticket_number}
-use Rattle.channel_table.specs.Starting.{BeginsRow}
-use Rattle.channel_table.specs.Tokens.{entries_of, row_entry, ticket_entry, tokens_of}
-use Rattle.channel_table.specs.declared.row.After.{After}
-use Rattle.channel_table.specs.declared.row.After.TheVariants.{Ends, Stays}
-use Rattle.channel_table.specs.declared.row.Row.{Row}
-use Rattle.channel_table.specs.declared.side.Hits.{Hits}
-use Rattle.channel_table.specs.declared.side.Hits.TheVariants.{Over}
 
 -- the entry of what becomes of a row
 abbrev after_entry : {T : Type 0} → After T → ℕ × T
@@ -186,17 +154,6 @@ module _ {T : Type 0} where
       map-append row_entry before (new ∷ behind) ∙ ap (λ e. map row_entry before ++ e ∷ map row_entry behind) same
       ∙ sym (map-append row_entry before (row ∷ behind))
 
-  begun_entry : (flying : Flying) (second : Bool) (row : Row T) → row_entry (begun_row flying second row) ≡ row_entry row
-  begun_entry flying true row = refl
-  begun_entry flying false row = refl
-
-  -- an attempt of one begins
-  pub tokens_begun : (flying : Flying) (index : ℕ) (second : Bool) (rows new_rows : List (Row T)) (tickets : List (Ticket T))
-      → BeginsRow flying index second rows new_rows → tokens_of new_rows tickets ≡ tokens_of rows tickets
-  tokens_begun flying index second rows new_rows tickets begins =
-      let kept = one_row (take index rows) (drop (index + 1) rows) begins.row (begun_row flying second begins.row) (begun_entry flying second begins.row) in
-      tokens_kept rows new_rows tickets (ap (map row_entry) begins.becomes ∙ kept ∙ ap (map row_entry) (sym begins.parts))
-
   -- a list of servers is set
   pub tokens_set : (list : List ServerKey) (rows : List (Row T)) (tickets : List (Ticket T))
       → tokens_of (map (row_set list) rows) tickets ≡ tokens_of rows tickets
@@ -220,7 +177,7 @@ module _ {T : Type 0} where
       ended_entries (row ∷ rs) = ap (λ es. row_entry row ∷ es) (ended_entries rs)
 
   -- what becomes of a row has its entry, where the answer has its number
-  pub entry_after : (flags : Flags) (concerned : Hits) (judged : Judged) (reply : List ℕ) (most : ℕ) (row : Row T) (answer : Option Answer)
+  pub entry_after : (flags : Flags) (concerned : Concerned) (judged : Judged) (reply : List ℕ) (most : ℕ) (row : Row T) (answer : Option Answer)
       → IfSome answer (λ (a : Answer). a.number ≡ row.number)
       → after_entry (after flags concerned judged reply most row answer) ≡ row_entry row
   entry_after flags concerned judged reply most row None numbered = refl
@@ -232,11 +189,11 @@ module _ {T : Type 0} where
       by_test false = ap (λ (n : ℕ). (n, row.token)) numbered
 
   -- an answer that the row's current candidate has behind the end of attempts has its number
-  pub numbered_by : (options : Options) (concerned : Hits) (judged : Judged) (bytes : List ℕ) (most : ℕ) (row its : Row T) (answer : Option Answer) → row ≡ its
+  pub numbered_by : (options : Options) (concerned : Concerned) (judged : Judged) (bytes : List ℕ) (most : ℕ) (row its : Row T) (answer : Option Answer) → row ≡ its
       → answer ≡ answer_behind options concerned judged bytes most row → IfSome answer (λ (a : Answer). a.number ≡ its.number)
   numbered_by options concerned judged bytes most row its answer same is =
       subst (λ (r : Row T). IfSome answer (λ (a : Answer). a.number ≡ r.number)) same
-      (subst (λ (o : Option Answer). IfSome o (λ (a : Answer). a.number ≡ row.number)) (sym is) (ends_numbered options row.number row.aim _ _ _))
+      (subst (λ (o : Option Answer). IfSome o (λ (a : Answer). a.number ≡ row.number)) (sym is) (ends_numbered options row.number row.wanted _ _ _))
 
   -- a row becomes the last ticket, where no row behind it and no ticket has its number
   one_moved : (before behind : List (Row T)) (row : Row T) (ticket : Ticket T) (tickets : List (Ticket T)) → ticket_entry ticket ≡ row_entry row
@@ -271,7 +228,7 @@ module _ {T : Type 0} where
           ∙ sym (value-append number (map row_entry (before ++ behind)) (map ticket_entry (tickets ++ ticket ∷ [])))
 
   -- the attempts of one end: it stays, or its ticket comes to the end of those that are ready
-  pub tokens_moved : (flags : Flags) (concerned : Hits) (judged : Judged) (reply : List ℕ) (most : ℕ) (answer : Option Answer) (index : ℕ) (rows : List (Row T)) (tickets : List (Ticket T)) (new_rows : List (Row T)) (new_tickets : List (Ticket T))
+  pub tokens_moved : (flags : Flags) (concerned : Concerned) (judged : Judged) (reply : List ℕ) (most : ℕ) (answer : Option Answer) (index : ℕ) (rows : List (Row T)) (tickets : List (Ticket T)) (new_rows : List (Row T)) (new_tickets : List (Ticket T))
       → (ends : EndsRow flags concerned judged reply most answer index rows tickets new_rows new_tickets) → IfSome answer (λ (a : Answer). a.number ≡ ends.row.number)
       → AreApart rows → AllByRecursion (IsOff tickets) rows → tokens_of new_rows new_tickets ≡ tokens_of rows tickets
   tokens_moved flags concerned judged reply most answer index rows tickets new_rows new_tickets ends numbered apart each =
@@ -357,4 +314,4 @@ module _ {T : Type 0} where
   tokens_failed options server link most rows new_rows tickets new_tickets fails apart each =
       ap₂ (λ rs ts. tokens_of rs ts) fails.kept fails.made
       ∙ tokens_parted (fails_at options server link most)
-      (λ row. entry_after options.flags (Over server link) (Failed ConnRefused) [] most row (answer_over options server link most row) (ends_numbered options row.number row.aim _ _ _)) rows tickets apart each
+      (λ row. entry_after options.flags (Over server link) (Failed ConnRefused) [] most row (answer_over options server link most row) (ends_numbered options row.number row.wanted _ _ _)) rows tickets apart each

@@ -4,12 +4,12 @@ use Rattle.std.specs.Prelude.{Bool, List, None, Option, Some, false, if◌then�
 use Rattle.chan_types.specs.declared.server_key.ServerKey.{ServerKey}
 use Rattle.query_machine.specs.declared.leg.Flying.{Flying}
 use Rattle.timeout_queue.specs.declared.key.Key.{Key}
-use Rattle.channel_table.specs.Flown.{key_of_side}
-use Rattle.channel_table.specs.Listing.{has_left}
-use Rattle.channel_table.specs.Sides.{flying_of, hits}
+use Rattle.channel_table.specs.Flown.{key_of_lookup}
+use Rattle.channel_table.specs.Leaving.{has_left}
+use Rattle.channel_table.specs.Lookups.{flying_of, concerns}
 use Rattle.channel_table.specs.declared.row.Row.{Row}
-use Rattle.channel_table.specs.declared.side.Hits.{Hits}
-use Rattle.channel_table.specs.declared.side.Side.{Side}
+use Rattle.channel_table.specs.declared.concerned.Concerned.{Concerned}
+use Rattle.channel_table.specs.declared.lookup.Lookup.{Lookup}
 use Rattle.channel_table.specs.declared.table.flown.Flown.{Flown}
 
 -- with the attempt of a leg
@@ -21,33 +21,33 @@ abbrev pub without_flying : Key → Option Flying → Flown → Flown
 without_flying leg None flown = flown
 without_flying leg (Some flying) flown = record { flights = map.remove flown.flights flying.id; deadlines = map.remove flown.deadlines leg }
 
--- without that of a side
-abbrev pub forgotten : Side → Flown → Flown
-forgotten side flown = without_flying (key_of_side side) (flying_of side) flown
+-- without that of a lookup
+abbrev pub forgotten : Lookup → Flown → Flown
+forgotten lookup flown = without_flying (key_of_lookup lookup) (flying_of lookup) flown
 
 -- the same, if this is so
-abbrev pub forgotten_if : Bool → Side → Flown → Flown
-forgotten_if so side flown = if so then forgotten side flown else flown
+abbrev pub forgotten_if : Bool → Lookup → Flown → Flown
+forgotten_if so lookup flown = if so then forgotten lookup flown else flown
 
--- without that of the second side of a row, if there is one and this is so
-abbrev pub left_of_second : Bool → Option Side → Flown → Flown
+-- without that of the second lookup of a row, if there is one and this is so
+abbrev pub left_of_second : Bool → Option Lookup → Flown → Flown
 left_of_second so None flown = flown
-left_of_second so (Some side) flown = forgotten_if so side flown
+left_of_second so (Some lookup) flown = forgotten_if so lookup flown
 
--- without those of the sides of a row for which this is so
+-- without those of the lookups of a row for which this is so
 abbrev pub left_of : {T : Type 0} → Bool → Bool → Row T → Flown → Flown
 left_of first second row flown = left_of_second second row.second (forgotten_if first row.first flown)
 
--- an entry concerns the second side of a row, if there is one
-abbrev pub hits_second : Hits → Option Side → Bool
-hits_second concerned None = false
-hits_second concerned (Some side) = hits concerned true side
+-- an entry concerns the second lookup of a row, if there is one
+abbrev pub concerns_second : Concerned → Option Lookup → Bool
+concerns_second concerned None = false
+concerns_second concerned (Some lookup) = concerns concerned true lookup
 
 -- without those of the row that an entry concerns, or all of them
-abbrev pub ended_of : {T : Type 0} → Hits → Bool → Row T → Flown → Flown
-ended_of concerned all row flown = left_of (all || hits concerned false row.first) (all || hits_second concerned row.second) row flown
+abbrev pub ended_of : {T : Type 0} → Concerned → Bool → Row T → Flown → Flown
+ended_of concerned all row flown = left_of (all || concerns concerned false row.first) (all || concerns_second concerned row.second) row flown
 
--- the attempt of the second side of a row, if there is one, is on a server that isn't in the list
-abbrev pub left_second : List ServerKey → Option Side → Bool
+-- the attempt of the second lookup of a row, if there is one, is on a server that isn't in the list
+abbrev pub left_second : List ServerKey → Option Lookup → Bool
 left_second list None = false
-left_second list (Some side) = has_left list side
+left_second list (Some lookup) = has_left list lookup

@@ -34,12 +34,12 @@ pub record IsKept {T J : Type 0} (plan : T → Script) (told : J → List Entry)
   pub limits : AreWithinLimits t.options
   pub lawful : IsLawful (setting_of t) (told t.journal)
   pub stands : TableStands plan (setting_of t) (past_of (told t.journal)) t.rows t.ready.items
-  pub counted : AreCounted (setting_of t) (past_of (told t.journal)) t.list t.servers t.greatest_key t.greatest_link t.started
+  pub counted : AreCounted (setting_of t) (past_of (told t.journal)) t.servers
   pub accepts : length (accepted (past_of (told t.journal))) ≡ t.accepted
   pub destroyed : is_destroyed (past_of (told t.journal)) ≡ t.closed
   pub few : t.accepted ≤ length (told t.journal)
-  pub few_links : t.greatest_link ≤ length (told t.journal)
-  pub few_starts : t.started ≤ length (told t.journal)
+  pub few_links : t.servers.greatest_link ≤ length (told t.journal)
+  pub few_starts : t.servers.started ≤ length (told t.journal)
   pub room : still_to_tell t ≤ room_of t.journal
   pub fits : length (told t.journal) + still_to_tell t ≤ 2 ^ 63
   pub room_ready : length t.rows + deque_len t.ready ≤ deque_capacity t.ready

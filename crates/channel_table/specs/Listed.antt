@@ -6,8 +6,8 @@ use Rattle.leg_index.specs.Waiting.{Legs}
 use Rattle.timeout_queue.specs.declared.key.Key.{Key}
 use Rattle.chan_types.specs.declared.answer.Answer.{Answer}
 use Rattle.channel_table.specs.After.{has_next}
-use Rattle.channel_table.specs.Rows.{row_over, sides}
-use Rattle.channel_table.specs.Sides.{waits}
+use Rattle.channel_table.specs.Rows.{row_over, lookups}
+use Rattle.channel_table.specs.Lookups.{waits}
 use Rattle.channel_table.specs.Starting.{IsIdle}
 use Rattle.channel_table.specs.declared.row.Row.{Row}
 use Rattle.channel_table.specs.declared.table.starting.Idle.{Idle}
@@ -28,9 +28,9 @@ key_of number = record { number = number; leg = 0 }
 
 -- a leg of the row waits
 abbrev pub some_waits : {T : Type 0} → Row T → Bool
-some_waits row = list_any waits (sides row)
+some_waits row = list_any waits (lookups row)
 
--- a row of the number waits, with this side as its first, or none does
+-- a row of the number waits, with this lookup as its first, or none does
 abbrev pub FindsIdleWith : {T : Type 0} → ℕ → List (Row T) → Option Idle → Type 0
 FindsIdleWith number rows None = AllByRecursion (λ row. row.number ≡ number → some_waits row ≡ false) rows
 FindsIdleWith number rows (Some idle) = (idle.index < length rows) × ((d : Row _) → IsIdle (get_or rows idle.index d) idle × ((get_or rows idle.index d).number ≡ number))

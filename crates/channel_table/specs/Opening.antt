@@ -15,7 +15,7 @@ use Rattle.resolv_options.specs.Search.{candidates}
 use Rattle.channel_model.specs.AtOnce.{at_once}
 use Rattle.channel_model.specs.Setting.{Setting}
 use Rattle.resolv_options.specs.declared.options.Options.{Options}
-use Rattle.channel_table.specs.Sides.{asked_with_kind}
+use Rattle.channel_table.specs.Lookups.{asked_with_kind}
 use Rattle.channel_table.specs.declared.table.accepting.Opening.{Opening}
 use Rattle.channel_table.specs.declared.table.accepting.Opening.TheVariants.{Answered, Asks, Ends}
 

@@ -19,93 +19,93 @@ use Rattle.channel_model.specs.Setting.{Setting}
 use Rattle.dns_message.specs.declared.name.Name.{Name}
 use Rattle.resolv_options.specs.declared.options.Options.{Options}
 use Rattle.query_machine.specs.declared.leg.Flying.{Flying}
-use Rattle.channel_table.specs.Aims.{aim_of, answer_of_ends}
+use Rattle.channel_table.specs.Wants.{wanted_by, answer_of_ends}
 use Rattle.channel_table.specs.Legs.{LegStands}
 use Rattle.channel_table.specs.Searching.{are_passed}
-use Rattle.channel_table.specs.Sides.{begun_side, end_of_side, flew_over, flown_side, is_flying, is_forced, leg_of_side, number_of_leg, waits, waits_of}
+use Rattle.channel_table.specs.Lookups.{begun_lookup, end_of_lookup, flew_over, flown_lookup, is_flying, is_forced, leg_of_lookup, number_of_leg, waits, waits_of}
 use Rattle.channel_table.specs.declared.row.Row.{Row}
-use Rattle.channel_table.specs.declared.side.Side.{Side}
+use Rattle.channel_table.specs.declared.lookup.Lookup.{Lookup}
 
 -- the number of a row's request
 abbrev pub number_of : {T : Type 0} → Row T → ℕ
 number_of row = row.number
 
--- the sides of a row, in order
-abbrev pub sides : {T : Type 0} → Row T → List Side
-sides row = row.first ∷ option_to_list row.second
+-- the lookups of a row, in order
+abbrev pub lookups : {T : Type 0} → Row T → List Lookup
+lookups row = row.first ∷ option_to_list row.second
 
 -- one of them
-abbrev pub side_at : {T : Type 0} → Bool → Row T → Option Side
-side_at second row = if second then row.second else Some row.first
+abbrev pub lookup_at : {T : Type 0} → Bool → Row T → Option Lookup
+lookup_at second row = if second then row.second else Some row.first
 
--- the sides of all rows
-abbrev pub all_sides : {T : Type 0} → List (Row T) → List Side
-all_sides rows = flat_map sides rows
+-- the lookups of all rows
+abbrev pub all_lookups : {T : Type 0} → List (Row T) → List Lookup
+all_lookups rows = flat_map lookups rows
 
 -- the attempts of a row that are in flight
 abbrev pub flown : {T : Type 0} → Row T → List Attempt
-flown row = flat_map flown_side (sides row)
+flown row = flat_map flown_lookup (lookups row)
 
 -- an attempt of the row went to this server over this link
 abbrev pub row_over : {T : Type 0} → ℕ → ℕ → Row T → Bool
-row_over server link row = list_any (flew_over server link) (sides row)
+row_over server link row = list_any (flew_over server link) (lookups row)
 
 -- how many did
 abbrev pub over_in : {T : Type 0} → ℕ → ℕ → Row T → ℕ
-over_in server link row = count_by (flew_over server link) (sides row)
+over_in server link row = count_by (flew_over server link) (lookups row)
 
 -- how many attempts of the row are in flight
 abbrev pub flying_in : {T : Type 0} → Row T → ℕ
-flying_in row = count_by is_flying (sides row)
+flying_in row = count_by is_flying (lookups row)
 
 -- how many legs of the row wait
 abbrev pub waiting_in : {T : Type 0} → Row T → ℕ
-waiting_in row = count_by waits (sides row)
+waiting_in row = count_by waits (lookups row)
 
 -- how many legs of the row have a server that their next attempt has to go to
 abbrev pub forced_in : {T : Type 0} → Row T → ℕ
-forced_in row = count_by is_forced (sides row)
+forced_in row = count_by is_forced (lookups row)
 
 -- the legs of the row that wait
 abbrev pub row_waits : {T : Type 0} → Row T → List Leg
-row_waits row = flat_map waits_of (sides row)
+row_waits row = flat_map waits_of (lookups row)
 
 -- the answer of the current candidate, if its legs have ended that it needs
 abbrev pub answer_of_row : {T : Type 0} → Options → Row T → Option Answer
-answer_of_row options row = answer_of_ends options row.number row.aim row.first.question.name (end_of_side row.first) (option_and_then end_of_side row.second)
+answer_of_row options row = answer_of_ends options row.number row.wanted row.first.question.name (end_of_lookup row.first) (option_and_then end_of_lookup row.second)
 
--- the row with this attempt of one of its sides in flight
+-- the row with this attempt of one of its lookups in flight
 abbrev pub begun_row : {T : Type 0} → Flying → Bool → Row T → Row T
-begun_row flying second row = if second then record row { second = option_map (begun_side flying) row.second } else record row { first = begun_side flying row.first }
+begun_row flying second row = if second then record row { second = option_map (begun_lookup flying) row.second } else record row { first = begun_lookup flying row.first }
 
 -- the number of a ticket's request
 abbrev pub ticket_number : {T : Type 0} → Ticket T → ℕ
 ticket_number ticket = ticket.call.number
 
--- the past says of a side what it has: it is of this request, asks this candidate, behind which these stand, and its leg stands so
-pub record SideStands (setting : Setting) (past : Past) (number : ℕ) (spec : Spec) (name : Name) (rest : List Name) (side : Side) : Type 0 where
-  pub numbered : side.number ≡ number
-  pub current : side.question.name ≡ name
-  pub behind : side.names ≡ rest
-  pub asks : question_for spec side.leg_number name ≡ side.question
-  pub leg : LegStands setting past (leg_of_side side) side.leg side.reply
-  pub begun : has_leg (leg_of_side side) (started past) ≡ side.begun
+-- the past says of a lookup what it has: it is of this request, asks this candidate, behind which these stand, and its leg stands so
+pub record LookupStands (setting : Setting) (past : Past) (number : ℕ) (spec : Spec) (name : Name) (rest : List Name) (lookup : Lookup) : Type 0 where
+  pub numbered : lookup.number ≡ number
+  pub current : lookup.question.name ≡ name
+  pub behind : lookup.names ≡ rest
+  pub asks : question_for spec lookup.leg_number name ≡ lookup.question
+  pub leg : LegStands setting past (leg_of_lookup lookup) lookup.leg lookup.reply
+  pub begun : has_leg (leg_of_lookup lookup) (started past) ≡ lookup.begun
 
--- the past says of a row's request what the row has: it was accepted for this token, its search has passed some candidates and come to this one, with these behind it, whose legs are those of the row's sides; it has no answer yet, and no later leg has had an attempt
+-- the past says of a row's request what the row has: it was accepted for this token, its search has passed some candidates and come to this one, with these behind it, whose legs are those of the row's lookups; it has no answer yet, and no later leg has had an attempt
 pub record RowStands {T : Type 0} (plan : T → Script) (setting : Setting) (past : Past) (row : Row T) : Type 0 where
   pub spec : Spec
-  pub aims : aim_of spec ≡ row.aim
+  pub wants : wanted_by spec ≡ row.wanted
   pub passed : List Name
   pub name : Name
   pub rest : List Name
   pub candidates : candidates_of setting spec ≡ passed ++ name ∷ rest
   pub few : length (candidates_of setting spec) ≤ 9
-  pub legged : legs_of spec (length passed) ≡ map number_of_leg (sides row)
+  pub legged : legs_of spec (length passed) ≡ map number_of_leg (lookups row)
   pub came : are_passed setting row.number spec past 0 passed ≡ true
   pub emptied : any_empty setting row.number spec past 0 passed ≡ row.empty
   pub accepts : request_of row.number past ≡ Some (record { number = row.number; spec = spec; script = plan row.token })
   pub undecided : fate setting row.number past ≡ None
-  pub each_side : AllByRecursion (SideStands setting past row.number spec name rest) (sides row)
+  pub each_lookup : AllByRecursion (LookupStands setting past row.number spec name rest) (lookups row)
   pub unanswered : answer_of_row setting.options row ≡ None
   pub later : (k : ℕ) → 2 * length passed + 2 ≤ k → has_leg (leg_of row.number k) (started past) ≡ false
 

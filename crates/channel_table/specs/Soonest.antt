@@ -4,19 +4,19 @@ use Rattle.std.specs.Prelude.{false, true, Bool, List, None, Option, Some, [], f
 use Rattle.channel_model.specs.Lawful.{Due, is_before, least}
 use Rattle.channel_model.specs.Legs.{leg_of}
 use Rattle.query_machine.specs.declared.leg.Flying.{Flying}
-use Rattle.channel_table.specs.Rows.{all_sides, side_at}
-use Rattle.channel_table.specs.Sides.{flying_of, leg_of_side}
-use Rattle.channel_table.specs.declared.side.Side.{Side}
+use Rattle.channel_table.specs.Rows.{all_lookups, lookup_at}
+use Rattle.channel_table.specs.Lookups.{flying_of, leg_of_lookup}
+use Rattle.channel_table.specs.declared.lookup.Lookup.{Lookup}
 use Rattle.channel_table.specs.declared.row.Row.{Row}
 use Rattle.channel_table.specs.declared.table.seeking.Soonest.{Soonest}
 
--- when the attempt of a side is due
-abbrev pub due_of_side : Side → Option Due
-due_of_side side = option_map (λ (flying : Flying). record { at = flying.due; leg = leg_of_side side }) (flying_of side)
+-- when the attempt of a lookup is due
+abbrev pub due_of_lookup : Lookup → Option Due
+due_of_lookup lookup = option_map (λ (flying : Flying). record { at = flying.due; leg = leg_of_lookup lookup }) (flying_of lookup)
 
 -- when the attempts of the rows are due
 abbrev pub dues : {T : Type 0} → List (Row T) → List Due
-dues rows = filter_map due_of_side (all_sides rows)
+dues rows = filter_map due_of_lookup (all_lookups rows)
 
 -- the attempt as it is due
 abbrev pub due_of_soonest : Soonest → Due
@@ -31,28 +31,28 @@ abbrev pub sooner_of : Soonest → Option Soonest → Option Soonest
 sooner_of next None = Some next
 sooner_of next (Some first) = if is_sooner next first then Some next else Some first
 
--- the sooner of the best so far and the attempt of a side of the row at an index, if there is one
+-- the sooner of the best so far and the attempt of a lookup of the row at an index, if there is one
 abbrev pub sooner_with : Option Soonest → ℕ → Bool → ℕ → ℕ → Option Flying → Option Soonest
 sooner_with best index second number leg_number None = best
 sooner_with best index second number leg_number (Some flying) = sooner_of (record { index = index; is_second = second; at = flying.due; number = number; leg_number = leg_number }) best
 
--- the sooner of the best so far and the attempt of a side
-abbrev pub sooner : Option Soonest → ℕ → Bool → Side → Option Soonest
-sooner best index second side = sooner_with best index second side.number side.leg_number (flying_of side)
+-- the sooner of the best so far and the attempt of a lookup
+abbrev pub sooner : Option Soonest → ℕ → Bool → Lookup → Option Soonest
+sooner best index second lookup = sooner_with best index second lookup.number lookup.leg_number (flying_of lookup)
 
--- the sooner of the best so far and the attempt of a side, if there is that side
-abbrev pub sooner_if : Option Soonest → ℕ → Option Side → Option Soonest
+-- the sooner of the best so far and the attempt of a lookup, if there is that lookup
+abbrev pub sooner_if : Option Soonest → ℕ → Option Lookup → Option Soonest
 sooner_if best index None = best
-sooner_if best index (Some side) = sooner best index true side
+sooner_if best index (Some lookup) = sooner best index true lookup
 
 -- the sooner of the best so far and the attempts of a row
 abbrev pub sooner_row : {T : Type 0} → Option Soonest → ℕ → Row T → Option Soonest
 sooner_row best index row = sooner_if (sooner best index false row.first) index row.second
 
--- the attempt that was found is that of its side
+-- the attempt that was found is that of its lookup
 pub record IsOfRow {T : Type 0} (rows : List (Row T)) (found : Soonest) : Type 0 where
   pub inside : found.index < length rows
-  pub is_due : (d : Row T) → option_and_then due_of_side (side_at found.is_second (get_or rows found.index d)) ≡ Some (due_of_soonest found)
+  pub is_due : (d : Row T) → option_and_then due_of_lookup (lookup_at found.is_second (get_or rows found.index d)) ≡ Some (due_of_soonest found)
 
 -- it is the one of the rows that is due first
 abbrev pub IsSoonest : {T : Type 0} → List (Row T) → Option Soonest → Type 0

@@ -9,10 +9,11 @@ use Rattle.channel_model.specs.Servers.{from_place}
 use Rattle.query_machine.specs.Legs.{IsWaiting}
 use Rattle.query_machine.specs.declared.leg.Flying.{Flying}
 use Rattle.resolv_options.specs.declared.options.Options.{Options}
-use Rattle.channel_table.specs.Rows.{begun_row, row_waits, side_at, sides}
-use Rattle.channel_table.specs.Sides.{flying_of, leg_of_side, waits}
-use Rattle.channel_table.specs.declared.side.Side.{Side}
+use Rattle.channel_table.specs.Rows.{begun_row, row_waits, lookup_at, lookups}
+use Rattle.channel_table.specs.Lookups.{flying_of, leg_of_lookup, waits}
+use Rattle.channel_table.specs.declared.lookup.Lookup.{Lookup}
 use Rattle.channel_table.specs.declared.row.Row.{Row}
+use Rattle.channel_table.specs.declared.table.channel_servers.ChannelServers.{ChannelServers}
 use Rattle.channel_table.specs.declared.table.starting.Idle.{Idle}
 
 -- an attempt has this identifier
@@ -20,26 +21,26 @@ abbrev pub flying_id : ℕ → Option Flying → Bool
 flying_id id None = false
 flying_id id (Some flying) = flying.id == id
 
--- the attempt of a side has this identifier
-abbrev pub has_id : ℕ → Side → Bool
-has_id id side = flying_id id (flying_of side)
+-- the attempt of a lookup has this identifier
+abbrev pub has_id : ℕ → Lookup → Bool
+has_id id lookup = flying_id id (flying_of lookup)
 
 -- an attempt of a row has this identifier
 abbrev pub row_has_id : {T : Type 0} → ℕ → Row T → Bool
-row_has_id id row = list_any (has_id id) (sides row)
+row_has_id id row = list_any (has_id id) (lookups row)
 
 -- the link of an attempt, where it went to this server over TCP
 abbrev pub link_on : ℕ → Option Flying → Option ℕ
 link_on server None = None
 link_on server (Some flying) = if (flying.server == server) && not (flying.link == 0) then Some flying.link else None
 
--- the link of a side's attempt, where it went to this server over TCP
-abbrev pub links_on : ℕ → Side → List ℕ
-links_on server side = option_to_list (link_on server (flying_of side))
+-- the link of a lookup's attempt, where it went to this server over TCP
+abbrev pub links_on : ℕ → Lookup → List ℕ
+links_on server lookup = option_to_list (link_on server (flying_of lookup))
 
 -- the links of a row's attempts that went to this server over TCP
 abbrev pub row_links : {T : Type 0} → ℕ → Row T → List ℕ
-row_links server row = flat_map (links_on server) (sides row)
+row_links server row = flat_map (links_on server) (lookups row)
 
 -- the link of an attempt to this server: 0 over UDP; over TCP that of an attempt in flight, or else a new one
 abbrev pub link_with : {T : Type 0} → List (Row T) → Bool → ℕ → ℕ → ℕ
@@ -57,26 +58,32 @@ first_place options starts used = if options.rotate then starts % used else 0
 abbrev pub server_with : Option ℕ → ℕ → ℕ → List Failing → ℕ
 server_with forced used place counts = unwrap_or forced (least_of (from_place place (take used counts)))
 
--- a side of the row at this index that waits
-abbrev pub idle_of : ℕ → Bool → Side → Idle
-idle_of index second side = record { index = index; is_second = second; number = side.number; leg_number = side.leg_number; leg = side.leg; begun = side.begun }
+-- the same, where these are the servers of the table
+abbrev pub server_for : Options → ChannelServers → Option ℕ → ℕ
+server_for options servers forced =
+    let used : ℕ = length (used_of options servers.list) in
+    server_with forced used (first_place options servers.started used) servers.counts
 
--- a side of the row waits, and has this number, leg, state and mark
+-- a lookup of the row at this index that waits
+abbrev pub idle_of : ℕ → Bool → Lookup → Idle
+idle_of index second lookup = record { index = index; is_second = second; number = lookup.number; leg_number = lookup.leg_number; leg = lookup.leg; begun = lookup.begun }
+
+-- a lookup of the row waits, and has this number, leg, state and mark
 pub record IsIdle {T : Type 0} (row : Row T) (idle : Idle) : Type 0 where
-  pub side : Side
-  pub at : side_at idle.is_second row ≡ Some side
-  pub own : leg_of_side side ≡ leg_of idle.number idle.leg_number
-  pub leg : side.leg ≡ idle.leg
-  pub begun : side.begun ≡ idle.begun
-  pub waiting : waits side ≡ true
+  pub lookup : Lookup
+  pub at : lookup_at idle.is_second row ≡ Some lookup
+  pub own : leg_of_lookup lookup ≡ leg_of idle.number idle.leg_number
+  pub leg : lookup.leg ≡ idle.leg
+  pub begun : lookup.begun ≡ idle.begun
+  pub waiting : waits lookup ≡ true
   pub firsts : first (row_waits row) ≡ Some (leg_of idle.number idle.leg_number)
 
--- it is the first side of the row at this index that waits, or none does
-abbrev pub FindsIdleSide : {T : Type 0} → ℕ → Row T → Option Idle → Type 0
-FindsIdleSide index row None = row_waits row ≡ []
-FindsIdleSide index row (Some idle) = (idle.index ≡ index) × IsIdle row idle
+-- it is the first lookup of the row at this index that waits, or none does
+abbrev pub FindsIdleLookup : {T : Type 0} → ℕ → Row T → Option Idle → Type 0
+FindsIdleLookup index row None = row_waits row ≡ []
+FindsIdleLookup index row (Some idle) = (idle.index ≡ index) × IsIdle row idle
 
--- the row at an index has the first side that waits
+-- the row at an index has the first lookup that waits
 pub record FindsAt {T : Type 0} (rows : List (Row T)) (idle : Idle) : Type 0 where
   pub inside : idle.index < length rows
   pub is : (d : Row T) → IsIdle (get_or rows idle.index d) idle
@@ -93,11 +100,11 @@ IsFree rows word None = (id : ℕ) → id < 2 ^ 16 → list_any (row_has_id id) 
 IsFree rows word (Some id) =
     (steps : ℕ) × (steps < 2 ^ 16) × (id ≡ (word + steps) % 2 ^ 16) × (list_any (row_has_id id) rows ≡ false) × ((step : ℕ) → step < steps → list_any (row_has_id ((word + step) % 2 ^ 16)) rows ≡ true)
 
--- the leg of this side of the row at this index waits
+-- the leg of this lookup of the row at this index waits
 abbrev pub WaitsAt : {T : Type 0} → ℕ → Bool → List (Row T) → Type 0
-WaitsAt index second rows = (d : Row _) → IfSome (side_at second (get_or rows index d)) (λ (side : Side). IsWaiting side.leg.phase)
+WaitsAt index second rows = (d : Row _) → IfSome (lookup_at second (get_or rows index d)) (λ (lookup : Lookup). IsWaiting lookup.leg.phase)
 
--- the attempt of this side of the row at this index has begun
+-- the attempt of this lookup of the row at this index has begun
 pub record BeginsRow {T : Type 0} (flying : Flying) (index : ℕ) (second : Bool) (rows new_rows : List (Row T)) : Type 0 where
   pub row : Row T
   pub is : (d : Row T) → get_or rows index d ≡ row

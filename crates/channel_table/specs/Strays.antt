@@ -2,11 +2,11 @@
 use Rattle.std.specs.List.{AllByRecursion, list_any}
 use Rattle.std.specs.Prelude.{Bool, List, None, Option, Some, [], false, get_or, length, ℕ, ◌*◌, ◌+◌, ◌<◌, ◌∷◌, ◌≡◌, ◌≢◌}
 use Rattle.query_machine.specs.declared.leg.Flying.{Flying}
-use Rattle.channel_table.specs.Rows.{sides}
-use Rattle.channel_table.specs.Sides.{flying_of}
+use Rattle.channel_table.specs.Rows.{lookups}
+use Rattle.channel_table.specs.Lookups.{flying_of}
 use Rattle.channel_table.specs.Starting.{flying_id}
 use Rattle.channel_table.specs.declared.row.Row.{Row}
-use Rattle.channel_table.specs.declared.side.Side.{Side}
+use Rattle.channel_table.specs.declared.lookup.Lookup.{Lookup}
 
 -- the identifier of a message: the number in its first two bytes, if it has them (RFC 1035, section 4.1.1)
 abbrev pub id_of : List ℕ → Option ℕ
@@ -19,13 +19,13 @@ abbrev pub flying_with : Option ℕ → Option Flying → Bool
 flying_with None flying = false
 flying_with (Some id) flying = flying_id id flying
 
--- the attempt of a side has it
-abbrev pub shares_id : Option ℕ → Side → Bool
-shares_id id side = flying_with id (flying_of side)
+-- the attempt of a lookup has it
+abbrev pub shares_id : Option ℕ → Lookup → Bool
+shares_id id lookup = flying_with id (flying_of lookup)
 
 -- an attempt of a row has it
 abbrev pub row_shares_id : {T : Type 0} → Option ℕ → Row T → Bool
-row_shares_id id row = list_any (shares_id id) (sides row)
+row_shares_id id row = list_any (shares_id id) (lookups row)
 
 -- the row has none with it, or this number
 abbrev pub Differs : {T : Type 0} → Option ℕ → ℕ → Row T → Type 0
@@ -36,6 +36,6 @@ abbrev pub IsOnlyWith : {T : Type 0} → Option ℕ → List (Row T) → Option 
 IsOnlyWith id rows None = list_any (row_shares_id id) rows ≡ false
 IsOnlyWith id rows (Some index) = (index < length rows) × ((d : Row _) → AllByRecursion (Differs id (get_or rows index d).number) rows)
 
--- the sides of a row have its number
+-- the lookups of a row have its number
 abbrev pub IsNumbered : {T : Type 0} → Row T → Type 0
-IsNumbered row = AllByRecursion (λ (side : Side). side.number ≡ row.number) (sides row)
+IsNumbered row = AllByRecursion (λ (lookup : Lookup). lookup.number ≡ row.number) (lookups row)

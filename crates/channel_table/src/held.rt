@@ -3,11 +3,11 @@
 ghost use Rattle.std.specs.Prelude.{◌≡◌, ◌+◌, ◌<◌, IfErr, IfOk, IfSome, get_or, remove};
 ghost use Rattle.std.specs.VecDeque.{deque_capacity, deque_len};
 ghost use Rattle.query_machine.specs.Legs.{IsWaiting, attempt_from};
-ghost use Rattle.channel_table.specs.After.{after, after_answer, next_row, sides_behind};
-ghost use Rattle.channel_table.specs.Rows.{begun_row, side_at};
+ghost use Rattle.channel_table.specs.After.{after, after_answer, next_row, lookups_behind};
+ghost use Rattle.channel_table.specs.Rows.{begun_row, lookup_at};
 
+use crate::concerned::Concerned;
 use crate::row::{After, Row};
-use crate::side::Hits;
 use chan_types::{Answer, Bytes, Status, Token};
 use channel_model::Judged;
 use query_machine::Leg;
@@ -58,7 +58,7 @@ impl<T: Token> Held<T> {
         Box::into_inner(self.body)
     }
 
-    /// An attempt of this side begins.
+    /// An attempt of this lookup begins.
     pub fn begin(
         &mut self,
         is_second: bool,
@@ -69,7 +69,7 @@ impl<T: Token> Held<T> {
         at: u64,
         wait: u64,
     )
-        requires waits { IfSome (side_at is_second self.old) (λ side. IsWaiting side.leg.phase) }
+        requires waits { IfSome (lookup_at is_second self.old) (λ lookup. IsWaiting lookup.leg.phase) }
         ensures { self.new ≡ begun_row (attempt_from server link id mix at wait) is_second self.old }
     {
         self.body.begin(is_second, server, link, id, mix, at, wait);
@@ -77,8 +77,15 @@ impl<T: Token> Held<T> {
 
     /// Ends the attempts that an entry concerns, which meant this and came with this reply or none, where a leg may
     /// spend so many. It takes no memory.
-    pub fn close(&mut self, alloc: Global, concerned: Hits, judged: Judged, reply: Bytes, most: u32)
-        ensures { self.new ≡ sides_behind concerned judged reply most self.old }
+    pub fn close(
+        &mut self,
+        alloc: Global,
+        concerned: Concerned,
+        judged: Judged,
+        reply: Bytes,
+        most: u32,
+    )
+        ensures { self.new ≡ lookups_behind concerned judged reply most self.old }
     {
         self.body.close(alloc, concerned, judged, reply, most);
     }
@@ -90,7 +97,7 @@ impl<T: Token> Held<T> {
         self,
         alloc: Global,
         options: &Options,
-        concerned: Hits,
+        concerned: Concerned,
         judged: Judged,
         reply: Bytes,
         most: u32,

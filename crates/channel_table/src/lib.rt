@@ -1,16 +1,19 @@
 //! The table of a channel: its requests, and the journal of what happened.
 #![tactic(auto)]
 
-mod aim;
 mod alone;
+mod answering;
+mod concerned;
 mod held;
-mod held_side;
+mod held_lookup;
+mod lookup;
 mod row;
-mod side;
 mod table;
+mod wanted;
 
-pub use aim::Aim;
 pub use alone::Alone;
+pub use concerned::Concerned;
+pub use lookup::Lookup;
 pub use row::Row;
-pub use side::{Hits, Side};
 pub use table::Table;
+pub use wanted::Wanted;

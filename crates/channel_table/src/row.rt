@@ -5,13 +5,15 @@ ghost use Rattle.chan_types.specs.declared.status.Status.TheVariants as statuses
 ghost use Rattle.channel_model.specs.Merge.{bare, same_status};
 ghost use Rattle.channel_model.specs.Search.{goes_on};
 ghost use Rattle.query_machine.specs.Legs.{IsWaiting, attempt_from};
-ghost use Rattle.channel_table.specs.After.{answer_behind, has_next, last_status, next_row, sides_behind};
-ghost use Rattle.channel_table.specs.Rows.{begun_row, side_at};
+ghost use Rattle.channel_table.specs.After.{answer_behind, has_next, last_status, next_row, lookups_behind};
+ghost use Rattle.channel_table.specs.Rows.{begun_row, lookup_at};
 
-use crate::aim::{Aim, answer_of, bare_answer};
+use crate::answering::{answer_of, bare_answer};
+use crate::concerned::Concerned;
 use crate::held::Held;
-use crate::held_side::HeldSide;
-use crate::side::{Hits, Side};
+use crate::held_lookup::HeldLookup;
+use crate::lookup::Lookup;
+use crate::wanted::Wanted;
 use chan_types::{Answer, Bytes, Call, NoMemory, Status, Ticket, Token};
 use channel_model::Judged;
 use query_machine::Leg;
@@ -24,12 +26,12 @@ use std::alloc::Global;
 pub struct Row<T: Token> {
     pub number: u64,
     /// What its answer is made of.
-    pub aim: Aim,
+    pub wanted: Wanted,
     /// A candidate before the current one ended without data.
     pub empty: bool,
-    pub first: Side,
+    pub first: Lookup,
     /// The question for AAAA records, beside that for A records.
-    pub second: Option<HeldSide>,
+    pub second: Option<HeldLookup>,
     pub token: T,
     pub call: Call,
 }
@@ -44,17 +46,17 @@ pub enum After<T: Token> {
 }
 
 impl<T: Token> Row<T> {
-    /// The second side if it is asked for and there is one, else the first.
-    pub fn side(&self, is_second: bool) -> &Side
-        ensures { IfSome (side_at is_second self.now) (λ side. result.now ≡ side) }
+    /// The second lookup if it is asked for and there is one, else the first.
+    pub fn lookup(&self, is_second: bool) -> &Lookup
+        ensures { IfSome (lookup_at is_second self.now) (λ lookup. result.now ≡ lookup) }
     {
         match &self.second {
-            Some(side) if is_second => side.side(),
+            Some(lookup) if is_second => lookup.lookup(),
             Some(_) | None => &self.first,
         }
     }
 
-    /// An attempt of this side begins.
+    /// An attempt of this lookup begins.
     #[inline(always)]
     pub fn begin(
         &mut self,
@@ -66,12 +68,12 @@ impl<T: Token> Row<T> {
         at: u64,
         wait: u64,
     )
-        requires waits { IfSome (side_at is_second self.old) (λ side. IsWaiting side.leg.phase) }
+        requires waits { IfSome (lookup_at is_second self.old) (λ lookup. IsWaiting lookup.leg.phase) }
         ensures { self.new ≡ begun_row (attempt_from server link id mix at wait) is_second self.old }
     {
         if is_second {
-            if let Some(side) = &mut self.second {
-                side.body.begin(server, link, id, mix, at, wait);
+            if let Some(lookup) = &mut self.second {
+                lookup.body.begin(server, link, id, mix, at, wait);
             }
         } else {
             self.first.begin(server, link, id, mix, at, wait);
@@ -85,7 +87,7 @@ impl<T: Token> Row<T> {
         &self,
         alloc: Global,
         options: &Options,
-        concerned: Hits,
+        concerned: Concerned,
         judged: Judged,
         bytes: &[u8],
         most: u32,
@@ -103,15 +105,15 @@ impl<T: Token> Row<T> {
         };
         let right = match &self.second {
             None => None,
-            Some(side) => side
-                .side()
+            Some(lookup) => lookup
+                .lookup()
                 .ended_behind(concerned, true, judged, brought, most),
         };
         answer_of(
             alloc,
             options,
             self.number,
-            self.aim,
+            self.wanted,
             &self.first.question.name,
             left,
             right,
@@ -120,8 +122,15 @@ impl<T: Token> Row<T> {
 
     /// Ends the attempts that an entry concerns, which meant this and came with this reply or none, where a leg may
     /// spend so many. It takes no memory.
-    pub fn close(&mut self, alloc: Global, concerned: Hits, judged: Judged, reply: Bytes, most: u32)
-        ensures { self.new ≡ sides_behind concerned judged reply most self.old }
+    pub fn close(
+        &mut self,
+        alloc: Global,
+        concerned: Concerned,
+        judged: Judged,
+        reply: Bytes,
+        most: u32,
+    )
+        ensures { self.new ≡ lookups_behind concerned judged reply most self.old }
     {
         let (one, two) = if concerned.concerns(&self.first, false) {
             (reply, Bytes::new(alloc))
@@ -129,8 +138,8 @@ impl<T: Token> Row<T> {
             (Bytes::new(alloc), reply)
         };
         self.first.close(concerned, false, judged, one, most);
-        if let Some(side) = &mut self.second {
-            side.body.close(concerned, true, judged, two, most);
+        if let Some(lookup) = &mut self.second {
+            lookup.body.close(concerned, true, judged, two, most);
         }
     }
 
@@ -165,8 +174,8 @@ impl<T: Token> Row<T> {
         ensures { self.new ≡ next_row leg status self.old }
     {
         self.first.ask_next(alloc, leg);
-        if let Some(side) = &mut self.second {
-            side.body.ask_next(alloc, leg);
+        if let Some(lookup) = &mut self.second {
+            lookup.body.ask_next(alloc, leg);
         }
         self.empty = self.empty || has_no_data(status);
     }

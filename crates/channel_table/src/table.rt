@@ -6,23 +6,30 @@ ghost use Rattle.channel_model.specs.Journal.{accepted, past_of};
 ghost use Rattle.channel_model.specs.Servers.{keyed_from};
 
 mod accepting;
+mod arriving;
+mod attempt_ending;
+mod channel_servers;
 mod counting;
 mod ending;
+mod expiring;
 mod failing;
+mod faulting;
 mod finding;
 mod flown;
 mod found;
+mod journal_room;
 mod landing;
 mod leaving;
 mod linked;
-mod listing;
 mod marking;
-mod moving;
 mod rows;
 mod seeking;
+mod server_list;
+mod start_plan;
 mod starting;
 mod taking;
 
+use self::channel_servers::ChannelServers;
 use self::rows::Rows;
 use chan_types::{KeyList, NoMemory, ServerKey, Ticket, Token};
 use channel_journal::{ChannelJournal, KeptJournal};
@@ -49,16 +56,7 @@ pub struct Table<T: Token, J: ChannelJournal = KeptJournal> {
     /// The completed requests that weren't taken, in the order of their completion.
     ready: VecDeque<Ticket<T>>,
     journal: J,
-    /// The servers with their keys, in the order of the list.
-    list: KeyList,
-    /// The counts of their failures.
-    servers: Servers,
-    /// The greatest key that was given.
-    greatest_key: u32,
-    /// The greatest link that was given.
-    greatest_link: u64,
-    /// How many legs have had an attempt.
-    started: u64,
+    servers: ChannelServers,
     /// How many requests were accepted.
     accepted: u64,
     /// The channel was destroyed.
@@ -89,7 +87,7 @@ impl<T: Token, J: ChannelJournal> Table<T, J> {
     {
         let count = options.servers().len() as u32;
         let list = opening_list(alloc, options.servers().as_slice())?;
-        let servers = Servers::make(alloc, count)?;
+        let counts = Servers::make(alloc, count)?;
         let mut journal = J::begin(alloc)?;
         journal.reserve(1)?;
         Ok(Table {
@@ -99,11 +97,13 @@ impl<T: Token, J: ChannelJournal> Table<T, J> {
             rows: Rows::make(alloc)?,
             ready: VecDeque::new(alloc),
             journal,
-            list,
-            servers,
-            greatest_key: count - 1,
-            greatest_link: 0,
-            started: 0,
+            servers: ChannelServers {
+                list,
+                counts,
+                greatest_key: count - 1,
+                greatest_link: 0,
+                started: 0,
+            },
             accepted: 0,
             closed: false,
         })

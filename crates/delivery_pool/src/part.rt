@@ -26,7 +26,8 @@ pub fn beside<M: Part<R> + Send, W: Part<R> + Send, R: Threads + Wait + Sync>(
     ensures main { M.does main.old main.new }
     ensures each { EachDoes W.does workers.old workers.new }
 {
-    join_mut(rt, &mut || run_one(rt, main), &mut || run_all(rt, workers));
+    // Where no thread can be made the workers run behind the first part, which sends their stops.
+    join_mut(rt, &mut || run_all(rt, workers), &mut || run_one(rt, main));
 }
 
 /// Runs one part.

@@ -18,9 +18,10 @@ use Rattle.adig_tool.specs.Output.{book_of, text_at}
 use Rattle.adig_tool.specs.Promise.{Promise}
 use Rattle.adig_tool.specs.Running.{Comes, IsRunFor, setting_with}
 use Rattle.adig_tool.specs.declared.ended.Ended.{Ended}
+use Rattle.run_end.specs.Ends.{IsPageEnd}
 use Rattle.journal_laws.specs.Telling.{HasPut, IsWithinLimits, PutsRun}
 use Rattle.journal_laws.proofs.FateLemmas.{fates_in_order}
-use Rattle.journal_laws.proofs.PutLemmas.{IsPageEnd, whole_put}
+use Rattle.journal_laws.proofs.PutLemmas.{whole_put}
 use Rattle.journal_laws.proofs.TellingLemmas.{tells_run}
 
 -- at an end with a page the text is that page

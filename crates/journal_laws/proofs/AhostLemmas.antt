@@ -31,8 +31,9 @@ use Rattle.ahost_tool.specs.Promise.{Promise}
 use Rattle.ahost_tool.specs.Running.{Comes, IsRunFor}
 use Rattle.ahost_tool.specs.Setting.{GivesSetting, IsSettingOf, bytes_read, hosts_bytes}
 use Rattle.run_end.specs.declared.ended.Ended.{Ended}
+use Rattle.run_end.specs.Ends.{IsPageEnd}
 use Rattle.journal_laws.specs.Telling.{HasPut, IsWithinLimits, PutsRun}
-use Rattle.journal_laws.proofs.PutLemmas.{IsPageEnd, whole_put}
+use Rattle.journal_laws.proofs.PutLemmas.{whole_put}
 use Rattle.journal_laws.proofs.TellingLemmas.{tells_run}
 
 -- the lines of a hosts file are those of its bytes, which aren't too many

@@ -1,6 +1,6 @@
 -- A run that ends with 0 or 1 put its text whole, and that is the text of its page.
 use Rattle.std.proofs.Common.{arith, inl, inr, subst}
-use Rattle.std.specs.Prelude.{None, Option, Some, refl, ℕ, ◌≡◌, ◌≤◌, ◌⊎◌}
+use Rattle.std.specs.Prelude.{None, Option, Some, refl, ℕ, ◌≡◌, ◌≤◌}
 use Rattle.net_world.specs.declared.answers.PutEnd.TheVariants.{Done}
 use Rattle.tool_line.specs.Ending.{number_of}
 use Rattle.tool_line.specs.Outside.{GrowsBy, OutputTold}
@@ -8,16 +8,13 @@ use Rattle.tool_line.specs.Put.{PutsOnce, PutsText}
 use Rattle.tool_line.specs.Words.{Text}
 use Rattle.tool_line.specs.declared.ending.Exit.{Exit}
 use Rattle.tool_line.specs.declared.ending.Exit.TheVariants.{Failure, FileFault, OutOfMemory, SinkFault, Stalled, Success, Usage, WaitFault}
+use Rattle.run_end.specs.Ends.{IsPageEnd}
 use Rattle.journal_laws.specs.Telling.{HasPut}
 
 -- the text was put whole, in one put
 pub record IsWhole (text : Text) (before after : OutputTold) : Type 0 where
   pub grows : GrowsBy before.bytes after.bytes text
   pub once : PutsOnce text Done before.puts after.puts
-
--- the end is one with a page
-abbrev pub IsPageEnd : Exit → Type 0
-IsPageEnd end = (end ≡ Success) ⊎ (end ≡ Failure)
 
 -- a greater exit status says something else
 greater : (status : ℕ) → 2 ≤ status → HasPut status → ⊥

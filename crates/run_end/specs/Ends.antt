@@ -22,3 +22,11 @@ IsEndOf (Ok Completed) calls end = IsPageEndOf calls end
 IsEndOf (Ok WaitFault) calls end = end ≡ FailedWait
 IsEndOf (Ok Stalled) calls end = end ≡ HasStalled
 IsEndOf (Err fault) calls end = end ≡ OutOfMemory
+
+-- at this end each request has its answer, and the text is the page
+abbrev pub IsPageEnd : Exit → Type 0
+IsPageEnd end = (end ≡ Success) ⊎ (end ≡ Failure)
+
+-- the ends to which a run comes whose words are understood and whose files could be read
+abbrev pub IsRunEnd : Exit → Type 0
+IsRunEnd end = IsPageEnd end ⊎ (end ≡ FailedWait) ⊎ (end ≡ HasStalled) ⊎ (end ≡ OutOfMemory)

@@ -17,3 +17,7 @@ IsLeft Stalled requests = requests ≢ []
 abbrev pub LeavesPending : Setting → Result LoopEnd NoMemory → Past → Type 0
 LeavesPending setting (Ok end) past = (ready setting past ≡ []) × IsLeft end (pending setting past)
 LeavesPending setting (Err fault) past = ⊤
+
+-- nothing is pending and nothing ready behind this past
+abbrev pub IsOver : Setting → Past → Type 0
+IsOver setting past = (pending setting past ≡ []) × (ready setting past ≡ [])

@@ -15,7 +15,7 @@ use Rattle.chan_types.specs.contracts.answer.Answer as Answer
 use Rattle.chan_types.specs.contracts.call.Call as Call
 use Rattle.channel_table.specs.contracts.row.Row as Row
 use Rattle.chan_types.specs.contracts.ticket.Ticket as Ticket
-use Rattle.channel_table.specs.contracts.side.Side as Side
+use Rattle.channel_table.specs.contracts.lookup.Lookup as Lookup
 use Rattle.chan_types.specs.contracts.journal.Entry as Entry
 use Rattle.chan_types.proofs.answer.Answer.TheSendSync as answer
 use Rattle.chan_types.proofs.orders.Need.TheSendSync as need
@@ -30,8 +30,9 @@ use Rattle.dns_message.proofs.message.Question.TheSendSync as question
 use Rattle.net_addr.proofs.addr.Addr.TheSendSync as addr
 use Rattle.net_addr.proofs.addr.Family.TheSendSync as family
 use Rattle.net_addr.proofs.addr.ServerAddr.TheSendSync as server_addr
-use Rattle.channel_table.proofs.aim.Aim.TheSendSync as aim
-use Rattle.channel_table.proofs.side.Side.TheSendSync as side
+use Rattle.channel_table.proofs.wanted.Wanted.TheSendSync as wanted
+use Rattle.channel_table.proofs.lookup.Lookup.TheSendSync as lookup
+use Rattle.channel_table.proofs.table.channel_servers.ChannelServers.TheSendSync as channel_servers
 use Rattle.channel_table.proofs.table.flown.Flown.TheSendSync as flown
 use Rattle.leg_index.proofs.waiting.Waiting.TheSendSync as waiting
 use Rattle.hosts_file.proofs.hosts.HostLine.TheSendSync as host_line
@@ -74,7 +75,7 @@ use Rattle.shared_channel.specs.contracts.account.Account as Account
 use Rattle.shared_channel.specs.contracts.state.SharedTable as SharedTable
 
 -- the plain structs of which a channel's state is made
-pub ruleset plain = (answer.the_field_send, answer.the_send, need.the_field_send, need.the_send, orders.the_field_send, orders.the_send, when.the_field_send, when.the_send, spec.the_field_send, spec.the_send, status.the_field_send, status.the_send, server_key.the_field_send, server_key.the_send, name.the_send, question.the_field_send, question.the_send, addr.the_field_send, addr.the_send, family.the_field_send, family.the_send, server_addr.the_field_send, server_addr.the_send, aim.the_field_send, aim.the_send, side.the_field_send, side.the_send, host_line.the_field_send, host_line.the_send, hosts.the_send, flying.the_field_send, flying.the_send, leg.the_field_send, leg.the_send, phase.the_field_send, phase.the_send, failures.the_field_send, failures.the_send, servers.the_send, flags.the_field_send, flags.the_send, lookups.the_field_send, lookups.the_send, options.the_send)
+pub ruleset plain = (answer.the_field_send, answer.the_send, need.the_field_send, need.the_send, orders.the_field_send, orders.the_send, when.the_field_send, when.the_send, spec.the_field_send, spec.the_send, status.the_field_send, status.the_send, server_key.the_field_send, server_key.the_send, name.the_send, question.the_field_send, question.the_send, addr.the_field_send, addr.the_send, family.the_field_send, family.the_send, server_addr.the_field_send, server_addr.the_send, wanted.the_field_send, wanted.the_send, lookup.the_field_send, lookup.the_send, host_line.the_field_send, host_line.the_send, hosts.the_send, flying.the_field_send, flying.the_send, leg.the_field_send, leg.the_send, phase.the_field_send, phase.the_send, failures.the_field_send, failures.the_send, servers.the_send, channel_servers.the_field_send, channel_servers.the_send, flags.the_field_send, flags.the_send, lookups.the_field_send, lookups.the_send, options.the_send)
 
 -- allocators and what holds at most one item
 pub ruleset owners = (global.the_field_send, global.the_send, global.the_field_sync, global.the_sync, option.the_field_send, option.the_send, option.the_field_sync, option.the_sync, phantom.the_field_send, phantom.the_send, phantom.the_field_sync, phantom.the_sync, memory.the_field_send, memory.the_send, memory.the_field_sync, memory.the_sync)
@@ -86,8 +87,8 @@ answer_send = search (plain, owners, crosses, script.crosses, sendable) depth 60
 pub entry_send : IsSend Entry.the_row
 entry_send = search (plain, owners, crosses, script.crosses, sendable) depth 60 fits 20000
 
-pub side_send : IsSend Side.the_row
-side_send = search (plain, owners, crosses, sendable) depth 60 fits 20000
+pub lookup_send : IsSend Lookup.the_row
+lookup_send = search (plain, owners, crosses, sendable) depth 60 fits 20000
 
 pub call_send : IsSend Call.the_row
 call_send = search (linked.the_send, answer_send, owners, crosses, runs.crosses, sendable) depth 60 fits 20000
@@ -132,7 +133,7 @@ module _ (B : RattleType) (g : done.Ghosts B.Denot) (b : IsSend B) where
   pub row_send : IsSend (Row.the_row Told)
   row_send =
       let sent = λ (all : AllSend (shape (Row.the_type Told)).fields). recorded_send (Row.the_field Told).row _ _ (Row.the_type Told).to_one (struct_send (shape (Row.the_type Told)) all) in
-      sent (search sendable, (search (plain, owners, crosses, script.crosses, sendable) depth 60 fits 20000, (search sendable, (search (plain, owners, crosses, script.crosses, sendable) depth 60 fits 20000, (search (side_send, plain, owners, crosses, script.crosses, sendable) depth 60 fits 20000, (search (callback_send, sendable) depth 60 fits 20000, (search (call_send, sendable) depth 60 fits 20000, tt)))))))
+      sent (search sendable, (search (plain, owners, crosses, script.crosses, sendable) depth 60 fits 20000, (search sendable, (search (plain, owners, crosses, script.crosses, sendable) depth 60 fits 20000, (search (lookup_send, plain, owners, crosses, script.crosses, sendable) depth 60 fits 20000, (search (callback_send, sendable) depth 60 fits 20000, (search (call_send, sendable) depth 60 fits 20000, tt)))))))
 
   pub held_send : (t : token.Ghosts Told.Denot) → IsSend (Held.the_row Told t)
   held_send t = search (row_send, owners, crosses, sendable) depth 60 fits 20000
@@ -147,7 +148,7 @@ module _ (B : RattleType) (g : done.Ghosts B.Denot) (b : IsSend B) where
   module _ (J : RattleType) (k : JournalGhosts J.Denot) (j : IsSend J) where
     table_inside_send : (t : token.Ghosts Told.Denot) → IsSend (table_inside.the_row Told J t k)
     table_inside_send t =
-        recorded_send (table_inside.the_field Told J t k).row _ _ (table_inside.the_type Told J t k).to_one (struct_send (shape (table_inside.the_type Told J t k)) (search (rows_send, plain, owners, crosses, script.crosses, sendable) depth 60 fits 20000, (search (rows_send, plain, owners, crosses, script.crosses, sendable) depth 60 fits 20000, (search (rows_send, plain, owners, crosses, script.crosses, sendable) depth 60 fits 20000, (search (rows_send, plain, owners, crosses, script.crosses, sendable) depth 60 fits 20000, (deque.the_send _ _ _ ticket_send global.the_send allocator.the_frees, (j, (search (plain, owners, crosses, sendable) depth 60 fits 20000, (search (plain, owners, crosses, sendable) depth 60 fits 20000, (search sendable, (search sendable, (search sendable, (search sendable, (search sendable, tt))))))))))))))
+        recorded_send (table_inside.the_field Told J t k).row _ _ (table_inside.the_type Told J t k).to_one (struct_send (shape (table_inside.the_type Told J t k)) (search (rows_send, plain, owners, crosses, script.crosses, sendable) depth 60 fits 20000, (search (rows_send, plain, owners, crosses, script.crosses, sendable) depth 60 fits 20000, (search (rows_send, plain, owners, crosses, script.crosses, sendable) depth 60 fits 20000, (search (rows_send, plain, owners, crosses, script.crosses, sendable) depth 60 fits 20000, (deque.the_send _ _ _ ticket_send global.the_send allocator.the_frees, (j, (search (plain, owners, crosses, sendable) depth 60 fits 20000, (search sendable, (search sendable, tt))))))))))
 
     pub table_send : (t : token.Ghosts Told.Denot) → IsSend (Table.the_row Told J t k)
     table_send t = view_send (table_inside.the_row Told J t k) _ _ _ _ (table_inside_send t)

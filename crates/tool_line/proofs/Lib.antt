@@ -1,8 +1,10 @@
 mod AskLemmas
+pub mod FileLemmas
 mod LoopLemmas
 pub mod ReadLemmas
 mod ReadingLemmas
 mod SaidLemmas
+pub mod SettingsLemmas
 mod ToldLemmas
 mod ValueLemmas
 mod WalkLemmas

@@ -5,7 +5,7 @@ ghost use Rattle.std.specs.Prelude.{◌≡◌, ◌≢◌, ◌+◌, ◌*◌, ◌<
 ghost use Rattle.std.specs.VecDeque.{deque_capacity, deque_len};
 ghost use Rattle.channel_model.specs.Meanings.{Accepts};
 ghost use Rattle.channel_table.specs.Opening.{AreAsked, Opens, OpensHost, OpensName, OpensText, itself, searched, with_second};
-ghost use Rattle.channel_table.specs.Sides.{new_side};
+ghost use Rattle.channel_table.specs.Lookups.{new_lookup};
 ghost use Rattle.channel_table.specs.Places.{Places};
 ghost use Rattle.channel_table.specs.Rows.{number_of};
 ghost use Rattle.addr_lookup.specs.Channels.{set_to};
@@ -13,12 +13,12 @@ ghost use Rattle.channel_model.specs.Seen.{Happens};
 ghost use Rattle.channel_table.specs.Tokens.{KeepsToken, seen};
 
 use super::Table;
-use super::moving::make_room;
+use super::journal_room::room_for_entry;
 use super::rows::Rows;
-use crate::aim::Aim;
-use crate::held_side::HeldSide;
+use crate::held_lookup::HeldLookup;
+use crate::lookup::{Asked, Lookup};
 use crate::row::{Row, ticket_of, ticket_with};
-use crate::side::{Asked, Side};
+use crate::wanted::Wanted;
 use addr_lookup::at_once;
 use chan_types::{
     Answer, Bytes, Call, Entry, NoMemory, Refusal, Script, Spec, Status, Ticket, Token, What,
@@ -68,7 +68,7 @@ impl<T: Token, J: ChannelJournal> Table<T, J> {
             });
         }
         let number = self.accepted + 1;
-        let aim = Aim::of(&spec);
+        let wanted = Wanted::of(&spec);
         let opening = opening_of(self.alloc, &self.options, &self.hosts, number, &spec);
         match prepare(
             self.alloc,
@@ -91,7 +91,7 @@ impl<T: Token, J: ChannelJournal> Table<T, J> {
                     &mut self.ready,
                     opening,
                     number,
-                    aim,
+                    wanted,
                     token,
                     call,
                 ) {
@@ -151,7 +151,7 @@ fn prepare<T: Token, J: ChannelJournal>(
     let script = token.script().copy(alloc)?;
     let call = Call::make(alloc)?;
     ready.reserve(rows + 1)?;
-    make_room(journal, rows + 1, ready.len())?;
+    room_for_entry(journal, rows + 1, ready.len())?;
     Ok(Prepared {
         opening,
         script,
@@ -169,13 +169,13 @@ fn place<T: Token>(
     ready: &mut VecDeque<Ticket<T>>,
     opening: Opening,
     number: u64,
-    aim: Aim,
+    wanted: Wanted,
     token: T,
     call: Call,
 ) -> Result<(), T>
     requires newer { AllByRecursion (λ n. n < number) (map number_of rows.old) }
     requires room_ready { length rows.old + deque_len ready.old + 1 ≤ deque_capacity ready.old }
-    ensures places { OnOk result (Places options.now.flags number aim token
+    ensures places { OnOk result (Places options.now.flags number wanted token
         rows.old rows.new ready.old.items ready.new.items opening) }
     ensures most { OnOk result (length rows.new ≤ length rows.old + 1) }
     ensures len { OnOk result
@@ -187,15 +187,15 @@ fn place<T: Token>(
     let leg = Leg::new(options);
     match opening {
         Opening::Asks(first, second) => {
-            let second = match second_side(alloc, number, second, leg) {
+            let second = match second_lookup(alloc, number, second, leg) {
                 Ok(second) => second,
                 Err(NoMemory) => return Err(token),
             };
             let row = Row {
                 number,
-                aim,
+                wanted,
                 empty: false,
-                first: Side::new(alloc, number, aim.first_number(), first, leg),
+                first: Lookup::new(alloc, number, wanted.first_number(), first, leg),
                 second,
                 token,
                 call,
@@ -223,19 +223,19 @@ fn place<T: Token>(
     }
 }
 
-/// The second side of a new request, if it asks a second question.
-fn second_side(
+/// The second lookup of a new request, if it asks a second question.
+fn second_lookup(
     alloc: Global,
     number: u64,
     asked: Option<Asked>,
     leg: Leg,
-) -> Result<Option<HeldSide>, NoMemory>
-    ensures { IfOk result (λ side. side ≡ option_map (λ asked. new_side number 1 asked leg) asked) }
+) -> Result<Option<HeldLookup>, NoMemory>
+    ensures { IfOk result (λ lookup. lookup ≡ option_map (λ asked. new_lookup number 1 asked leg) asked) }
 {
     match asked {
         Some(asked) => {
-            let side = HeldSide::of(alloc, Side::new(alloc, number, 1, asked, leg))?;
-            Ok(Some(side))
+            let lookup = HeldLookup::of(alloc, Lookup::new(alloc, number, 1, asked, leg))?;
+            Ok(Some(lookup))
         }
         None => Ok(None),
     }

@@ -5,16 +5,16 @@ ghost use Rattle.std.specs.List.{sum_by};
 ghost use Rattle.channel_model.specs.Meanings.{TellsCounts};
 ghost use Rattle.channel_model.specs.Seen.{Happens};
 ghost use Rattle.channel_table.specs.Tokens.{seen};
-ghost use Rattle.channel_table.specs.Listing.{has_left};
-ghost use Rattle.channel_table.specs.Sides.{is_flying, is_forced, waits};
+ghost use Rattle.channel_table.specs.Leaving.{has_left};
+ghost use Rattle.channel_table.specs.Lookups.{is_flying, is_forced, waits};
 ghost use Rattle.channel_table.specs.Sought.{is_sought, sought_in};
 ghost use Rattle.channel_table.specs.Tally.{HasMoved, IsTally, IsTallyLeft, Moves, no_tally, one_flying, one_waiting, tally_of};
 
 use super::Table;
-use super::listing::has_key;
+use super::channel_servers::has_key;
 use crate::held::{Held, row_at};
+use crate::lookup::Lookup;
 use crate::row::Row;
-use crate::side::Side;
 use chan_types::{ServerKey, Token};
 use channel_journal::ChannelJournal;
 use channel_model::Counts;
@@ -73,9 +73,9 @@ impl Tally {
         ensures { IsTally rows.now.items result }
     {
         Tally {
-            waiting: count_sides(rows, Sought::Waiting),
-            flying: count_sides(rows, Sought::Flying),
-            forced: count_sides(rows, Sought::Forced),
+            waiting: count_lookups(rows, Sought::Waiting),
+            flying: count_lookups(rows, Sought::Flying),
+            forced: count_lookups(rows, Sought::Forced),
         }
     }
 
@@ -124,7 +124,7 @@ pub fn tally_left<T: Token>(rows: &VecDeque<Held<T>>, index: usize, len: usize) 
     }
 }
 
-/// Which sides of the rows are counted.
+/// Which lookups of the rows are counted.
 #[derive(Clone, Copy)]
 pub enum Sought {
     /// Those whose leg waits.
@@ -138,31 +138,31 @@ pub enum Sought {
 }
 
 impl Sought {
-    /// The side is counted.
-    fn counts(self, side: &Side) -> bool
-        ensures { result ≡ is_sought self side.now }
+    /// The lookup is counted.
+    fn counts(self, lookup: &Lookup) -> bool
+        ensures { result ≡ is_sought self lookup.now }
     {
         match self {
-            Sought::Waiting => side.waits(),
-            Sought::Flying => side.is_flying(),
-            Sought::Forced => side.is_forced(),
-            Sought::Over(server, link) => side.flew_over(server, link),
+            Sought::Waiting => lookup.waits(),
+            Sought::Flying => lookup.is_flying(),
+            Sought::Forced => lookup.is_forced(),
+            Sought::Over(server, link) => lookup.flew_over(server, link),
         }
     }
 }
 
-/// The side has an attempt on a server that isn't in the list.
-pub fn has_left(side: &Side, list: &[ServerKey]) -> bool
-    ensures { result ≡ has_left list.now side.now }
+/// The lookup has an attempt on a server that isn't in the list.
+pub fn has_left(lookup: &Lookup, list: &[ServerKey]) -> bool
+    ensures { result ≡ has_left list.now lookup.now }
 {
-    match side.leg.phase {
+    match lookup.leg.phase {
         Phase::InFlight(flying) => !has_key(list, flying.server),
         Phase::Waiting | Phase::Ended(_) => false,
     }
 }
 
-/// How many sides of the rows are counted.
-pub fn count_sides<T: Token>(rows: &VecDeque<Held<T>>, sought: Sought) -> u64
+/// How many lookups of the rows are counted.
+pub fn count_lookups<T: Token>(rows: &VecDeque<Held<T>>, sought: Sought) -> u64
     ensures { result ≡ sum_by (sought_in sought) rows.now.items }
 {
     let mut count: u64 = 0;
@@ -172,45 +172,45 @@ pub fn count_sides<T: Token>(rows: &VecDeque<Held<T>>, sought: Sought) -> u64
     count
 }
 
-/// How many sides of the row are counted.
+/// How many lookups of the row are counted.
 pub fn count_in<T: Token>(row: &Row<T>, sought: Sought) -> u64
     ensures value { result ≡ sought_in sought row.now }
     ensures few { result ≤ 2 }
 {
     let first = sought.counts(&row.first);
     let second = match &row.second {
-        Some(side) => sought.counts(side.side()),
+        Some(lookup) => sought.counts(lookup.lookup()),
         None => false,
     };
     one_if(first) + one_if(second)
 }
 
-/// The row has a second side, whose leg waits.
+/// The row has a second lookup, whose leg waits.
 fn second_waits<T: Token>(row: &Row<T>) -> bool
     ensures { cond result 1 0 ≡ count_by waits (option_to_list row.now.second) }
 {
     match &row.second {
-        Some(side) => side.side().waits(),
+        Some(lookup) => lookup.lookup().waits(),
         None => false,
     }
 }
 
-/// The row has a second side, which has an attempt in flight.
+/// The row has a second lookup, which has an attempt in flight.
 fn second_flies<T: Token>(row: &Row<T>) -> bool
     ensures { cond result 1 0 ≡ count_by is_flying (option_to_list row.now.second) }
 {
     match &row.second {
-        Some(side) => side.side().is_flying(),
+        Some(lookup) => lookup.lookup().is_flying(),
         None => false,
     }
 }
 
-/// The row has a second side, whose leg has a server that its next attempt has to go to.
+/// The row has a second lookup, whose leg has a server that its next attempt has to go to.
 fn second_is_forced<T: Token>(row: &Row<T>) -> bool
     ensures { cond result 1 0 ≡ count_by is_forced (option_to_list row.now.second) }
 {
     match &row.second {
-        Some(side) => side.side().is_forced(),
+        Some(lookup) => lookup.lookup().is_forced(),
         None => false,
     }
 }

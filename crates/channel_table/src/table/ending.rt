@@ -9,9 +9,9 @@ ghost use Rattle.channel_model.specs.Seen.{Happens};
 ghost use Rattle.channel_table.specs.Tokens.{seen};
 
 use super::Table;
+use crate::concerned::Concerned;
 use crate::held::{Held, row_at, take_at};
 use crate::row::{Row, ticket_of};
-use crate::side::Hits;
 use chan_types::{Answer, Bytes, Entry, Status, Ticket, Token, What};
 use channel_journal::ChannelJournal;
 use channel_model::Judged;
@@ -104,7 +104,7 @@ pub fn end_row<T: Token>(
     rows: &mut VecDeque<Held<T>>,
     ready: &mut VecDeque<Ticket<T>>,
     index: usize,
-    concerned: Hits,
+    concerned: Concerned,
     judged: Judged,
     reply: Bytes,
     most: u32,

@@ -1,18 +1,15 @@
-//! A fault of a link: every attempt over it fails.
+//! The rows behind a fault of a link, by a look at each of them.
 
-ghost use Rattle.std.specs.List.{list_any};
-ghost use Rattle.std.specs.Prelude.{◌≡◌, ◌≢◌, ◌≤◌, ◌+◌, ◌==◌, if◌then◌else◌, IfOk, IsTrue, map};
+ghost use Rattle.std.specs.Prelude.{◌≡◌, ◌≤◌, ◌+◌, IfOk, map};
 ghost use Rattle.std.specs.VecDeque.{deque_capacity, deque_len};
-ghost use Rattle.query_machine.specs.Servers.{one_more, recounted};
-ghost use Rattle.channel_table.specs.Failing.{FailsOver, answer_over};
+ghost use Rattle.channel_table.specs.Faulting.{FailsOver, answer_over};
 
 use super::taking::pop_first;
+use crate::concerned::Concerned;
 use crate::held::{Held, row_at};
 use crate::row::{After, Row};
-use crate::side::Hits;
 use chan_types::{Answer, Bytes, NoMemory, Status, Ticket, Token};
 use channel_model::Judged;
-use query_machine::Servers;
 use resolv_options::Options;
 use std::alloc::Global;
 use std::collections::VecDeque;
@@ -53,7 +50,7 @@ pub fn answer_over<T: Token>(
     row.answer_behind(
         alloc,
         options,
-        Hits::Over(server, link),
+        Concerned::Over(server, link),
         Judged::Failed(Status::ConnRefused),
         &[],
         most,
@@ -91,7 +88,7 @@ pub fn fail_all<T: Token>(
         let failed = row.end_attempts(
             alloc,
             options,
-            Hits::Over(server, link),
+            Concerned::Over(server, link),
             Judged::Failed(Status::ConnRefused),
             Bytes::new(alloc),
             most,
@@ -103,14 +100,4 @@ pub fn fail_all<T: Token>(
         }
     }
     *rows = kept;
-}
-
-/// Counts a fault of this server's link over which so many attempts were in flight: they count as one, if there is one.
-pub fn count_fault(servers: &mut Servers, server: u32, count: u64)
-    requires there { count ≢ 0 → IsTrue (list_any (λ item. item.server == server) servers.old) }
-    ensures { servers.new ≡ (if count == 0 then servers.old else recounted server one_more servers.old) }
-{
-    if count != 0 {
-        servers.failed(server);
-    }
 }

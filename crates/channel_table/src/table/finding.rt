@@ -8,7 +8,7 @@ ghost use Rattle.channel_table.specs.Listed.{FindsIdleWith, FindsNumber, IsListe
 ghost use Rattle.channel_table.specs.Rows.{number_of};
 ghost use Rattle.channel_table.specs.Starting.{FindsIdle};
 
-use super::starting::{Idle, idle_side};
+use super::starting::{Idle, idle_lookup};
 use crate::held::{Held, row_at};
 use crate::row::Row;
 use chan_types::{Answer, NoMemory, Token};
@@ -107,7 +107,7 @@ fn middle_of(low: usize, high: usize) -> usize
     low + (high - low) / 2
 }
 
-/// The first side that waits. Requests of which none waits any longer leave those that wait, where they come first.
+/// The first lookup that waits. Requests of which none waits any longer leave those that wait, where they come first.
 #[inline(always)]
 pub fn first_idle<T: Token>(rows: &VecDeque<Held<T>>, waiting: &mut Waiting) -> Option<Idle>
     requires rising { IsRising (map number_of rows.now.items) }
@@ -141,14 +141,14 @@ pub fn leave_waiting<T: Token>(rows: &VecDeque<Held<T>>, index: usize, waiting: 
     }
 }
 
-/// The first side that waits of the request with this number.
+/// The first lookup that waits of the request with this number.
 #[inline(always)]
 fn idle_with<T: Token>(rows: &VecDeque<Held<T>>, number: u64) -> Option<Idle>
     requires { IsRising (map number_of rows.now.items) }
     ensures { FindsIdleWith number rows.now.items result }
 {
     let index = find_row(rows, number)?;
-    idle_side(row_at(rows, index), index)
+    idle_lookup(row_at(rows, index), index)
 }
 
 /// The key under which a request waits.
@@ -203,7 +203,7 @@ fn some_waits<T: Token>(row: &Row<T>) -> bool
 {
     row.first.waits()
         || match &row.second {
-            Some(side) => side.side().waits(),
+            Some(lookup) => lookup.lookup().waits(),
             None => false,
         }
 }

@@ -2,17 +2,18 @@
 
 ghost use Rattle.std.specs.FinMap as map;
 ghost use Rattle.std.specs.Prelude.{◌≡◌, [], false, filter_map, is_some, length, map, ℕ, IfOk, OnErr, OnOk};
-ghost use Rattle.channel_table.specs.Flown.{AreFlown, key_of_side};
-ghost use Rattle.channel_table.specs.Forgotten.{begun_flown, ended_of, forgotten, hits_second, left_of, left_second};
-ghost use Rattle.channel_table.specs.Failing.{answer_over, fails_at, kept_of};
-ghost use Rattle.channel_table.specs.Listing.{has_left, row_set};
-ghost use Rattle.channel_table.specs.Rows.{all_sides};
+ghost use Rattle.channel_table.specs.Flown.{AreFlown, key_of_lookup};
+ghost use Rattle.channel_table.specs.Forgotten.{begun_flown, ended_of, forgotten, concerns_second, left_of, left_second};
+ghost use Rattle.channel_table.specs.Faulting.{answer_over, fails_at, kept_of};
+ghost use Rattle.channel_table.specs.Leaving.{has_left, row_set};
+ghost use Rattle.channel_table.specs.Rows.{all_lookups};
 ghost use Rattle.resolv_options.specs.declared.options.Options.{Options};
 
 use super::counting::has_left;
+use crate::concerned::Concerned;
 use crate::held::{Held, row_at};
+use crate::lookup::Lookup;
 use crate::row::Row;
-use crate::side::{Hits, Side};
 use chan_types::{Answer, NoMemory, ServerKey, Token};
 use leg_index::Flights;
 use query_machine::Phase;
@@ -56,42 +57,47 @@ impl Flown {
         }
     }
 
-    /// Forgets the attempt of the side, if it has one. It takes no memory.
+    /// Forgets the attempt of the lookup, if it has one. It takes no memory.
     #[inline(always)]
-    fn forget(&mut self, side: &Side)
-        ensures { self.new ≡ forgotten side.now self.old }
+    fn forget(&mut self, lookup: &Lookup)
+        ensures { self.new ≡ forgotten lookup.now self.old }
     {
-        if let Phase::InFlight(flying) = side.leg.phase {
+        if let Phase::InFlight(flying) = lookup.leg.phase {
             self.flights.end(flying.id);
-            self.deadlines.drop_key(key_of_side(side));
+            self.deadlines.drop_key(key_of_lookup(lookup));
         }
     }
 
-    /// Forgets the attempts of the sides of the row for which this is so. It takes no memory.
+    /// Forgets the attempts of the lookups of the row for which this is so. It takes no memory.
     #[inline(always)]
-    fn forget_sides<T: Token>(&mut self, row: &Row<T>, first: bool, second: bool)
+    fn forget_lookups<T: Token>(&mut self, row: &Row<T>, first: bool, second: bool)
         ensures { self.new ≡ left_of first second row.now self.old }
     {
         if first {
             self.forget(&row.first);
         }
-        if let Some(side) = &row.second
+        if let Some(lookup) = &row.second
             && second
         {
-            self.forget(side.side());
+            self.forget(lookup.lookup());
         }
     }
 
     /// Forgets the attempts of the row that an entry concerns, and all of them where its current candidate then has an
     /// answer. It takes no memory.
     #[inline(always)]
-    pub fn forget_ended<T: Token>(&mut self, row: &Row<T>, concerned: Hits, answer: &Option<Answer>)
+    pub fn forget_ended<T: Token>(
+        &mut self,
+        row: &Row<T>,
+        concerned: Concerned,
+        answer: &Option<Answer>,
+    )
         ensures { self.new ≡ ended_of concerned (is_some answer.now) row.now self.old }
     {
         let all = answer.is_some();
         let first = all || concerned.concerns(&row.first, false);
         let second = all || concerns_second(row, concerned);
-        self.forget_sides(row, first, second);
+        self.forget_lookups(row, first, second);
     }
 
     /// Forgets the attempts of the row on servers that aren't in the list. It takes no memory.
@@ -101,16 +107,16 @@ impl Flown {
     {
         let first = has_left(&row.first, list);
         let second = second_left(row, list);
-        self.forget_sides(row, first, second);
+        self.forget_lookups(row, first, second);
     }
 }
 
-/// The entry concerns the second side of the row, if there is one.
-pub fn concerns_second<T: Token>(row: &Row<T>, concerned: Hits) -> bool
-    ensures { result ≡ hits_second concerned row.now.second }
+/// The entry concerns the second lookup of the row, if there is one.
+pub fn concerns_second<T: Token>(row: &Row<T>, concerned: Concerned) -> bool
+    ensures { result ≡ concerns_second concerned row.now.second }
 {
     match &row.second {
-        Some(side) => concerned.concerns(side.side(), true),
+        Some(lookup) => concerned.concerns(lookup.lookup(), true),
         None => false,
     }
 }
@@ -126,14 +132,14 @@ pub fn forget_over<T: Token>(
     requires { length answers.now ≡ length rows.now.items }
     ensures { (options : Options) (most : ℕ)
         → answers.now ≡ map (answer_over options server link most) rows.now.items
-        → AreFlown flown.old (all_sides rows.now.items)
+        → AreFlown flown.old (all_lookups rows.now.items)
         → AreFlown flown.new
-        (all_sides (filter_map kept_of (map (fails_at options server link most) rows.now.items))) }
+        (all_lookups (filter_map kept_of (map (fails_at options server link most) rows.now.items))) }
 {
     for index in 0..rows.len() {
         flown.forget_ended(
             row_at(rows, index),
-            Hits::Over(server, link),
+            Concerned::Over(server, link),
             &answers[index],
         );
     }
@@ -141,39 +147,39 @@ pub fn forget_over<T: Token>(
 
 /// Forgets the attempts on servers that aren't in the list. It takes no memory.
 pub fn forget_left<T: Token>(flown: &mut Flown, rows: &VecDeque<Held<T>>, list: &[ServerKey])
-    ensures { AreFlown flown.old (all_sides rows.now.items)
-        → AreFlown flown.new (all_sides (map (row_set list.now) rows.now.items)) }
+    ensures { AreFlown flown.old (all_lookups rows.now.items)
+        → AreFlown flown.new (all_lookups (map (row_set list.now) rows.now.items)) }
 {
     for index in 0..rows.len() {
         flown.forget_left(row_at(rows, index), list);
     }
 }
 
-/// The attempt of the second side of the row is on a server that isn't in the list.
+/// The attempt of the second lookup of the row is on a server that isn't in the list.
 pub fn second_left<T: Token>(row: &Row<T>, list: &[ServerKey]) -> bool
     ensures { result ≡ left_second list.now row.now.second }
 {
     match &row.second {
-        Some(side) => has_left(side.side(), list),
+        Some(lookup) => has_left(lookup.lookup(), list),
         None => false,
     }
 }
 
 /// Forgets all attempts of the rows. It takes no memory.
 pub fn forget_all<T: Token>(flown: &mut Flown, rows: &VecDeque<Held<T>>)
-    ensures { AreFlown flown.old (all_sides rows.now.items) → AreFlown flown.new [] }
+    ensures { AreFlown flown.old (all_lookups rows.now.items) → AreFlown flown.new [] }
 {
     for index in 0..rows.len() {
-        flown.forget_sides(row_at(rows, index), true, true);
+        flown.forget_lookups(row_at(rows, index), true, true);
     }
 }
 
-/// The key of a side's leg.
-pub fn key_of_side(side: &Side) -> Key
-    ensures { result ≡ key_of_side side.now }
+/// The key of a lookup's leg.
+pub fn key_of_lookup(lookup: &Lookup) -> Key
+    ensures { result ≡ key_of_lookup lookup.now }
 {
     Key {
-        number: side.number,
-        leg: side.leg_number,
+        number: lookup.number,
+        leg: lookup.leg_number,
     }
 }

@@ -5,15 +5,15 @@ ghost use Rattle.std.specs.VecDeque.{deque_capacity, deque_len};
 ghost use Rattle.channel_table.specs.Ends.{EndsRow};
 ghost use Rattle.channel_table.specs.Flown.{AreFlown};
 ghost use Rattle.channel_table.specs.Linked.{AreLinked};
-ghost use Rattle.channel_table.specs.Rows.{all_sides};
+ghost use Rattle.channel_table.specs.Rows.{all_lookups};
 ghost use Rattle.channel_table.specs.Tally.{IsTally};
 
 use super::counting::{Tally, tally_left};
 use super::ending::end_row;
 use super::flown::Flown;
 use super::linked::end_attempts;
+use crate::concerned::Concerned;
 use crate::held::{Held, row_at};
-use crate::side::Hits;
 use chan_types::{Answer, Bytes, Ticket, Token};
 use channel_model::Judged;
 use leg_index::Links;
@@ -34,7 +34,7 @@ pub fn end_found<T: Token>(
     tally: Tally,
     ready: &mut VecDeque<Ticket<T>>,
     index: usize,
-    concerned: Hits,
+    concerned: Concerned,
     judged: Judged,
     reply: Bytes,
     most: u32,
@@ -44,8 +44,8 @@ pub fn end_found<T: Token>(
     requires room { deque_len rows.old + deque_len ready.old ≤ deque_capacity ready.old }
     ensures ends { EndsRow options.now.flags concerned judged reply most answer index
         rows.old.items ready.old.items rows.new.items ready.new.items }
-    ensures flown { AreFlown flown.old (all_sides rows.old.items)
-        → AreFlown flown.new (all_sides rows.new.items) }
+    ensures flown { AreFlown flown.old (all_lookups rows.old.items)
+        → AreFlown flown.new (all_lookups rows.new.items) }
     ensures linked { AreLinked links.old rows.old.items → AreLinked links.new rows.new.items }
     ensures tally { IsTally rows.old.items tally → IsTally rows.new.items result }
     ensures fewer { deque_len rows.new ≤ deque_len rows.old }

@@ -3,13 +3,13 @@
 ghost use Rattle.std.specs.Prelude.{◌≡◌, if◌then◌else◌, Some, None, IfOk, is_some, option_map};
 ghost use Rattle.channel_model.specs.Flight.{answer_to, asked_with};
 ghost use Rattle.channel_model.specs.Verdict.{verdict_of};
-ghost use Rattle.channel_table.specs.Aims.{is_of_addresses};
+ghost use Rattle.channel_table.specs.Wants.{is_of_addresses};
 ghost use Rattle.channel_table.specs.Arriving.{RowFinds, judged_of, landing_of};
 ghost use Rattle.channel_table.specs.Strays.{id_of};
 
-use crate::aim::Aim;
+use crate::lookup::Lookup;
 use crate::row::Row;
-use crate::side::Side;
+use crate::wanted::Wanted;
 use chan_types::{NoMemory, Token};
 use channel_model::Judged;
 use dns_message::Question;
@@ -17,7 +17,7 @@ use query_machine::{Flying, Phase, Terms, judge};
 use resolv_options::Flags;
 use std::alloc::Global;
 
-/// The side that a message answers, and what that means for its leg.
+/// The lookup that a message answers, and what that means for its leg.
 #[derive(Clone, Copy, Debug, PartialEq, Eq)]
 pub struct Landing {
     pub index: usize,
@@ -27,7 +27,7 @@ pub struct Landing {
     pub judged: Judged,
 }
 
-/// The side of the row at this index that the message answers.
+/// The lookup of the row at this index that the message answers.
 #[inline(always)]
 pub fn row_landing<T: Token>(
     alloc: Global,
@@ -40,15 +40,15 @@ pub fn row_landing<T: Token>(
 ) -> Result<Option<Landing>, NoMemory>
     ensures { IfOk result (RowFinds flags server link bytes.now index row.now) }
 {
-    if let Some(judged) = judged_of(alloc, row.aim, &row.first, flags, server, link, bytes)? {
+    if let Some(judged) = judged_of(alloc, row.wanted, &row.first, flags, server, link, bytes)? {
         return Ok(Some(landing_of(&row.first, index, false, judged)));
     }
     let Some(second) = &row.second else {
         return Ok(None);
     };
-    let side = second.side();
-    match judged_of(alloc, row.aim, side, flags, server, link, bytes)? {
-        Some(judged) => Ok(Some(landing_of(side, index, true, judged))),
+    let lookup = second.lookup();
+    match judged_of(alloc, row.wanted, lookup, flags, server, link, bytes)? {
+        Some(judged) => Ok(Some(landing_of(lookup, index, true, judged))),
         None => Ok(None),
     }
 }
@@ -63,53 +63,53 @@ pub fn id_of(bytes: &[u8]) -> Option<u16>
     }
 }
 
-/// A side of the row at this index that a message answers, which means this.
+/// A lookup of the row at this index that a message answers, which means this.
 #[inline(always)]
-fn landing_of(side: &Side, index: usize, is_second: bool, judged: Judged) -> Landing
-    ensures { result ≡ landing_of index is_second judged side.now }
+fn landing_of(lookup: &Lookup, index: usize, is_second: bool, judged: Judged) -> Landing
+    ensures { result ≡ landing_of index is_second judged lookup.now }
 {
     Landing {
         index,
         is_second,
-        number: side.number,
-        leg_number: side.leg_number,
+        number: lookup.number,
+        leg_number: lookup.leg_number,
         judged,
     }
 }
 
-/// What the message means for the side's leg, where it answers its attempt and the answer is made of this.
+/// What the message means for the lookup's leg, where it answers its attempt and the answer is made of this.
 #[inline(always)]
 fn judged_of(
     alloc: Global,
-    aim: Aim,
-    side: &Side,
+    wanted: Wanted,
+    lookup: &Lookup,
     flags: Flags,
     server: u32,
     link: u64,
     bytes: &[u8],
 ) -> Result<Option<Judged>, NoMemory>
-    ensures { IfOk result (λ judged. judged ≡ judged_of flags server link bytes.now aim side.now) }
+    ensures { IfOk result (λ judged. judged ≡ judged_of flags server link bytes.now wanted lookup.now) }
 {
-    if !side.flew_over(server, link) {
+    if !lookup.flew_over(server, link) {
         return Ok(None);
     }
-    let Phase::InFlight(flying) = side.leg.phase else {
+    let Phase::InFlight(flying) = lookup.leg.phase else {
         return Ok(None);
     };
     let terms = Terms {
         flags,
         tcp: link != 0,
-        edns: side.leg.has_opt,
-        wanted: kind_wanted(aim, side.question.kind),
+        edns: lookup.leg.has_opt,
+        wanted: kind_wanted(wanted, lookup.question.kind),
     };
-    judged_by(alloc, &side.question, flying, bytes, terms)
+    judged_by(alloc, &lookup.question, flying, bytes, terms)
 }
 
 /// The kind of which an answer is wanted by a leg for records of a kind: for addresses that kind, else any.
-fn kind_wanted(aim: Aim, kind: u16) -> Option<u16>
-    ensures { result ≡ (if is_of_addresses aim then Some kind else None) }
+fn kind_wanted(wanted: Wanted, kind: u16) -> Option<u16>
+    ensures { result ≡ (if is_of_addresses wanted then Some kind else None) }
 {
-    if aim.is_of_addresses() {
+    if wanted.is_of_addresses() {
         Some(kind)
     } else {
         None

@@ -2,23 +2,25 @@
 
 ghost use Rattle.std.specs.FinSet as set;
 ghost use Rattle.std.specs.List.{sum_by};
-ghost use Rattle.std.specs.Prelude.{◌≡◌, ◌<◌, ◌^◌, false, true};
+ghost use Rattle.std.specs.Prelude.{◌≡◌, ◌<◌, ◌^◌, false, map, true};
 ghost use Rattle.std.specs.VecDeque.{deque_len};
 ghost use Rattle.channel_table.specs.Flown.{AreFlown};
 ghost use Rattle.channel_table.specs.Linked.{AreLinked, left_use};
 ghost use Rattle.channel_table.specs.Listed.{Keeps, key_of};
-ghost use Rattle.channel_table.specs.Listing.{SetsRow};
-ghost use Rattle.channel_table.specs.Rows.{all_sides};
+ghost use Rattle.channel_table.specs.Leaving.{SetsRow, kept_in, leg_set, row_set};
+ghost use Rattle.channel_table.specs.Rows.{all_lookups};
 ghost use Rattle.channel_table.specs.Tally.{IsTally};
 
+use super::channel_servers::has_key;
 use super::counting::Tally;
 use super::finding::key_of;
 use super::flown::Flown;
 use super::linked::end_left_in;
-use super::listing::{has_key, set_held};
 use crate::held::{Held, row_at};
+use crate::row::Row;
 use chan_types::{NoMemory, ServerKey, Token};
 use leg_index::{LinkUse, Links, Waiting};
+use query_machine::{Leg, Phase};
 use std::alloc::Global;
 use std::collections::VecDeque;
 
@@ -82,8 +84,8 @@ pub fn set_found<T: Token>(
 ) -> Tally
     requires { index < deque_len rows.old }
     ensures sets { SetsRow list.now index rows.old.items rows.new.items }
-    ensures flown { AreFlown flown.old (all_sides rows.old.items)
-        → AreFlown flown.new (all_sides rows.new.items) }
+    ensures flown { AreFlown flown.old (all_lookups rows.old.items)
+        → AreFlown flown.new (all_lookups rows.new.items) }
     ensures linked { AreLinked links.old rows.old.items → AreLinked links.new rows.new.items }
     ensures tally { IsTally rows.old.items tally → IsTally rows.new.items result }
     ensures len { deque_len rows.new ≡ deque_len rows.old }
@@ -103,4 +105,59 @@ fn set_at<T: Token>(rows: &mut VecDeque<Held<T>>, index: usize, list: &[ServerKe
     ensures len { deque_len rows.new ≡ deque_len rows.old }
 {
     set_held(&mut rows[index], list);
+}
+
+/// Makes the list that of the rows: attempts on servers that aren't in it end, and no such server is forced. It takes
+/// no memory.
+pub fn set_rows<T: Token>(rows: &mut VecDeque<Held<T>>, list: &[ServerKey])
+    ensures items { rows.new.items ≡ map (row_set list.now) rows.old.items }
+    ensures len { deque_len rows.new ≡ deque_len rows.old }
+{
+    for index in 0..rows.len() {
+        set_held(&mut rows[index], list);
+    }
+}
+
+/// The same for one of them.
+fn set_held<T: Token>(held: &mut Held<T>, list: &[ServerKey])
+    ensures { held.new ≡ row_set list.now held.old }
+{
+    set_row(&mut held.body, list);
+}
+
+/// The same for one row.
+fn set_row<T: Token>(row: &mut Row<T>, list: &[ServerKey])
+    ensures { row.new ≡ row_set list.now row.old }
+{
+    row.first.leg = set_leg(row.first.leg, list);
+    if let Some(lookup) = &mut row.second {
+        lookup.body.leg = set_leg(lookup.body.leg, list);
+    }
+}
+
+/// The leg behind a new list of servers.
+fn set_leg(leg: Leg, list: &[ServerKey]) -> Leg
+    ensures { result ≡ leg_set list.now leg }
+{
+    let mut leg = leg;
+    match leg.phase {
+        Phase::InFlight(flying) if !has_key(list, flying.server) => {
+            leg.phase = Phase::Waiting;
+            leg.forced = None;
+        }
+        Phase::Waiting | Phase::InFlight(_) | Phase::Ended(_) => {
+            leg.forced = kept_in(list, leg.forced);
+        }
+    }
+    leg
+}
+
+/// The server, if it is in the list.
+fn kept_in(list: &[ServerKey], server: Option<u32>) -> Option<u32>
+    ensures { result ≡ kept_in list.now server }
+{
+    match server {
+        Some(key) if has_key(list, key) => Some(key),
+        Some(_) | None => None,
+    }
 }

@@ -3,17 +3,18 @@
 ghost use Rattle.std.specs.FinMap as map;
 ghost use Rattle.std.specs.Prelude.{◌≡◌, ◌+◌, ◌-◌, ◌<◌, ◌^◌, cond, false, filter_map, is_some, length, map, ℕ, OnErr, OnOk};
 ghost use Rattle.leg_index.specs.Links.{is_link, used};
-ghost use Rattle.channel_table.specs.Failing.{answer_over, fails_at, kept_of};
+ghost use Rattle.channel_table.specs.Faulting.{answer_over, fails_at, kept_of};
 ghost use Rattle.channel_table.specs.Forgotten.{begun_flown};
-ghost use Rattle.channel_table.specs.Linked.{AreLinked, over_ended, over_left, over_of, over_sides};
-ghost use Rattle.channel_table.specs.Listing.{row_set};
+ghost use Rattle.channel_table.specs.Linked.{AreLinked, over_ended, over_left, over_of, over_lookups};
+ghost use Rattle.channel_table.specs.Leaving.{row_set};
 ghost use Rattle.resolv_options.specs.declared.options.Options.{Options};
 
 use super::counting::has_left;
 use super::flown::{Flown, concerns_second, second_left};
+use crate::concerned::Concerned;
 use crate::held::{Held, row_at};
+use crate::lookup::Lookup;
 use crate::row::Row;
-use crate::side::{Hits, Side};
 use chan_types::{Answer, NoMemory, ServerKey, Token};
 use leg_index::Links;
 use query_machine::Phase;
@@ -49,29 +50,29 @@ pub fn add_attempt(
     }
 }
 
-/// The attempt of the side, if it has one, is in flight no longer. It takes no memory.
-fn end_side(links: &mut Links, side: &Side)
+/// The attempt of the lookup, if it has one, is in flight no longer. It takes no memory.
+fn end_lookup(links: &mut Links, lookup: &Lookup)
     ensures { (server link : ℕ)
-        → used server link links.new ≡ used server link links.old - over_of server link side.now }
+        → used server link links.new ≡ used server link links.old - over_of server link lookup.now }
 {
-    if let Phase::InFlight(flying) = side.leg.phase {
+    if let Phase::InFlight(flying) = lookup.leg.phase {
         links.end(flying.server, flying.link, flying.id);
     }
 }
 
-/// The same of the sides of the row for which this is so. It takes no memory.
+/// The same of the lookups of the row for which this is so. It takes no memory.
 #[inline(always)]
-fn end_sides<T: Token>(links: &mut Links, row: &Row<T>, first: bool, second: bool)
+fn end_lookups<T: Token>(links: &mut Links, row: &Row<T>, first: bool, second: bool)
     ensures { (server link : ℕ) → used server link links.new
-        ≡ used server link links.old - over_sides first second server link row.now }
+        ≡ used server link links.old - over_lookups first second server link row.now }
 {
     if first {
-        end_side(links, &row.first);
+        end_lookup(links, &row.first);
     }
-    if let Some(side) = &row.second
+    if let Some(lookup) = &row.second
         && second
     {
-        end_side(links, side.side());
+        end_lookup(links, lookup.lookup());
     }
 }
 
@@ -81,7 +82,7 @@ fn end_sides<T: Token>(links: &mut Links, row: &Row<T>, first: bool, second: boo
 pub fn end_attempts<T: Token>(
     links: &mut Links,
     row: &Row<T>,
-    concerned: Hits,
+    concerned: Concerned,
     answer: &Option<Answer>,
 )
     ensures { (server link : ℕ) → used server link links.new
@@ -90,7 +91,7 @@ pub fn end_attempts<T: Token>(
     let all = answer.is_some();
     let first = all || concerned.concerns(&row.first, false);
     let second = all || concerns_second(row, concerned);
-    end_sides(links, row, first, second);
+    end_lookups(links, row, first, second);
 }
 
 /// Those that went to this server over this link are in flight no longer, and none of a row with an answer. It takes no
@@ -113,7 +114,7 @@ pub fn end_over<T: Token>(
         end_attempts(
             links,
             row_at(rows, index),
-            Hits::Over(server, link),
+            Concerned::Over(server, link),
             &answers[index],
         );
     }
@@ -134,7 +135,7 @@ pub fn end_left_in<T: Token>(links: &mut Links, row: &Row<T>, list: &[ServerKey]
     ensures { (server link : ℕ) → used server link links.new
         ≡ used server link links.old - over_left list.now server link row.now }
 {
-    end_sides(
+    end_lookups(
         links,
         row,
         has_left(&row.first, list),

@@ -6,13 +6,13 @@ ghost use Rattle.std.specs.VecDeque.{deque_capacity, deque_len};
 ghost use Rattle.chan_types.specs.declared.status.Status.TheVariants.{ConnRefused};
 ghost use Rattle.channel_model.specs.declared.judged.Judged.TheVariants.{Failed};
 ghost use Rattle.channel_table.specs.Ends.{EndsRow};
-ghost use Rattle.channel_table.specs.Failing.{AreMarked, FailsOver, IsUnanswered};
+ghost use Rattle.channel_table.specs.Faulting.{AreMarked, FailsOver, IsUnanswered};
 ghost use Rattle.channel_table.specs.Flown.{AreFlown};
 ghost use Rattle.channel_table.specs.Linked.{AreLinked};
 ghost use Rattle.channel_table.specs.Listed.{IsListedOver, IsRising, Keeps};
-ghost use Rattle.channel_table.specs.Rows.{all_sides, number_of, over_in};
+ghost use Rattle.channel_table.specs.Rows.{all_lookups, number_of, over_in};
 ghost use Rattle.channel_table.specs.Tally.{IsTally};
-ghost use Rattle.channel_table.specs.declared.side.Hits.TheVariants.{Over};
+ghost use Rattle.channel_table.specs.declared.concerned.Concerned.TheVariants.{Over};
 
 use super::counting::{Sought, Tally, count_in};
 use super::failing::answer_over;
@@ -20,8 +20,8 @@ use super::finding::{find_row, key_of};
 use super::flown::Flown;
 use super::found::end_found;
 use super::taking::pop_first;
+use crate::concerned::Concerned;
 use crate::held::{Held, row_at};
-use crate::side::Hits;
 use chan_types::{Answer, Bytes, NoMemory, Status, Ticket, Token};
 use channel_model::Judged;
 use leg_index::{Flights, Links, Waiting};
@@ -136,8 +136,8 @@ pub fn fail_marked<T: Token>(
     requires room { deque_len rows.old + deque_len ready.old ≤ deque_capacity ready.old }
     ensures fails { FailsOver options.now server link most rows.old.items ready.old.items
         rows.new.items ready.new.items }
-    ensures flown { AreFlown flown.old (all_sides rows.old.items)
-        → AreFlown flown.new (all_sides rows.new.items) }
+    ensures flown { AreFlown flown.old (all_lookups rows.old.items)
+        → AreFlown flown.new (all_lookups rows.new.items) }
     ensures linked { AreLinked links.old rows.old.items → AreLinked links.new rows.new.items }
     ensures tally { IsTally rows.old.items tally.old → IsTally rows.new.items tally.new }
     ensures fewer { deque_len rows.new ≤ deque_len rows.old }
@@ -185,8 +185,8 @@ fn fail_next<T: Token>(
     requires room { deque_len rows.old + deque_len ready.old ≤ deque_capacity ready.old }
     ensures ends { EndsRow options.now.flags (Over server link) (Failed ConnRefused) [] most answer index
         rows.old.items ready.old.items rows.new.items ready.new.items }
-    ensures flown { AreFlown flown.old (all_sides rows.old.items)
-        → AreFlown flown.new (all_sides rows.new.items) }
+    ensures flown { AreFlown flown.old (all_lookups rows.old.items)
+        → AreFlown flown.new (all_lookups rows.new.items) }
     ensures linked { AreLinked links.old rows.old.items → AreLinked links.new rows.new.items }
     ensures tally { IsTally rows.old.items tally.old → IsTally rows.new.items tally.new }
     ensures stays { deque_len rows.new ≡ deque_len rows.old → result ≡ index + 1 }
@@ -205,7 +205,7 @@ fn fail_next<T: Token>(
         *tally,
         ready,
         index,
-        Hits::Over(server, link),
+        Concerned::Over(server, link),
         Judged::Failed(Status::ConnRefused),
         Bytes::new(alloc),
         most,

@@ -12,28 +12,28 @@ ghost use Rattle.channel_table.specs.Arriving.{Finds};
 ghost use Rattle.channel_table.specs.Ends.{EndsRow};
 ghost use Rattle.channel_table.specs.Linked.{HasOneLink};
 ghost use Rattle.channel_table.specs.Listed.{key_of};
-ghost use Rattle.channel_table.specs.Rows.{ended_with, flying_in, number_of, sides, row_over, waiting_in};
-ghost use Rattle.channel_table.specs.Sides.{is_flying};
+ghost use Rattle.channel_table.specs.Rows.{ended_with, flying_in, number_of, lookups, row_over, waiting_in};
+ghost use Rattle.channel_table.specs.Lookups.{is_flying};
 ghost use Rattle.channel_table.specs.Soonest.{IsSoonest, dues};
 ghost use Rattle.channel_table.specs.Starting.{BeginsRow, FindsIdle, IsFree, WaitsAt, row_has_id, row_links};
 ghost use Rattle.channel_table.specs.Strays.{IsNumbered, IsOnlyWith, id_of};
 
-mod failing;
-mod listing;
+mod new_list;
+mod over_link;
 
 use super::counting::Tally;
 use super::ending::complete_all;
 use super::finding::{find_row, first_idle, key_of, leave_waiting, list_all, list_staying};
-use super::flown::{Flown, forget_all, key_of_side};
+use super::flown::{Flown, forget_all, key_of_lookup};
 use super::found::end_found;
 use super::landing::{Landing, id_of, row_landing};
 use super::linked::add_attempt;
 use super::marking::are_few;
-use super::seeking::{Soonest, find_soonest, side_due};
+use super::seeking::{Soonest, find_soonest, lookup_due};
 use super::starting::{Idle, begin, find_idle};
+use crate::concerned::Concerned;
 use crate::held::{Held, row_at};
 use crate::row::Row;
-use crate::side::Hits;
 use chan_types::{Answer, Bytes, NoMemory, Status, Ticket, Token};
 use channel_model::Judged;
 use leg_index::{Links, Waiting};
@@ -107,7 +107,7 @@ impl<T: Token> Rows<T> {
     #[inline(always)]
     pub fn push(&mut self, row: Row<T>) -> Result<(), Row<T>>
         requires newer { AllByRecursion (λ n. n < row.number) (map number_of self.old) }
-        requires idle { AllByRecursion (λ side. is_flying side ≡ false) (sides row) }
+        requires idle { AllByRecursion (λ lookup. is_flying lookup ≡ false) (lookups row) }
         ensures ok { OnOk result (self.new ≡ self.old ++ row ∷ []) }
         ensures err { OnErr result (self.new ≡ self.old) }
         ensures back { IfErr result (λ given. given ≡ row) }
@@ -115,7 +115,7 @@ impl<T: Token> Rows<T> {
         let number = row.number;
         let more = Tally::of_row(&row);
         let held = Held::of(*self.list.allocator(), row)?;
-        match make_room(&mut self.list, &mut self.waiting, number) {
+        match room_for_row(&mut self.list, &mut self.waiting, number) {
             Ok(()) => {
                 self.list.push_back_reserved(held);
                 self.tally = self.tally.moved(Tally::none(), more);
@@ -125,7 +125,7 @@ impl<T: Token> Rows<T> {
         }
     }
 
-    /// The first side that waits.
+    /// The first lookup that waits.
     #[inline(always)]
     pub fn find_idle(&mut self) -> Option<Idle>
         ensures found { FindsIdle self.old result }
@@ -160,7 +160,7 @@ impl<T: Token> Rows<T> {
         self.links.over_tcp(server)
     }
 
-    /// Begins an attempt of this side of the row at this index, which is given so long.
+    /// Begins an attempt of this lookup of the row at this index, which is given so long.
     #[inline(always)]
     pub fn begin(
         &mut self,
@@ -182,7 +182,7 @@ impl<T: Token> Rows<T> {
         ensures err { OnErr result (self.new ≡ self.old) }
         ensures len { length self.new ≡ length self.old }
     {
-        let leg = key_of_side(row_at(&self.list, index).side(is_second));
+        let leg = key_of_lookup(row_at(&self.list, index).lookup(is_second));
         let due = at.saturating_add(wait);
         add_attempt(&mut self.flown, &mut self.links, leg, server, link, id, due)?;
         begin(
@@ -201,8 +201,8 @@ impl<T: Token> Rows<T> {
         Ok(())
     }
 
-    /// The side whose attempt the message from this server over this link answers: one of the only request that has an
-    /// attempt with the message's identifier.
+    /// The lookup whose attempt the message from this server over this link answers: one of the only request that has
+    /// an attempt with the message's identifier.
     #[inline(always)]
     pub fn find_landing(
         &self,
@@ -275,19 +275,19 @@ impl<T: Token> Rows<T> {
     pub fn find_soonest(&self) -> Option<Soonest>
         ensures { IsSoonest self.now result }
     {
-        if let Some(found) = self.first_side() {
+        if let Some(found) = self.first_lookup() {
             return Some(found);
         }
         find_soonest(&self.list)
     }
 
     /// The first attempt, by the first deadline that is kept.
-    fn first_side(&self) -> Option<Soonest>
+    fn first_lookup(&self) -> Option<Soonest>
         ensures { IfSome result (λ found. IsSoonest self.now (Some found)) }
     {
         let (leg, due) = self.flown.deadlines.first_due()?;
         let index = find_row(&self.list, leg.number)?;
-        side_due(row_at(&self.list, index), index, leg, due)
+        lookup_due(row_at(&self.list, index), index, leg, due)
     }
 
     /// Puts the attempts into the map that finds them, where many are about to be looked for out of their order.
@@ -337,7 +337,7 @@ impl<T: Token> Rows<T> {
         options: &Options,
         ready: &mut VecDeque<Ticket<T>>,
         index: usize,
-        concerned: Hits,
+        concerned: Concerned,
         judged: Judged,
         reply: Bytes,
         most: u32,
@@ -389,7 +389,7 @@ impl<T: Token> Rows<T> {
 }
 
 /// Room for a request of this number, which is among those that wait then.
-fn make_room<T: Token>(
+fn room_for_row<T: Token>(
     rows: &mut VecDeque<Held<T>>,
     waiting: &mut Waiting,
     number: u64,

@@ -1,7 +1,7 @@
 //! What is due first, and whether a link is busy.
 
 ghost use Rattle.std.specs.Prelude.{◌≡◌, ◌<◌, IfSome};
-ghost use Rattle.channel_table.specs.DueSides.{IsDueOf, due_side, is_due};
+ghost use Rattle.channel_table.specs.DueLookups.{IsDueOf, due_lookup, is_due};
 ghost use Rattle.channel_model.specs.Meanings.{TellsBusy, TellsDue};
 ghost use Rattle.channel_model.specs.Seen.{Happens};
 ghost use Rattle.channel_table.specs.Tokens.{seen};
@@ -9,8 +9,8 @@ ghost use Rattle.channel_table.specs.Soonest.{IsSoonest, is_sooner, sooner, soon
 
 use super::Table;
 use crate::held::{Held, row_at};
+use crate::lookup::Lookup;
 use crate::row::Row;
-use crate::side::Side;
 use chan_types::Token;
 use channel_journal::ChannelJournal;
 use query_machine::Phase;
@@ -33,7 +33,7 @@ impl<T: Token, J: ChannelJournal> Table<T, J> {
     }
 }
 
-/// An attempt in flight: its row, which side of it, when it is due, its request, and its leg.
+/// An attempt in flight: its row, which lookup of it, when it is due, its request, and its leg.
 #[derive(Clone, Copy, Debug, PartialEq, Eq)]
 pub struct Soonest {
     pub index: usize,
@@ -60,24 +60,24 @@ fn sooner_row<T: Token>(best: Option<Soonest>, index: usize, row: &Row<T>) -> Op
 {
     let best = sooner(best, index, false, &row.first);
     match &row.second {
-        Some(side) => sooner(best, index, true, side.side()),
+        Some(lookup) => sooner(best, index, true, lookup.lookup()),
         None => best,
     }
 }
 
-/// The sooner of the best attempt so far and that of one more side.
-fn sooner(best: Option<Soonest>, index: usize, is_second: bool, side: &Side) -> Option<Soonest>
-    ensures { result ≡ sooner best index is_second side.now }
+/// The sooner of the best attempt so far and that of one more lookup.
+fn sooner(best: Option<Soonest>, index: usize, is_second: bool, lookup: &Lookup) -> Option<Soonest>
+    ensures { result ≡ sooner best index is_second lookup.now }
 {
-    let Phase::InFlight(flying) = side.leg.phase else {
+    let Phase::InFlight(flying) = lookup.leg.phase else {
         return best;
     };
     let next = Soonest {
         index,
         is_second,
         at: flying.due,
-        number: side.number,
-        leg_number: side.leg_number,
+        number: lookup.number,
+        leg_number: lookup.leg_number,
     };
     match best {
         None => Some(next),
@@ -101,22 +101,24 @@ fn is_sooner(next: Soonest, first: Soonest) -> bool
                 || (next.number == first.number && next.leg_number < first.leg_number)))
 }
 
-/// The side of the row at this index whose leg this is, if its attempt is due at this moment.
-pub fn side_due<T: Token>(row: &Row<T>, index: usize, leg: Key, due: u64) -> Option<Soonest>
+/// The lookup of the row at this index whose leg this is, if its attempt is due at this moment.
+pub fn lookup_due<T: Token>(row: &Row<T>, index: usize, leg: Key, due: u64) -> Option<Soonest>
     ensures { IfSome result (IsDueOf index row.now leg due) }
 {
     if is_due(&row.first, leg, due) {
-        return Some(due_side(index, false, leg, due));
+        return Some(due_lookup(index, false, leg, due));
     }
     match &row.second {
-        Some(side) if is_due(side.side(), leg, due) => Some(due_side(index, true, leg, due)),
+        Some(lookup) if is_due(lookup.lookup(), leg, due) => Some(due_lookup(
+            index, true, leg, due,
+        )),
         Some(_) | None => None,
     }
 }
 
 /// This leg's attempt, which is due at this moment.
-fn due_side(index: usize, is_second: bool, leg: Key, due: u64) -> Soonest
-    ensures { result ≡ due_side index is_second leg due }
+fn due_lookup(index: usize, is_second: bool, leg: Key, due: u64) -> Soonest
+    ensures { result ≡ due_lookup index is_second leg due }
 {
     Soonest {
         index,
@@ -127,13 +129,13 @@ fn due_side(index: usize, is_second: bool, leg: Key, due: u64) -> Soonest
     }
 }
 
-/// The side's leg is this one, and its attempt is due at this moment.
-fn is_due(side: &Side, leg: Key, due: u64) -> bool
-    ensures { result ≡ is_due leg due side.now }
+/// The lookup's leg is this one, and its attempt is due at this moment.
+fn is_due(lookup: &Lookup, leg: Key, due: u64) -> bool
+    ensures { result ≡ is_due leg due lookup.now }
 {
-    side.number == leg.number
-        && side.leg_number == leg.leg
-        && match side.leg.phase {
+    lookup.number == leg.number
+        && lookup.leg_number == leg.leg
+        && match lookup.leg.phase {
             Phase::InFlight(flying) => flying.due == due,
             Phase::Waiting | Phase::Ended(_) => false,
         }

@@ -1,5 +1,6 @@
 use Rattle.std.proofs.Common.{Ok, refl}
-use Rattle.adig_tool.proofs.RunningLemmas.{early_run, failed_apart, fault_run, large_apart, read_run, wanting_run}
+use Rattle.tool_line.proofs.FileLemmas.{failed_apart, large_apart}
+use Rattle.adig_tool.proofs.RunningLemmas.{early_run, fault_run, read_run, wanting_run}
 use Rattle.adig_tool.proofs.asking.ask.Goals as goal
 
 -- ---- want of memory

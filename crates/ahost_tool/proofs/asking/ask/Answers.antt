@@ -1,6 +1,7 @@
 use Rattle.std.proofs.Common.{None, ap}
+use Rattle.tool_line.proofs.FileLemmas.{failed_apart, large_apart}
 use Rattle.ahost_tool.proofs.PlaceLemmas.{none_back}
-use Rattle.ahost_tool.proofs.RunningLemmas.{failed_apart, fault_run, good_run, large_apart, wanting_run}
+use Rattle.ahost_tool.proofs.RunningLemmas.{fault_run, good_run, wanting_run}
 use Rattle.ahost_tool.proofs.asking.ask.Goals as goal
 
 -- the files were read

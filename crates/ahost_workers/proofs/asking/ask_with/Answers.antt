@@ -1,4 +1,4 @@
-use Rattle.ahost_tool.proofs.Theorems.{failed_apart, large_apart}
+use Rattle.tool_line.proofs.FileLemmas.{failed_apart, large_apart}
 use Rattle.ahost_workers.proofs.RunLemmas.{fault_run, good_run, wanting_run}
 use Rattle.ahost_workers.proofs.asking.ask_with.Goals as goal
 

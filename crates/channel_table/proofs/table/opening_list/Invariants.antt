@@ -1,5 +1,4 @@
-use Rattle.std.proofs.Common.{◌≡◌, take}
-use Rattle.channel_model.specs.Servers.{keyed_from}
+use Rattle.channel_table.proofs.Base.{◌≡◌, take, keyed_from}
 use Rattle.channel_table.proofs.table.opening_list.Given as goal
 
 -- the servers before this index have their keys

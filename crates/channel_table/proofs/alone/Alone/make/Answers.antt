@@ -1,6 +1,5 @@
-use Rattle.std.proofs.Common.{◌∙◌, ap}
+use Rattle.channel_table.proofs.Base.{◌∙◌, ap, owned}
 use Rattle.channel_table.proofs.Desks.{owned_empty}
-use Rattle.channel_table.specs.Calling.{owned}
 use Rattle.channel_table.proofs.alone.Alone.make.Goals as goal
 
 pub returns : goal.returns

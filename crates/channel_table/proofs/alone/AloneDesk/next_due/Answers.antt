@@ -1,4 +1,4 @@
-use Rattle.std.proofs.Common.{refl}
+use Rattle.channel_table.proofs.Base.{refl}
 use Rattle.channel_table.proofs.Desks.{due_alone}
 use Rattle.channel_table.proofs.alone.AloneDesk.next_due.Goals as goal
 

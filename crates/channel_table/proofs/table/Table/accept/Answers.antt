@@ -1,17 +1,8 @@
-use Rattle.std.proofs.Common.{refl, sym, subst, arith, ◌≡◌, ◌∙◌, ◌+◌, Ok, Result, [], ◌∷◌, ◌++◌, length}
-use Rattle.std.specs.Prelude.{IfOk}
-use Rattle.chan_types.specs.declared.journal.Entry.{Entry}
-use Rattle.chan_types.specs.declared.journal.What.TheVariants.{Accept}
-use Rattle.channel_model.specs.Journal.{Past, accepted, past_of}
+use Rattle.channel_table.proofs.Base.{refl, sym, subst, arith, ◌≡◌, ◌∙◌, ◌+◌, Ok, Result, [], ◌∷◌, ◌++◌, length, IfOk, Entry, Accept, Past, accepted, past_of, setting_of, Opens, Opening, NoMemory, Accepts}
 use Rattle.channel_table.proofs.Counting.{counted_kept}
 use Rattle.channel_table.proofs.Keeping.{few_closed, happens_one, kept_more, one_more_accepted}
 use Rattle.channel_table.proofs.Newest.{all_older}
 use Rattle.channel_table.proofs.Opening.{placed}
-use Rattle.channel_table.specs.Kept.{setting_of}
-use Rattle.channel_table.specs.Opening.{Opens}
-use Rattle.channel_table.specs.declared.table.accepting.Opening.{Opening}
-use Rattle.item_list.specs.declared.no_memory.NoMemory.{NoMemory}
-use Rattle.channel_model.specs.Meanings.{Accepts}
 use Rattle.channel_table.proofs.PlacedTokens.{tokens_placed}
 use Rattle.channel_table.proofs.table.Table.accept.Goals as goal
 
@@ -29,8 +20,8 @@ invariant_of-self g c =
     let entry : Entry = record { seat = c.args.seat; by = c.args.by; what = Accept (c.self.inside.accepted + 1) c.args.spec (g.T.Token.plan c.args.token) } in
     kept_more g.T.Token.plan g.J.ChannelJournal.told g.J.ChannelJournal.room c.self.inside _ entry refl (rw (c.add.ensures.told, p.same.0, p.script) refl) c.self.invariant (c.self.invariant.destroyed ∙ c.if-self.false, next)
     (placed g.T.Token.plan (setting_of c.self.inside) past c.args.spec c.args.token (c.self.inside.accepted + 1) c.self.invariant.limits c.self.invariant.lawful.allowed next c.self.inside.rows c.self.inside.ready.items c.in-Ok.prepared.opening
-    c.place.new.rows c.place.new.ready.items opens (rw (c.of-aim.ensures, p.same.1) at c.in-Ok-place.ensures.places) c.self.invariant.stands)
-    (counted_kept (setting_of c.self.inside) (Accept (c.self.inside.accepted + 1) c.args.spec (g.T.Token.plan c.args.token)) past c.self.inside.list c.self.inside.servers c.self.inside.greatest_key c.self.inside.greatest_link c.self.inside.started c.self.invariant.counted refl refl (λ a flies. refl))
+    c.place.new.rows c.place.new.ready.items opens (rw (c.of-wanted.ensures, p.same.1) at c.in-Ok-place.ensures.places) c.self.invariant.stands)
+    (counted_kept (setting_of c.self.inside) (Accept (c.self.inside.accepted + 1) c.args.spec (g.T.Token.plan c.args.token)) past c.self.invariant.counted refl refl (λ a flies. refl))
     (one_more_accepted (c.self.inside.accepted + 1) c.args.spec (g.T.Token.plan c.args.token) past ∙ sym next)
     c.self.invariant.destroyed
     (omega arith) (omega arith) (omega arith)
@@ -56,4 +47,4 @@ returns-in-Ok-place-clause-tokens g c =
     let opens : Opens (setting_of c.self.inside) (c.self.inside.accepted + 1) c.args.spec c.in-Ok.prepared.opening =
     subst (λ (r : Result Opening NoMemory). IfOk r (Opens (setting_of c.self.inside) (c.self.inside.accepted + 1) c.args.spec)) p.opening c.opening_of-opening.ensures in
     rw (← c.self.view_is) (tokens_placed g.T.Token.plan (setting_of c.self.inside) past c.self.invariant.lawful.allowed (c.self.inside.accepted + 1) next c.args.token c.self.inside.rows c.place.new.rows c.self.inside.ready.items c.place.new.ready.items c.self.invariant.stands
-    c.self.inside.options.flags c.args.spec c.in-Ok.prepared.opening opens (rw (c.of-aim.ensures, p.same.1) at c.in-Ok-place.ensures.places))
+    c.self.inside.options.flags c.args.spec c.in-Ok.prepared.opening opens (rw (c.of-wanted.ensures, p.same.1) at c.in-Ok-place.ensures.places))

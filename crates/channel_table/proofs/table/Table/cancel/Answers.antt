@@ -1,15 +1,7 @@
-use Rattle.std.proofs.Common.{refl, ap, arith, ◌≡◌, ◌∙◌, length, ne_eqb}
-use Rattle.std.specs.Prelude.{◌≢◌}
-use Rattle.chan_types.specs.declared.journal.What.TheVariants.{Cancel}
-use Rattle.chan_types.specs.declared.status.Status.TheVariants.{Cancelled}
-use Rattle.channel_model.specs.Completion.{pending}
-use Rattle.channel_model.specs.Journal.{Past, past_of}
+use Rattle.channel_table.proofs.Base.{refl, ap, arith, ◌≡◌, ◌∙◌, length, ne_eqb, ◌≢◌, Cancel, Cancelled, pending, Past, past_of, setting_of, Cancels, number_of}
 use Rattle.channel_table.proofs.Counting.{counted_unjudged}
 use Rattle.channel_table.proofs.Keeping.{happens_one, kept_more, no_more, pending_count, some_pending}
 use Rattle.channel_table.proofs.TableSteps.{table_ended}
-use Rattle.channel_table.specs.Kept.{setting_of}
-use Rattle.channel_model.specs.Meanings.{Cancels}
-use Rattle.channel_table.specs.Rows.{number_of}
 use Rattle.channel_table.proofs.TokenLemmas.{each_off, tokens_ended}
 use Rattle.channel_table.proofs.table.Table.cancel.Goals as goal
 
@@ -21,7 +13,7 @@ invariant_of-self g c =
     kept_more g.T.Token.plan g.J.ChannelJournal.told g.J.ChannelJournal.room c.self.inside _ _ refl c.add.ensures.told c.self.invariant
     (some_pending number_of (pending (setting_of c.self.inside) past) c.self.inside.rows c.self.invariant.stands.stand.pending_are some)
     (rw (c.complete_all.ensures.none, c.complete_all.ensures.tickets) ended)
-    (counted_unjudged (setting_of c.self.inside) Cancel past c.self.inside.list c.self.inside.servers c.self.inside.greatest_key c.self.inside.greatest_link c.self.inside.started c.self.invariant.counted refl refl (λ a earlier. refl))
+    (counted_unjudged (setting_of c.self.inside) Cancel past c.self.invariant.counted refl refl (λ a earlier. refl))
     (no_more Cancel past refl ∙ c.self.invariant.accepts) c.self.invariant.destroyed
     (omega arith) (omega arith) (omega arith)
     _ _ c.self.invariant.room c.self.invariant.fits c.add.ensures.room (omega (arith, c.if-count-eq0.false, c.len-count.ensures, c.complete_all.ensures.ready_len, ap length c.complete_all.ensures.none))

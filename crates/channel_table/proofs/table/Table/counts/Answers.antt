@@ -1,13 +1,6 @@
-use Rattle.std.proofs.Common.{refl, sym, arith, ◌≡◌, ◌∙◌, length}
-use Rattle.channel_model.specs.Completion.{pending, ready, waiting}
-use Rattle.channel_model.specs.Flight.{in_flight}
-use Rattle.channel_model.specs.Journal.{Past, past_of}
-use Rattle.channel_model.specs.Setting.{Setting}
+use Rattle.channel_table.proofs.Base.{refl, sym, arith, ◌≡◌, ◌∙◌, length, pending, ready, waiting, in_flight, Past, past_of, Setting, setting_of, TellsCounts, number_of, ticket_number}
 use Rattle.channel_table.proofs.Keeping.{happens_nothing, pending_count}
 use Rattle.channel_table.proofs.Telling.{flying_rows, waiting_rows_count}
-use Rattle.channel_table.specs.Kept.{setting_of}
-use Rattle.channel_model.specs.Meanings.{TellsCounts}
-use Rattle.channel_table.specs.Rows.{number_of, ticket_number}
 use Rattle.channel_table.proofs.table.Table.counts.Goals as goal
 
 pub returns : goal.returns

@@ -1,12 +1,7 @@
-use Rattle.std.proofs.Common.{refl, ap, arith, cond, ◌∙◌, ◌≤◌, length}
-use Rattle.chan_types.specs.declared.journal.What.TheVariants.{Destroy}
-use Rattle.chan_types.specs.declared.status.Status.TheVariants.{Destruction}
-use Rattle.channel_model.specs.Journal.{Past, past_of}
+use Rattle.channel_table.proofs.Base.{refl, ap, arith, cond, ◌∙◌, ◌≤◌, length, Destroy, Destruction, Past, past_of, setting_of, Destroys}
 use Rattle.channel_table.proofs.Counting.{counted_unjudged}
 use Rattle.channel_table.proofs.Keeping.{happens_one, kept_more, no_more}
 use Rattle.channel_table.proofs.TableSteps.{table_ended}
-use Rattle.channel_table.specs.Kept.{setting_of}
-use Rattle.channel_model.specs.Meanings.{Destroys}
 use Rattle.channel_table.proofs.TokenLemmas.{each_off, tokens_ended}
 use Rattle.channel_table.proofs.table.Table.destroy.Goals as goal
 
@@ -17,7 +12,7 @@ invariant_of-self g c =
     let open_ : 1 ≤ cond c.self.inside.closed 0 1 = rw c.if-self.false (omega arith) in
     kept_more g.T.Token.plan g.J.ChannelJournal.told g.J.ChannelJournal.room c.self.inside _ _ refl c.add.ensures.told c.self.invariant (c.self.invariant.destroyed ∙ c.if-self.false)
     (rw (c.complete_all.ensures.none, c.complete_all.ensures.tickets) ended)
-    (counted_unjudged (setting_of c.self.inside) Destroy past c.self.inside.list c.self.inside.servers c.self.inside.greatest_key c.self.inside.greatest_link c.self.inside.started c.self.invariant.counted refl refl (λ a earlier. refl))
+    (counted_unjudged (setting_of c.self.inside) Destroy past c.self.invariant.counted refl refl (λ a earlier. refl))
     (no_more Destroy past refl ∙ c.self.invariant.accepts) refl
     (omega arith) (omega arith) (omega arith)
     _ _ c.self.invariant.room c.self.invariant.fits c.add.ensures.room (omega (arith, open_, c.complete_all.ensures.ready_len, ap length c.complete_all.ensures.none))

@@ -1,18 +1,7 @@
-use Rattle.std.proofs.Common.{refl, sym, arith, subst, ◌∙◌, ◌+◌, ◌<◌, ◌^◌, Ok, List, ◌∷◌, length}
-use Rattle.chan_types.specs.declared.journal.Entry.{Entry}
-use Rattle.chan_types.specs.declared.journal.What.{What}
-use Rattle.chan_types.specs.declared.journal.What.TheVariants.{Fault}
-use Rattle.channel_model.specs.Choice.{Failing}
-use Rattle.channel_model.specs.Journal.{Past, past_of}
-use Rattle.channel_model.specs.Meanings.{Fails}
-use Rattle.channel_table.proofs.FailureSteps.{past_of-length}
+use Rattle.channel_table.proofs.Base.{refl, arith, ◌∙◌, ◌+◌, ◌<◌, ◌^◌, Ok, length, Entry, What, Fault, Past, past_of, Fails, each-then, IsUnanswered, setting_of, RowStands}
+use Rattle.channel_table.proofs.FailureCounts.{past_of-length}
 use Rattle.channel_table.proofs.Keeping.{few_closed, happens_by, kept_grown, kept_more, no_more}
 use Rattle.channel_table.proofs.KeptTable.{entry_added, fault_counted, fault_stands, fault_there, fault_told, servers_few, servers_some}
-use Rattle.channel_table.specs.Counted.{AreCounted}
-use Rattle.channel_model.proofs.Theorems.{each-then}
-use Rattle.channel_table.specs.Failing.{IsUnanswered}
-use Rattle.channel_table.specs.Kept.{setting_of}
-use Rattle.channel_table.specs.Rows.{RowStands}
 use Rattle.channel_table.proofs.TokenLemmas.{apart, each_off, tokens_failed}
 use Rattle.channel_table.proofs.table.Table.fault.Goals as goal
 
@@ -36,12 +25,12 @@ invariant_of-self-2 g c =
     let past : Past = past_of (g.J.ChannelJournal.told c.self.inside.journal) in
     let what : What = Fault c.args.server c.args.link c.args.at in
     let entry : Entry = record { seat = c.args.seat; by = 0; what = what } in
-    let room = c.in_ok-make_room.ensures in
+    let room = c.in_ok-room_for_entry.ensures in
     let small : length past + 1 < 2 ^ 64 = omega (arith, past_of-length (g.J.ChannelJournal.told c.self.inside.journal), c.self.invariant.fits) in
     let counted = fault_counted g.T.Token.plan g.J.ChannelJournal.told g.J.ChannelJournal.room c.self.inside c.self.invariant c.args.server c.args.link c.args.at c.most_attempts-most.ensures.value c.most_attempts-most.ensures.few c.in_ok-count.count small c.in_ok-count.ensures.count in
-    kept_more g.T.Token.plan g.J.ChannelJournal.told g.J.ChannelJournal.room c.self.inside _ entry refl (entry_added entry c.add.ensures.told c.make_room.ensures.told) c.self.invariant tt
+    kept_more g.T.Token.plan g.J.ChannelJournal.told g.J.ChannelJournal.room c.self.inside _ entry refl (entry_added entry c.add.ensures.told c.room_for_entry.ensures.told) c.self.invariant tt
     (fault_stands g.T.Token.plan g.J.ChannelJournal.told g.J.ChannelJournal.room c.self.inside c.self.invariant c.args.server c.args.link c.args.at c.most_attempts-most.ensures.value c.most_attempts-most.ensures.few c.in_ok-count.ensures.fails)
-    (subst (λ (s : List Failing). AreCounted (setting_of c.self.inside) (what ∷ past) c.self.inside.list s c.self.inside.greatest_key c.self.inside.greatest_link c.self.inside.started) (sym c.count_fault.ensures) counted)
+    (rw c.count_fault.ensures.counts counted)
     (no_more what past refl ∙ c.self.invariant.accepts) c.self.invariant.destroyed
     (omega arith) (omega arith) (omega arith)
     _ _ room.room room.fits c.add.ensures.room (omega (arith, c.len.ensures, c.len-2.ensures, c.fail_all.ensures.fewer, c.fail_all.ensures.len, few_closed c.self.inside.closed))
@@ -51,12 +40,12 @@ pub returns-clause-done : goal.returns-clause-done
 returns-clause-done g c =
     let what : What = Fault c.args.server c.args.link c.args.at in
     let entry : Entry = record { seat = c.args.seat; by = 0; what = what } in
-    rw (← c.self.view_is) (happens_by g.T.Token.plan g.J.ChannelJournal.told g.J.ChannelJournal.room (Fails c.args.server c.args.link c.args.at (Ok c.in_ok-count.count)) c.self.inside (g.J.ChannelJournal.told c.add.new.self) c.args.seat 0 what (entry_added entry c.add.ensures.told c.make_room.ensures.told) c.self.invariant tt
+    rw (← c.self.view_is) (happens_by g.T.Token.plan g.J.ChannelJournal.told g.J.ChannelJournal.room (Fails c.args.server c.args.link c.args.at (Ok c.in_ok-count.count)) c.self.inside (g.J.ChannelJournal.told c.add.new.self) c.args.seat 0 what (entry_added entry c.add.ensures.told c.room_for_entry.ensures.told) c.self.invariant tt
     (fault_told g.T.Token.plan g.J.ChannelJournal.told g.J.ChannelJournal.room c.self.inside c.self.invariant c.args.server c.args.link c.args.at c.most_attempts-most.ensures.value c.most_attempts-most.ensures.few c.in_ok-count.count c.in_ok-count.ensures.count))
 
 pub invariant_of-self-in_err-count : goal.invariant_of-self-in_err-count
 invariant_of-self-in_err-count g c =
-    kept_grown g.T.Token.plan g.J.ChannelJournal.told g.J.ChannelJournal.room c.self.inside _ (rw (c.in_err-count.ensures.err.0, c.in_err-count.ensures.err.1) refl) c.make_room.ensures.told c.make_room.ensures.kept c.self.invariant
+    kept_grown g.T.Token.plan g.J.ChannelJournal.told g.J.ChannelJournal.room c.self.inside _ (rw (c.in_err-count.ensures.err.0, c.in_err-count.ensures.err.1) refl) c.room_for_entry.ensures.told c.room_for_entry.ensures.kept c.self.invariant
 
 pub returns-clause-tokens : goal.returns-clause-tokens
 returns-clause-tokens g c =

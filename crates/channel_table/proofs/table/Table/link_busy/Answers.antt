@@ -1,9 +1,6 @@
-use Rattle.std.proofs.Common.{refl, sym, ◌∙◌}
-use Rattle.channel_model.specs.Journal.{past_of}
+use Rattle.channel_table.proofs.Base.{refl, sym, ◌∙◌, past_of, setting_of, TellsBusy}
 use Rattle.channel_table.proofs.Keeping.{happens_nothing}
 use Rattle.channel_table.proofs.Telling.{busy_rows}
-use Rattle.channel_table.specs.Kept.{setting_of}
-use Rattle.channel_model.specs.Meanings.{TellsBusy}
 use Rattle.channel_table.proofs.table.Table.link_busy.Goals as goal
 
 pub returns : goal.returns

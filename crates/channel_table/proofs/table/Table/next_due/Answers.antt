@@ -1,11 +1,6 @@
-use Rattle.std.proofs.Common.{refl, sym, ap, ◌∙◌}
-use Rattle.std.specs.Prelude.{option_map}
-use Rattle.channel_model.specs.Journal.{past_of}
-use Rattle.channel_model.specs.Lawful.{Due}
+use Rattle.channel_table.proofs.Base.{refl, sym, ap, ◌∙◌, option_map, past_of, Due, setting_of, TellsDue}
 use Rattle.channel_table.proofs.Keeping.{happens_nothing}
 use Rattle.channel_table.proofs.Telling.{first_due_rows}
-use Rattle.channel_table.specs.Kept.{setting_of}
-use Rattle.channel_model.specs.Meanings.{TellsDue}
 use Rattle.channel_table.proofs.table.Table.next_due.Goals as goal
 
 pub returns : goal.returns

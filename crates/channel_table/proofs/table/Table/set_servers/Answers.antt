@@ -1,20 +1,6 @@
-use Rattle.std.proofs.Common.{refl, sym, ap, arith, subst, ◌≡◌, ◌∙◌, ◌-◌, ◌^◌, ◌≤◌, Some, Ok, List, [], ◌∷◌, ◌++◌, length, map, false}
-use Rattle.std.specs.Prelude.{filter, not}
-use Rattle.std.specs.List.{sum_by}
-use Rattle.chan_types.specs.declared.journal.Entry.{Entry}
-use Rattle.chan_types.specs.declared.journal.What.{What}
-use Rattle.chan_types.specs.declared.journal.What.TheVariants.{Servers}
-use Rattle.chan_types.specs.declared.server_key.ServerKey.{ServerKey}
-use Rattle.channel_model.specs.Flight.{Attempt, in_flight}
-use Rattle.channel_model.specs.Journal.{Past, is_destroyed, past_of}
-use Rattle.channel_model.specs.Lawful.{MaySet}
-use Rattle.channel_model.specs.Meanings.{SetsServers}
-use Rattle.channel_model.specs.Servers.{greatest_key, greatest_of, has_key}
-use Rattle.channel_model.specs.Setting.{Setting}
-use Rattle.channel_table.proofs.Keeping.{few_closed, happens_by, happens_same, kept_more, no_more}
-use Rattle.channel_table.proofs.Listing.{counted_set, keys_apart, keys_are, may_become, set_count, sets_failed, set_length, table_set}
-use Rattle.channel_table.specs.Kept.{setting_of}
-use Rattle.channel_table.specs.Listing.{left_in, row_set}
+use Rattle.channel_table.proofs.Base.{refl, sym, ap, arith, subst, ◌≡◌, ◌∙◌, ◌-◌, ◌^◌, ◌≤◌, Some, Ok, List, [], ◌∷◌, ◌++◌, length, map, false, filter, not, sum_by, Entry, What, Servers, ServerKey, Attempt, in_flight, Past, is_destroyed, past_of, MaySet, SetsServers, greatest_key, has_key, Setting, setting_of, left_in, row_set, ChannelServers}
+use Rattle.channel_table.proofs.Keeping.{few_closed, happens_by, happens_same, kept_grown, kept_more, no_more}
+use Rattle.channel_table.proofs.ServerLists.{counted_set, keys_apart, keys_are, may_become, set_count, sets_failed, set_length, table_set}
 use Rattle.channel_table.proofs.TokenLemmas.{tokens_set}
 use Rattle.channel_table.proofs.table.Table.set_servers.Goals as goal
 
@@ -35,21 +21,7 @@ renew-requires-clause-apart g c =
 
 pub invariant_of-self-in_err-renew : goal.invariant_of-self-in_err-renew
 invariant_of-self-in_err-renew g c =
-    let items = c.make_room.ensures.told in
-    record {
-      limits = c.self.invariant.limits;
-      lawful = rw items c.self.invariant.lawful;
-      stands = rw items c.self.invariant.stands;
-      counted = rw (items, c.in_err-renew.ensures.err) c.self.invariant.counted;
-      accepts = rw items c.self.invariant.accepts;
-      destroyed = rw items c.self.invariant.destroyed;
-      few = rw items c.self.invariant.few;
-      few_links = rw items c.self.invariant.few_links;
-      few_starts = rw items c.self.invariant.few_starts;
-      room = omega (arith, c.self.invariant.room, c.make_room.ensures.kept);
-      fits = rw items c.self.invariant.fits;
-      room_ready = c.self.invariant.room_ready;
-    }
+    kept_grown g.T.Token.plan g.J.ChannelJournal.told g.J.ChannelJournal.room c.self.inside _ (rw c.in_err-renew.ensures.err refl) c.room_for_entry.ensures.told c.room_for_entry.ensures.kept c.self.invariant
 
 pub returns-in_err-renew-clause-done : goal.returns-in_err-renew-clause-done
 returns-in_err-renew-clause-done g c =
@@ -57,7 +29,7 @@ returns-in_err-renew-clause-done g c =
     let setting : Setting = setting_of c.self.inside in
     let open_ : is_destroyed past ≡ false = c.self.invariant.destroyed ∙ c.if-self.false in
     let few : greatest_key setting past ≤ 2 ^ 32 - 9 = omega (arith, c.self.invariant.counted.keyed, c.if-self-gt-KEY_MOST.false) in
-    rw (← c.self.view_is) (happens_same g.T.Token.plan g.J.ChannelJournal.told g.J.ChannelJournal.room (SetsServers c.args.servers.now c.from_residual-in_err-renew.result) c.self.inside (g.J.ChannelJournal.told c.make_room.new.journal) c.args.seat 0 c.make_room.ensures.told c.self.invariant
+    rw (← c.self.view_is) (happens_same g.T.Token.plan g.J.ChannelJournal.told g.J.ChannelJournal.room (SetsServers c.args.servers.now c.from_residual-in_err-renew.result) c.self.inside (g.J.ChannelJournal.told c.room_for_entry.new.journal) c.args.seat 0 c.room_for_entry.ensures.told c.self.invariant
     (sets_failed c.args.servers.now c.from_residual-in_err-renew.result setting past c.from_residual-in_err-renew.ensures.1 open_ few))
 
 pub invariant_of-self-2 : goal.invariant_of-self-2
@@ -71,16 +43,14 @@ invariant_of-self-2 g c =
     let may = may_become setting past addresses list is open_ c.requires.some c.requires.few in
     let what : What = Servers list in
     let entry : Entry = record { seat = c.args.seat; by = 0; what = what } in
-    let added : (g.J.ChannelJournal.told c.add.new.self) ≡ (g.J.ChannelJournal.told c.self.inside.journal) ++ entry ∷ [] = rw (c.add.ensures.told, c.make_room.ensures.told, c.in_ok-kept.ensures, c.as_slice-2.ensures) refl in
-    let room = c.in_ok-make_room.ensures in
-    let rows : c.set_list.new.self ≡ map (row_set list) c.self.inside.rows = c.set_list.ensures.rows ∙ ap (λ (l : List ServerKey). map (row_set l) c.self.inside.rows) c.as_slice-4.ensures in
-    let greatest : c.greatest_of-self-inside.result ≡ greatest_of c.self.inside.greatest_key list = c.greatest_of-self-inside.ensures ∙ ap (greatest_of c.self.inside.greatest_key) c.as_slice-5.ensures in
-    let counted = counted_set setting past list c.self.inside.list c.self.inside.servers c.self.inside.greatest_key c.self.inside.greatest_link c.self.inside.started c.self.invariant.counted in
+    let added : (g.J.ChannelJournal.told c.add.new.self) ≡ (g.J.ChannelJournal.told c.self.inside.journal) ++ entry ∷ [] = rw (c.add.ensures.told, c.room_for_entry.ensures.told, c.in_ok-kept.ensures, c.as_slice-2.ensures) refl in
+    let room = c.in_ok-room_for_entry.ensures in
+    let rows : c.set_list.new.self ≡ map (row_set list) c.self.inside.rows = c.set_list.ensures.rows ∙ ap (λ (l : List ServerKey). map (row_set l) c.self.inside.rows) (c.as_slice-4.ensures ∙ ap (λ (s : ChannelServers). s.list) c.in_ok-renew.ensures.ok) in
     kept_more g.T.Token.plan g.J.ChannelJournal.told g.J.ChannelJournal.room c.self.inside _ entry refl added c.self.invariant may
     (rw rows (table_set g.T.Token.plan setting past list c.self.inside.rows c.self.inside.ready.items c.self.invariant.stands))
-    (rw (c.in_ok-renew.ensures.ok, greatest) counted)
+    (rw c.in_ok-renew.ensures.ok (counted_set setting past list c.self.invariant.counted))
     (no_more what past refl ∙ c.self.invariant.accepts) c.self.invariant.destroyed
-    (omega arith) (omega arith) (omega arith)
+    (omega arith) (omega (arith, ap (λ (s : ChannelServers). s.greatest_link) c.in_ok-renew.ensures.ok)) (omega (arith, ap (λ (s : ChannelServers). s.started) c.in_ok-renew.ensures.ok))
     _ _ room.room room.fits c.add.ensures.room (omega (arith, c.len.ensures, c.len-2.ensures, c.set_list.ensures.len, few_closed c.self.inside.closed))
     (omega (arith, c.self.invariant.room_ready, c.set_list.ensures.len))
 
@@ -95,7 +65,7 @@ returns-clause-done g c =
     let may = may_become setting past addresses list is open_ c.requires.some c.requires.few in
     let what : What = Servers list in
     let entry : Entry = record { seat = c.args.seat; by = 0; what = what } in
-    let added : (g.J.ChannelJournal.told c.add.new.self) ≡ (g.J.ChannelJournal.told c.self.inside.journal) ++ entry ∷ [] = rw (c.add.ensures.told, c.make_room.ensures.told, c.in_ok-kept.ensures, c.as_slice-2.ensures) refl in
+    let added : (g.J.ChannelJournal.told c.add.new.self) ≡ (g.J.ChannelJournal.told c.self.inside.journal) ++ entry ∷ [] = rw (c.add.ensures.told, c.room_for_entry.ensures.told, c.in_ok-kept.ensures, c.as_slice-2.ensures) refl in
     let count : c.count_left-count.result ≡ sum_by (left_in list) c.self.inside.rows = c.count_left-count.ensures ∙ ap (λ (l : List ServerKey). sum_by (left_in l) c.self.inside.rows) c.as_slice-3.ensures in
     let few : greatest_key setting past ≤ 2 ^ 32 - 9 = omega (arith, c.self.invariant.counted.keyed, c.if-self-gt-KEY_MOST.false) in
     let told = count ∙ sym (set_count g.T.Token.plan setting past list c.self.inside.rows c.self.inside.ready.items c.self.invariant.stands) in
@@ -105,5 +75,5 @@ returns-clause-done g c =
 
 pub returns-clause-tokens : goal.returns-clause-tokens
 returns-clause-tokens g c =
-    let rows : c.set_list.new.self ≡ map (row_set c.in_ok-list.list) c.self.inside.rows = c.set_list.ensures.rows ∙ ap (λ (l : List ServerKey). map (row_set l) c.self.inside.rows) c.as_slice-4.ensures in
+    let rows : c.set_list.new.self ≡ map (row_set c.in_ok-list.list) c.self.inside.rows = c.set_list.ensures.rows ∙ ap (λ (l : List ServerKey). map (row_set l) c.self.inside.rows) (c.as_slice-4.ensures ∙ ap (λ (s : ChannelServers). s.list) c.in_ok-renew.ensures.ok) in
     rw (← c.self.view_is, rows) (tokens_set c.in_ok-list.list c.self.inside.rows c.self.inside.ready.items)

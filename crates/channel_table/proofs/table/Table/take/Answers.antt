@@ -1,16 +1,9 @@
-use Rattle.std.proofs.Common.{refl, sym, ap, arith, ◌≡◌, ◌∙◌, ◌∷◌, Some, map}
-use Rattle.chan_types.specs.declared.journal.What.TheVariants.{Take}
-use Rattle.channel_model.specs.Journal.{past_of}
-use Rattle.channel_model.specs.Lawful.{first}
+use Rattle.channel_table.proofs.Base.{refl, sym, ap, arith, ◌≡◌, ◌∙◌, ◌∷◌, Some, map, Take, past_of, first, setting_of, Takes, ticket_number, tokens_of}
 use Rattle.channel_table.proofs.Counting.{counted_kept}
 use Rattle.channel_table.proofs.Keeping.{happens_one, kept_more, no_more}
 use Rattle.channel_table.proofs.RowFrames.{table_taken}
-use Rattle.channel_table.specs.Kept.{setting_of}
-use Rattle.channel_model.specs.Meanings.{Takes}
-use Rattle.channel_table.specs.Rows.{ticket_number}
 use Rattle.std.specs.FinMap as finite
 use Rattle.channel_table.proofs.TokenLemmas.{token_taken, tokens_left}
-use Rattle.channel_table.specs.Tokens.{tokens_of}
 use Rattle.channel_table.proofs.table.Table.take.Goals as goal
 
 pub invariant_of-self : goal.invariant_of-self
@@ -19,7 +12,7 @@ invariant_of-self g c =
     let waits = ap first (c.self.invariant.stands.stand.ready_are ∙ ap (map ticket_number) parts) in
     kept_more g.T.Token.plan g.J.ChannelJournal.told g.J.ChannelJournal.room c.self.inside _ _ refl c.add.ensures.told c.self.invariant (waits ∙ ap Some (sym c.number.ensures))
     (rw c.number.ensures (table_taken g.T.Token.plan (setting_of c.self.inside) _ c.self.inside.rows c.pop_first-ticket.result c.pop_first-ticket.new.deque.items (rw parts at c.self.invariant.stands)))
-    (counted_kept (setting_of c.self.inside) (Take c.number.result) (past_of (g.J.ChannelJournal.told c.self.inside.journal)) c.self.inside.list c.self.inside.servers c.self.inside.greatest_key c.self.inside.greatest_link c.self.inside.started c.self.invariant.counted refl refl (λ a flies. refl))
+    (counted_kept (setting_of c.self.inside) (Take c.number.result) (past_of (g.J.ChannelJournal.told c.self.inside.journal)) c.self.invariant.counted refl refl (λ a flies. refl))
     (no_more (Take c.number.result) (past_of (g.J.ChannelJournal.told c.self.inside.journal)) refl ∙ c.self.invariant.accepts) c.self.invariant.destroyed
     (omega arith) (omega arith) (omega arith)
     _ _ c.self.invariant.room c.self.invariant.fits c.add.ensures.room (omega (arith, c.pop_first-ticket.ensures.len))

@@ -1,9 +1,6 @@
-use Rattle.std.proofs.Common.{refl, subst, sym, ◌∙◌}
-use Rattle.std.specs.Prelude.{List, codes}
-use Rattle.dns_message.proofs.Theorems.{last_is_so}
-use Rattle.dns_message.specs.declared.name.Name.{Name}
+use Rattle.channel_table.proofs.Base.{refl, subst, sym, ◌∙◌, codes, last_is_so, Name, AreAsked}
+use Rattle.std.specs.Prelude.{List}
 use Rattle.channel_table.proofs.Opening.{opens_asked}
-use Rattle.channel_table.specs.Opening.{AreAsked}
 use Rattle.channel_table.proofs.table.accepting.opening_by.Goals as goal
 
 pub returns-then-last_is : goal.returns-then-last_is

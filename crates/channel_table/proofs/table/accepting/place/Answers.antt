@@ -1,10 +1,6 @@
-use Rattle.std.proofs.Common.{false, refl, ap, ap₂, ◌∙◌}
-use Rattle.std.specs.Prelude.{option_map}
-use Rattle.query_machine.specs.Legs.{flying_in}
+use Rattle.channel_table.proofs.Base.{false, refl, ap, ap₂, ◌∙◌, option_map, flying_in, new_lookup, Asked}
 use Rattle.query_machine.specs.declared.leg.Leg as machine
 use Rattle.channel_table.proofs.FlownRows.{new_idle}
-use Rattle.channel_table.specs.Sides.{new_side}
-use Rattle.channel_table.specs.declared.side.Asked.{Asked}
 use Rattle.channel_table.proofs.table.accepting.place.Goals as goal
 
 pub push-requires-clause-idle : goal.push-requires-clause-idle
@@ -16,7 +12,7 @@ returns-in-Ok-push-clause-places g c =
     rw c.in-Asks.is (
       record {
         number = c.args.number;
-        aim = c.args.aim;
+        wanted = c.args.wanted;
         first = c.new.result;
         second = c.in-Ok.second;
         empty = false;
@@ -25,9 +21,9 @@ returns-in-Ok-push-clause-places g c =
       },
       record {
         numbered = refl;
-        aims = refl;
-        first_side = c.new.ensures ∙ ap₂ (λ n l. new_side c.args.number n c.in-Asks.first l) c.first_number.ensures c.new-leg.ensures;
-        second_side = c.in-Ok.ensures ∙ ap (λ l. option_map (λ (a : Asked). new_side c.args.number 1 a l) c.in-Asks.second) c.new-leg.ensures;
+        wants = refl;
+        first_lookup = c.new.ensures ∙ ap₂ (λ n l. new_lookup c.args.number n c.in-Asks.first l) c.first_number.ensures c.new-leg.ensures;
+        second_lookup = c.in-Ok.ensures ∙ ap (λ l. option_map (λ (a : Asked). new_lookup c.args.number 1 a l) c.in-Asks.second) c.new-leg.ensures;
         unpassed = refl;
         for' = refl;
       },

@@ -1,9 +1,6 @@
-use Rattle.std.proofs.Common.{sym, ap, arith, ◌∙◌, ◌<◌, length}
-use Rattle.std.proofs.lemmas.List.{get_or_read}
+use Rattle.channel_table.proofs.Base.{sym, ap, arith, ◌∙◌, ◌<◌, length, get_or_read, has_next, next_row, Row}
 use Rattle.query_machine.specs.declared.leg.Leg as machine
-use Rattle.channel_table.proofs.Ending.{asks_so, ends_so, goes_on_so}
-use Rattle.channel_table.specs.After.{has_next, next_row}
-use Rattle.channel_table.specs.declared.row.Row.{Row}
+use Rattle.channel_table.proofs.EndedRows.{asks_so, ends_so, goes_on_so}
 use Rattle.channel_table.proofs.table.ending.end_row.Goals as goal
 
 pub returns-in-None-clause-ends : goal.returns-in-None-clause-ends

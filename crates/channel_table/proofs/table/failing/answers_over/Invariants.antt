@@ -1,5 +1,4 @@
-use Rattle.std.proofs.Common.{◌≡◌, map, take}
-use Rattle.channel_table.specs.Failing.{answer_over}
+use Rattle.channel_table.proofs.Base.{◌≡◌, map, take, answer_over}
 use Rattle.channel_table.proofs.table.failing.answers_over.Given as goal
 
 -- the answers of the rows before this index

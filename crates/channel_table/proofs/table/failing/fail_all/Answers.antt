@@ -1,11 +1,5 @@
-use Rattle.std.proofs.Common.{sym, ap, ap₂, arith, ◌≡◌, ◌∙◌, [], ◌∷◌, ◌++◌, append_assoc, length}
-use Rattle.std.specs.Vec.Iter.{into_iter_items}
-use Rattle.channel_table.proofs.Failing.{answers_left, ends_more, stays_more}
-use Rattle.chan_types.specs.declared.status.Status.TheVariants.{ConnRefused}
-use Rattle.channel_model.specs.declared.judged.Judged.TheVariants.{Failed}
-use Rattle.channel_table.specs.After.{after}
-use Rattle.channel_table.specs.Failing.{answer_over, fails_at}
-use Rattle.channel_table.specs.declared.side.Hits.TheVariants.{Over}
+use Rattle.channel_table.proofs.Base.{sym, ap, ap₂, arith, ◌≡◌, ◌∙◌, [], ◌∷◌, ◌++◌, append_assoc, length, into_iter_items, ConnRefused, Failed, after, answer_over, fails_at, Over}
+use Rattle.channel_table.proofs.Faulting.{answers_left, ends_more, stays_more}
 use Rattle.channel_table.proofs.table.failing.fail_all.Goals as goal
 
 pub loop-row-preserved-in-Stays : goal.loop-row-preserved-in-Stays

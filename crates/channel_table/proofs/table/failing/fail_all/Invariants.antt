@@ -1,7 +1,4 @@
-use Rattle.std.proofs.Common.{◌≡◌, ◌≤◌, ◌+◌, ◌++◌, map, deque_len, deque_capacity, length}
-use Rattle.std.specs.Prelude.{filter_map}
-use Rattle.std.specs.Vec.Iter.{into_iter_items, into_iter_len}
-use Rattle.channel_table.specs.Failing.{answer_over, fails_at, kept_of, ticket_made}
+use Rattle.channel_table.proofs.Base.{◌≡◌, ◌≤◌, ◌+◌, ◌++◌, map, deque_len, deque_capacity, length, filter_map, into_iter_items, into_iter_len, answer_over, fails_at, kept_of, ticket_made}
 use Rattle.channel_table.proofs.table.failing.fail_all.Given as goal
 
 abbrev pub invariant-loop-row : goal.invariant-loop-row

@@ -1,6 +1,5 @@
-use Rattle.std.proofs.Common.{ap, arith, subst, ◌<◌}
+use Rattle.channel_table.proofs.Base.{ap, arith, subst, ◌<◌, Row}
 use Rattle.channel_table.proofs.ListedLemmas.{lower_half, none_between, upper_half}
-use Rattle.channel_table.specs.declared.row.Row.{Row}
 use Rattle.channel_table.proofs.table.finding.find_by_halves.Goals as goal
 
 pub loop-low-preserved-then-here-number-2 : goal.loop-low-preserved-then-here-number-2

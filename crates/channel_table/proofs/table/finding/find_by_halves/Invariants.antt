@@ -1,5 +1,4 @@
-use Rattle.std.proofs.Common.{◌-◌, ◌<◌, ◌≤◌, get_or, length, ℕ}
-use Rattle.channel_table.specs.declared.row.Row.{Row}
+use Rattle.channel_table.proofs.Base.{◌-◌, ◌<◌, ◌≤◌, get_or, length, ℕ, Row}
 use Rattle.channel_table.proofs.table.finding.find_by_halves.Given as goal
 
 -- the rows below this range have lesser numbers, and those above it greater ones

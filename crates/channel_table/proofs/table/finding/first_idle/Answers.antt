@@ -1,9 +1,6 @@
-use Rattle.std.proofs.Common.{subst, sym, ◌<◌}
+use Rattle.channel_table.proofs.Base.{subst, sym, ◌<◌, AllByRecursion, Legs, IsListed}
 use Rattle.std.specs.FinSet as set
-use Rattle.std.specs.List.{AllByRecursion}
-use Rattle.leg_index.specs.Waiting.{Legs}
 use Rattle.channel_table.proofs.ListedLemmas.{dropped, fewer_wait, found_idle, none_listed}
-use Rattle.channel_table.specs.Listed.{IsListed}
 use Rattle.channel_table.proofs.table.finding.first_idle.Goals as goal
 
 pub returns-in-Some-idle_with-clause-found : goal.returns-in-Some-idle_with-clause-found

@@ -1,6 +1,5 @@
 use Rattle.std.specs.FinSet as set
-use Rattle.std.specs.List.{AllByRecursion}
-use Rattle.channel_table.specs.Listed.{IsListed}
+use Rattle.channel_table.proofs.Base.{AllByRecursion, IsListed}
 use Rattle.channel_table.proofs.table.finding.first_idle.Given as goal
 
 abbrev pub invariant-loop-first : goal.invariant-loop-first

@@ -1,10 +1,5 @@
-use Rattle.std.proofs.Common.{arith, sym, ap, subst, take, [], ◌∷◌, ◌++◌, List, ◌∙◌}
-use Rattle.std.proofs.lemmas.List.{take_more}
-use Rattle.std.specs.List.{AllByRecursion}
-use Rattle.channel_model.proofs.Theorems.{each-append}
+use Rattle.channel_table.proofs.Base.{arith, sym, ap, subst, take, [], ◌∷◌, ◌++◌, List, ◌∙◌, take_more, AllByRecursion, each-append, IsListed, Row}
 use Rattle.channel_table.proofs.ListedLemmas.{kept_listed}
-use Rattle.channel_table.specs.Listed.{IsListed}
-use Rattle.channel_table.specs.declared.row.Row.{Row}
 use Rattle.channel_table.proofs.table.finding.list_all.Goals as goal
 
 pub loop-index-preserved : goal.loop-index-preserved

@@ -1,6 +1,4 @@
-use Rattle.std.proofs.Common.{take}
-use Rattle.std.specs.List.{AllByRecursion}
-use Rattle.channel_table.specs.Listed.{IsListed}
+use Rattle.channel_table.proofs.Base.{take, AllByRecursion, IsListed}
 use Rattle.channel_table.proofs.table.finding.list_all.Given as goal
 
 -- the rows before this index that wait are listed

@@ -1,8 +1,6 @@
-use Rattle.std.proofs.Common.{◌≡◌, ◌∙◌, ap, subst, sym, true}
+use Rattle.channel_table.proofs.Base.{◌≡◌, ◌∙◌, ap, subst, sym, true, Legs, Keeps, key_of}
 use Rattle.std.specs.FinSet as set
-use Rattle.leg_index.specs.Waiting.{Legs}
 use Rattle.channel_table.proofs.ListedLemmas.{insert_keeps, listed_itself}
-use Rattle.channel_table.specs.Listed.{Keeps, key_of}
 use Rattle.channel_table.proofs.table.finding.list_staying.Goals as goal
 
 pub returns-in_ok-put-clause-listed : goal.returns-in_ok-put-clause-listed

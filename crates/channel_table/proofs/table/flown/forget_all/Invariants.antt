@@ -1,7 +1,5 @@
-use Rattle.std.proofs.Common.{drop}
-use Rattle.channel_table.specs.Flown.{AreFlown}
-use Rattle.channel_table.specs.Rows.{all_sides}
+use Rattle.channel_table.proofs.Base.{drop, AreFlown, all_lookups}
 use Rattle.channel_table.proofs.table.flown.forget_all.Given as goal
 
 abbrev pub invariant-loop-index : goal.invariant-loop-index
-invariant-loop-index g l = AreFlown l.initial.flown (all_sides l.rows.items) → AreFlown l.flown (all_sides (drop l.index l.rows.items))
+invariant-loop-index g l = AreFlown l.initial.flown (all_lookups l.rows.items) → AreFlown l.flown (all_lookups (drop l.index l.rows.items))

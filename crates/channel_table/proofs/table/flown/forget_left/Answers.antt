@@ -1,10 +1,5 @@
-use Rattle.std.proofs.Common.{List, ap₂, arith, map, subst, ◌++◌, ◌∙◌}
-use Rattle.std.proofs.lemmas.List.{append-nil, take_all}
+use Rattle.channel_table.proofs.Base.{List, ap₂, arith, map, subst, ◌++◌, ◌∙◌, append-nil, take_all, AreFlown, row_set, all_lookups, Row}
 use Rattle.channel_table.proofs.FlownRows.{drop_none, set_step}
-use Rattle.channel_table.specs.Flown.{AreFlown}
-use Rattle.channel_table.specs.Listing.{row_set}
-use Rattle.channel_table.specs.Rows.{all_sides}
-use Rattle.channel_table.specs.declared.row.Row.{Row}
 use Rattle.channel_table.proofs.table.flown.forget_left.Goals as goal
 
 pub loop-index-preserved : goal.loop-index-preserved
@@ -15,5 +10,5 @@ pub returns : goal.returns
 returns g c = λ are.
     let rows : List (Row g.row.T.Denot) = c.args.rows.now.items in
     subst (AreFlown c.loop-index.flown)
-    (ap₂ (λ (xs ys : List (Row g.row.T.Denot)). all_sides (map (row_set c.args.list.now) xs) ++ all_sides ys) (take_all c.loop-index.index rows (omega (arith, c.loop-index-test.false, c.len-index-end.ensures))) (drop_none rows c.loop-index.index (omega (arith, c.loop-index-test.false, c.len-index-end.ensures)))
-    ∙ append-nil (all_sides (map (row_set c.args.list.now) rows))) (c.loop-index.invariant are)
+    (ap₂ (λ (xs ys : List (Row g.row.T.Denot)). all_lookups (map (row_set c.args.list.now) xs) ++ all_lookups ys) (take_all c.loop-index.index rows (omega (arith, c.loop-index-test.false, c.len-index-end.ensures))) (drop_none rows c.loop-index.index (omega (arith, c.loop-index-test.false, c.len-index-end.ensures)))
+    ∙ append-nil (all_lookups (map (row_set c.args.list.now) rows))) (c.loop-index.invariant are)

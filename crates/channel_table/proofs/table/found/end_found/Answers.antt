@@ -1,16 +1,7 @@
-use Rattle.std.proofs.Common.{ap, arith, length, sym, ◌<◌, ◌-◌, ◌≡◌, ◌∙◌, subst, List, ℕ}
-use Rattle.std.specs.Prelude.{is_some}
-use Rattle.leg_index.specs.Links.{used}
+use Rattle.channel_table.proofs.Base.{ap, arith, length, sym, ◌<◌, ◌-◌, ◌≡◌, ◌∙◌, subst, List, ℕ, is_some, used, AreFlown, ended_of, over_ended, all_lookups, IsTallyLeft, Row, Flown}
 use Rattle.channel_table.proofs.FlownRows.{ends_flown}
 use Rattle.channel_table.proofs.LinkedLemmas.{ends_linked}
 use Rattle.channel_table.proofs.TallyLemmas.{ends_tally}
-use Rattle.channel_table.specs.Flown.{AreFlown}
-use Rattle.channel_table.specs.Forgotten.{ended_of}
-use Rattle.channel_table.specs.Linked.{over_ended}
-use Rattle.channel_table.specs.Rows.{all_sides}
-use Rattle.channel_table.specs.Tally.{IsTallyLeft}
-use Rattle.channel_table.specs.declared.row.Row.{Row}
-use Rattle.channel_table.specs.declared.table.flown.Flown.{Flown}
 use Rattle.channel_table.proofs.table.found.end_found.Goals as goal
 
 pub returns-clause-flown : goal.returns-clause-flown
@@ -19,7 +10,7 @@ returns-clause-flown g c = λ are.
     let new : List (Row g.row.T.Denot) = c.end_row.new.rows.items in
     let ends = c.end_row.ensures.ends in
     let same : c.row_at-row.result.now ≡ ends.row = c.row_at-row.ensures ∙ ends.is c.row_at-row.result.now in
-    subst (λ (f : Flown). AreFlown f (all_sides new)) (sym (c.forget_ended.ensures ∙ ap (λ (r : Row g.row.T.Denot). ended_of c.args.concerned (is_some c.args.answer) r c.args.flown.now) same))
+    subst (λ (f : Flown). AreFlown f (all_lookups new)) (sym (c.forget_ended.ensures ∙ ap (λ (r : Row g.row.T.Denot). ended_of c.args.concerned (is_some c.args.answer) r c.args.flown.now) same))
     (ends_flown c.args.flown.now c.args.options.now.flags c.args.concerned c.args.judged c.args.reply c.args.most c.args.answer c.args.index rows c.args.ready.now.items new c.end_row.new.ready.items ends are)
 
 pub returns-clause-linked : goal.returns-clause-linked

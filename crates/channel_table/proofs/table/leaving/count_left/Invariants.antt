@@ -1,6 +1,4 @@
-use Rattle.std.proofs.Common.{◌≡◌, take}
-use Rattle.std.specs.List.{sum_by}
-use Rattle.channel_table.specs.Linked.{left_use}
+use Rattle.channel_table.proofs.Base.{◌≡◌, take, sum_by, left_use}
 use Rattle.channel_table.proofs.table.leaving.count_left.Given as goal
 
 -- the items before this index are counted

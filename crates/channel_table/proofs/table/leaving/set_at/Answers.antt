@@ -1,7 +1,5 @@
-use Rattle.std.proofs.Common.{sym, ap, arith, ◌∙◌, ◌<◌, ◌+◌, ◌++◌, ◌∷◌, length, take, drop}
-use Rattle.std.proofs.lemmas.List.{get_or_read, set_split}
-use Rattle.channel_table.proofs.Ending.{one_more, split_at}
-use Rattle.channel_table.specs.declared.row.Row.{Row}
+use Rattle.channel_table.proofs.Base.{sym, ap, arith, ◌∙◌, ◌<◌, ◌+◌, ◌++◌, ◌∷◌, length, take, drop, get_or_read, set_split, Row}
+use Rattle.channel_table.proofs.EndedRows.{one_more, split_at}
 use Rattle.channel_table.proofs.table.leaving.set_at.Goals as goal
 
 pub returns-clause-sets : goal.returns-clause-sets

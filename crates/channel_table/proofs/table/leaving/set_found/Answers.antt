@@ -1,14 +1,6 @@
-use Rattle.std.proofs.Common.{ap, arith, length, subst, sym, ◌-◌, ◌<◌, ◌≡◌, ◌∙◌}
-use Rattle.leg_index.specs.Links.{used}
+use Rattle.channel_table.proofs.Base.{ap, arith, length, subst, sym, ◌-◌, ◌<◌, ◌≡◌, ◌∙◌, used, AreFlown, left_of, left_second, over_left, has_left, row_set, all_lookups, Row, Flown}
 use Rattle.channel_table.proofs.LeaveLemmas.{sets_flown, sets_linked}
 use Rattle.channel_table.proofs.TallyLemmas.{becomes_tally}
-use Rattle.channel_table.specs.Flown.{AreFlown}
-use Rattle.channel_table.specs.Forgotten.{left_of, left_second}
-use Rattle.channel_table.specs.Linked.{over_left}
-use Rattle.channel_table.specs.Listing.{has_left, row_set}
-use Rattle.channel_table.specs.Rows.{all_sides}
-use Rattle.channel_table.specs.declared.row.Row.{Row}
-use Rattle.channel_table.specs.declared.table.flown.Flown.{Flown}
 use Rattle.channel_table.proofs.table.leaving.set_found.Goals as goal
 
 pub returns-clause-flown : goal.returns-clause-flown
@@ -16,7 +8,7 @@ returns-clause-flown g c = λ are.
     let list = c.args.list.now in
     let sets = c.set_at.ensures.sets in
     let same : c.row_at-row.result.now ≡ sets.row = c.row_at-row.ensures ∙ sets.is c.row_at-row.result.now in
-    subst (λ (f : Flown). AreFlown f (all_sides c.set_at.new.rows.items)) (sym (c.forget_left.ensures ∙ ap (λ (r : Row g.row.T.Denot). left_of (has_left list r.first) (left_second list r.second) r c.args.flown.now) same))
+    subst (λ (f : Flown). AreFlown f (all_lookups c.set_at.new.rows.items)) (sym (c.forget_left.ensures ∙ ap (λ (r : Row g.row.T.Denot). left_of (has_left list r.first) (left_second list r.second) r c.args.flown.now) same))
     (sets_flown list c.args.index c.args.rows.now.items c.set_at.new.rows.items sets c.args.flown.now are)
 
 pub returns-clause-linked : goal.returns-clause-linked

@@ -1,10 +1,6 @@
-use Rattle.std.proofs.Common.{List, ap₂, arith, map, subst, ◌++◌, ◌∙◌}
-use Rattle.std.proofs.lemmas.List.{append-nil, take_all}
+use Rattle.channel_table.proofs.Base.{List, ap₂, arith, map, subst, ◌++◌, ◌∙◌, append-nil, take_all, AreLinked, row_set, Row}
 use Rattle.channel_table.proofs.FlownRows.{drop_none}
 use Rattle.channel_table.proofs.LinkedLemmas.{set_linked}
-use Rattle.channel_table.specs.Linked.{AreLinked}
-use Rattle.channel_table.specs.Listing.{row_set}
-use Rattle.channel_table.specs.declared.row.Row.{Row}
 use Rattle.channel_table.proofs.table.linked.end_left.Goals as goal
 
 pub loop-index-preserved : goal.loop-index-preserved

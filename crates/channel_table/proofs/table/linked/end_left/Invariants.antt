@@ -1,6 +1,4 @@
-use Rattle.std.proofs.Common.{drop, map, take, ◌++◌}
-use Rattle.channel_table.specs.Linked.{AreLinked}
-use Rattle.channel_table.specs.Listing.{row_set}
+use Rattle.channel_table.proofs.Base.{drop, map, take, ◌++◌, AreLinked, row_set}
 use Rattle.channel_table.proofs.table.linked.end_left.Given as goal
 
 abbrev pub invariant-loop-index : goal.invariant-loop-index

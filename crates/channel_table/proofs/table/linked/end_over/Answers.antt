@@ -1,16 +1,6 @@
-use Rattle.std.proofs.Common.{List, Option, [], ap, ap₂, arith, get_or, map, subst, ◌++◌, ◌∙◌, ◌-◌, ◌≡◌}
-use Rattle.std.proofs.lemmas.List.{append-nil, take_all}
-use Rattle.std.specs.Prelude.{filter_map, is_some}
-use Rattle.chan_types.specs.declared.answer.Answer.{Answer}
-use Rattle.chan_types.specs.declared.status.Status.TheVariants.{ConnRefused}
-use Rattle.channel_model.specs.declared.judged.Judged.TheVariants.{Failed}
-use Rattle.leg_index.specs.Links.{used}
+use Rattle.channel_table.proofs.Base.{List, Option, [], ap, ap₂, arith, get_or, map, subst, ◌++◌, ◌∙◌, ◌-◌, ◌≡◌, append-nil, take_all, filter_map, is_some, Answer, ConnRefused, Failed, used, answer_over, fails_at, kept_of, AreLinked, over_ended, Row, Over}
 use Rattle.channel_table.proofs.FlownRows.{drop_none, map_at}
 use Rattle.channel_table.proofs.LinkedLemmas.{over_linked}
-use Rattle.channel_table.specs.Failing.{answer_over, fails_at, kept_of}
-use Rattle.channel_table.specs.Linked.{AreLinked, over_ended}
-use Rattle.channel_table.specs.declared.row.Row.{Row}
-use Rattle.channel_table.specs.declared.side.Hits.TheVariants.{Over}
 use Rattle.channel_table.proofs.table.linked.end_over.Goals as goal
 
 pub loop-index-preserved : goal.loop-index-preserved

@@ -1,8 +1,4 @@
-use Rattle.std.proofs.Common.{drop, map, take, ℕ, ◌++◌, ◌≡◌}
-use Rattle.std.specs.Prelude.{filter_map}
-use Rattle.resolv_options.specs.declared.options.Options.{Options}
-use Rattle.channel_table.specs.Failing.{answer_over, fails_at, kept_of}
-use Rattle.channel_table.specs.Linked.{AreLinked}
+use Rattle.channel_table.proofs.Base.{drop, map, take, ℕ, ◌++◌, ◌≡◌, filter_map, Options, answer_over, fails_at, kept_of, AreLinked}
 use Rattle.channel_table.proofs.table.linked.end_over.Given as goal
 
 abbrev pub invariant-loop-index : goal.invariant-loop-index

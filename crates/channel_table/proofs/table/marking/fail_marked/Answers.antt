@@ -1,8 +1,6 @@
-use Rattle.std.proofs.Common.{List, arith, eqb-true, subst, sym, ◌∙◌}
+use Rattle.channel_table.proofs.Base.{List, arith, eqb-true, subst, sym, ◌∙◌, Row, Mark}
 use Rattle.std.proofs.lemmas.List.{nil_from_length}
-use Rattle.channel_table.proofs.FailSteps.{HaveFailed, failed_all, failed_more, failed_none, next_inside}
-use Rattle.channel_table.specs.declared.row.Row.{Row}
-use Rattle.channel_table.specs.declared.table.marking.Mark.{Mark}
+use Rattle.channel_table.proofs.MarkSteps.{HaveFailed, failed_all, failed_more, failed_none, next_inside}
 use Rattle.channel_table.proofs.table.marking.fail_marked.Goals as goal
 
 pub loop-alloc-init : goal.loop-alloc-init

@@ -1,10 +1,8 @@
-use Rattle.std.proofs.Common.{List, ap, arith, length, slice_index_or, subst, sym, ◌<◌, ◌∙◌, ◌≡◌, true}
+use Rattle.channel_table.proofs.Base.{List, ap, arith, length, subst, sym, ◌<◌, ◌∙◌, ◌≡◌, true, Legs, key_of, Row}
+use Rattle.std.proofs.Common.{slice_index_or}
 use Rattle.std.specs.FinSet as set
-use Rattle.leg_index.specs.Waiting.{Legs}
 use Rattle.channel_table.proofs.ListedLemmas.{insert_keeps}
 use Rattle.channel_table.proofs.MarkLemmas.{all_marked, more_marked}
-use Rattle.channel_table.specs.Listed.{key_of}
-use Rattle.channel_table.specs.declared.row.Row.{Row}
 use Rattle.channel_table.proofs.table.marking.marks_at.Goals as goal
 
 pub returns-in_err-answer-clause-kept : goal.returns-in_err-answer-clause-kept

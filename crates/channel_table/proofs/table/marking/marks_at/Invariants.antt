@@ -1,6 +1,5 @@
-use Rattle.std.proofs.Common.{◌≤◌, ◌*◌, length}
+use Rattle.channel_table.proofs.Base.{◌≤◌, ◌*◌, length, Keeps}
 use Rattle.channel_table.proofs.MarkLemmas.{MarkedUpTo}
-use Rattle.channel_table.specs.Listed.{Keeps}
 use Rattle.channel_table.proofs.table.marking.marks_at.Given as goal
 
 -- the rows before this index are marked that were told

@@ -1,7 +1,6 @@
-use Rattle.std.proofs.Common.{take, subst, arith, ◌≡◌, length}
-use Rattle.std.proofs.lemmas.List.{take_all, take_more, length-take-le}
+use Rattle.channel_table.proofs.Base.{take, subst, arith, ◌≡◌, length, take_all, take_more, IsSoonest}
+use Rattle.std.proofs.lemmas.List.{length-take-le}
 use Rattle.channel_table.proofs.SoonestLemmas.{soonest_more}
-use Rattle.channel_table.specs.Soonest.{IsSoonest}
 use Rattle.channel_table.proofs.table.seeking.find_soonest.Goals as goal
 
 pub loop-index-preserved : goal.loop-index-preserved

@@ -1,11 +1,5 @@
-use Rattle.std.proofs.Common.{sym, ap, subst, arith, ◌∙◌, ◌<◌, ◌+◌, ◌++◌, ◌∷◌, length, take, drop}
-use Rattle.std.proofs.lemmas.List.{get_or_read, set_split}
-use Rattle.std.specs.Prelude.{IfSome}
-use Rattle.query_machine.specs.Legs.{IsWaiting}
-use Rattle.channel_table.proofs.Ending.{one_more, split_at}
-use Rattle.channel_table.specs.Rows.{side_at}
-use Rattle.channel_table.specs.declared.row.Row.{Row}
-use Rattle.channel_table.specs.declared.side.Side.{Side}
+use Rattle.channel_table.proofs.Base.{sym, ap, subst, arith, ◌∙◌, ◌<◌, ◌+◌, ◌++◌, ◌∷◌, length, take, drop, get_or_read, set_split, IfSome, IsWaiting, lookup_at, Row, Lookup}
+use Rattle.channel_table.proofs.EndedRows.{one_more, split_at}
 use Rattle.channel_table.proofs.table.starting.begin.Goals as goal
 
 pub begin-requires : goal.begin-requires
@@ -13,7 +7,7 @@ begin-requires g c =
     let rows = c.args.rows.now.items in
     let row : Row g.row.T.Denot = c.index_mut.result.now in
     let inside : c.args.index < length c.args.rows.now.items = omega (arith, c.requires.inside) in
-    record { waits = subst (λ (r : Row g.row.T.Denot). IfSome (side_at c.args.is_second r) (λ (side : Side). IsWaiting side.leg.phase)) (sym (get_or_read rows c.args.index row inside c.index_mut.ensures.value row)) (c.requires.waits row) }
+    record { waits = subst (λ (r : Row g.row.T.Denot). IfSome (lookup_at c.args.is_second r) (λ (lookup : Lookup). IsWaiting lookup.leg.phase)) (sym (get_or_read rows c.args.index row inside c.index_mut.ensures.value row)) (c.requires.waits row) }
 
 pub returns-clause-begins : goal.returns-clause-begins
 returns-clause-begins g c =

@@ -1,10 +1,5 @@
-use Rattle.std.proofs.Common.{arith, sym, subst, get_or}
-use Rattle.std.proofs.lemmas.List.{get_or_read}
-use Rattle.channel_model.specs.Legs.{leg_of}
+use Rattle.channel_table.proofs.Base.{arith, sym, subst, get_or, get_or_read, leg_of, row_waits, IsIdle, Row}
 use Rattle.channel_table.proofs.Finding.{found_first}
-use Rattle.channel_table.specs.Rows.{row_waits}
-use Rattle.channel_table.specs.Starting.{IsIdle}
-use Rattle.channel_table.specs.declared.row.Row.{Row}
 use Rattle.channel_table.proofs.table.starting.find_idle.Goals as goal
 
 pub returns-in-Some : goal.returns-in-Some

@@ -1,6 +1,4 @@
-use Rattle.std.proofs.Common.{◌≡◌, [], take}
-use Rattle.std.specs.Prelude.{flat_map}
-use Rattle.channel_table.specs.Rows.{row_waits}
+use Rattle.channel_table.proofs.Base.{◌≡◌, [], take, flat_map, row_waits}
 use Rattle.channel_table.proofs.table.starting.find_idle.Given as goal
 
 -- no row before this index waits

@@ -1,6 +1,5 @@
-use Rattle.std.proofs.Common.{ap, ◌∙◌}
+use Rattle.channel_table.proofs.Base.{ap, ◌∙◌, Deadlines}
 use Rattle.std.specs.FinMap as map
-use Rattle.timeout_queue.specs.Queue.{Deadlines}
 use Rattle.channel_table.proofs.FlownLemmas.{put_back}
 use Rattle.channel_table.proofs.table.flown.Flown.add.Goals as goal
 

@@ -1,4 +1,4 @@
-use Rattle.std.proofs.Common.{◌∙◌}
+use Rattle.channel_table.proofs.Base.{◌∙◌}
 use Rattle.channel_table.proofs.LinkedLemmas.{busy_is}
 use Rattle.channel_table.proofs.table.rows.Rows.any_over.Goals as goal
 

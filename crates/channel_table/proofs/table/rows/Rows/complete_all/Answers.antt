@@ -1,4 +1,4 @@
-use Rattle.std.proofs.Common.{refl}
+use Rattle.channel_table.proofs.Base.{refl}
 use Rattle.channel_table.proofs.LinkedLemmas.{none_linked}
 use Rattle.channel_table.proofs.table.rows.Rows.complete_all.Goals as goal
 

@@ -1,10 +1,7 @@
-use Rattle.std.proofs.Common.{◌≡◌, ◌∙◌, true, subst, List}
+use Rattle.channel_table.proofs.Base.{◌≡◌, ◌∙◌, true, subst, List, Ticket, key_of, stays, Row}
 use Rattle.std.specs.FinSet as set
-use Rattle.chan_types.specs.declared.ticket.Ticket.{Ticket}
 use Rattle.channel_table.proofs.IndexLemmas.{ends_listed, ends_rising}
 use Rattle.channel_table.proofs.ListedLemmas.{kept_listed}
-use Rattle.channel_table.specs.Listed.{key_of, stays}
-use Rattle.channel_table.specs.declared.row.Row.{Row}
 use Rattle.channel_table.proofs.table.rows.Rows.end_row.Goals as goal
 
 pub invariant_of-self-2 : goal.invariant_of-self-2

@@ -1,7 +1,6 @@
-use Rattle.std.proofs.Common.{List, arith, sym, ◌∙◌}
+use Rattle.channel_table.proofs.Base.{List, arith, sym, ◌∙◌, Row}
 use Rattle.channel_table.proofs.FailedRows.{none_counted}
 use Rattle.channel_table.proofs.LinkedLemmas.{link_fits}
-use Rattle.channel_table.specs.declared.row.Row.{Row}
 use Rattle.channel_table.proofs.table.rows.Rows.fail_all.Goals as goal
 
 pub count-count-requires : goal.count-count-requires

@@ -1,4 +1,4 @@
-use Rattle.std.proofs.Common.{◌≡◌, true, false}
+use Rattle.channel_table.proofs.Base.{◌≡◌, true, false}
 use Rattle.channel_table.proofs.FailedRows.{fails_rising}
 use Rattle.channel_table.proofs.table.rows.Rows.fail_each.Goals as goal
 

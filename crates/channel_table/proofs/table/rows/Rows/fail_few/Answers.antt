@@ -1,4 +1,4 @@
-use Rattle.std.proofs.Common.{◌∙◌}
+use Rattle.channel_table.proofs.Base.{◌∙◌}
 use Rattle.channel_table.proofs.FailedRows.{fails_rising, more_listed, stays_listed}
 use Rattle.channel_table.proofs.table.rows.Rows.fail_few.Goals as goal
 

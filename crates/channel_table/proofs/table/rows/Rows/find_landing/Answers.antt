@@ -1,7 +1,5 @@
-use Rattle.std.proofs.Common.{List, None, Some, subst, sym}
+use Rattle.channel_table.proofs.Base.{List, None, Some, subst, sym, IsOnlyWith, id_of, Row}
 use Rattle.channel_table.proofs.StrayLemmas.{none_found, only_result}
-use Rattle.channel_table.specs.Strays.{IsOnlyWith, id_of}
-use Rattle.channel_table.specs.declared.row.Row.{Row}
 use Rattle.channel_table.proofs.table.rows.Rows.find_landing.Goals as goal
 
 pub returns-in-Some : goal.returns-in-Some

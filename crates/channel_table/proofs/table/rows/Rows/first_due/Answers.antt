@@ -1,8 +1,5 @@
-use Rattle.std.proofs.Common.{List, ap, sym}
-use Rattle.std.specs.Prelude.{option_map}
-use Rattle.channel_model.specs.Lawful.{Due, least}
+use Rattle.channel_table.proofs.Base.{List, ap, sym, option_map, Due, least, Row}
 use Rattle.channel_table.proofs.FirstDue.{first_least, none_due}
-use Rattle.channel_table.specs.declared.row.Row.{Row}
 use Rattle.channel_table.proofs.table.rows.Rows.first_due.Goals as goal
 
 pub returns-in-Some : goal.returns-in-Some

@@ -1,6 +1,5 @@
-use Rattle.std.proofs.Common.{None, Option, subst, sym, ◌∙◌, ℕ}
+use Rattle.channel_table.proofs.Base.{None, Option, subst, sym, ◌∙◌, ℕ, IsOnlyWith}
 use Rattle.channel_table.proofs.StrayLemmas.{none_without}
-use Rattle.channel_table.specs.Strays.{IsOnlyWith}
 use Rattle.channel_table.proofs.table.rows.Rows.index_by_id.Goals as goal
 
 pub returns-in-Some : goal.returns-in-Some

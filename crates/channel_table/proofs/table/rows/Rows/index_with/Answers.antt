@@ -1,8 +1,5 @@
-use Rattle.std.proofs.Common.{List, subst, sym, ◌∙◌}
-use Rattle.std.specs.List.{AllByRecursion}
+use Rattle.channel_table.proofs.Base.{List, subst, sym, ◌∙◌, AllByRecursion, IsNumbered, Row}
 use Rattle.channel_table.proofs.StrayLemmas.{none_flown_with, only_with}
-use Rattle.channel_table.specs.Strays.{IsNumbered}
-use Rattle.channel_table.specs.declared.row.Row.{Row}
 use Rattle.channel_table.proofs.table.rows.Rows.index_with.Goals as goal
 
 pub returns-in-Some : goal.returns-in-Some

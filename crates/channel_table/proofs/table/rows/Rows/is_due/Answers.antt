@@ -1,7 +1,5 @@
-use Rattle.std.proofs.Common.{None, Some}
-use Rattle.channel_model.specs.Lawful.{least}
+use Rattle.channel_table.proofs.Base.{None, Some, least, dues}
 use Rattle.channel_table.proofs.FirstDue.{due_by_moment}
-use Rattle.channel_table.specs.Soonest.{dues}
 use Rattle.channel_table.proofs.table.rows.Rows.is_due.Goals as goal
 
 pub returns-in-Some : goal.returns-in-Some

@@ -1,8 +1,5 @@
-use Rattle.std.proofs.Common.{List, ap, eqb-true, sym, ◌∙◌}
-use Rattle.std.specs.List.{sum_by}
+use Rattle.channel_table.proofs.Base.{List, ap, eqb-true, sym, ◌∙◌, sum_by, forced_in, Row}
 use Rattle.channel_table.proofs.LeaveLemmas.{rows_same}
-use Rattle.channel_table.specs.Rows.{forced_in}
-use Rattle.channel_table.specs.declared.row.Row.{Row}
 use Rattle.channel_table.proofs.table.rows.Rows.is_set.Goals as goal
 
 pub returns-then-self-eq0 : goal.returns-then-self-eq0

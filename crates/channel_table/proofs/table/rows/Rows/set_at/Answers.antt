@@ -1,10 +1,6 @@
-use Rattle.std.proofs.Common.{List, ap, map, subst, true, ◌∙◌, ◌≡◌}
-use Rattle.std.proofs.lemmas.Bool.{or_parts}
+use Rattle.channel_table.proofs.Base.{List, ap, map, subst, true, ◌∙◌, ◌≡◌, or_parts, key_of, row_set, Row}
 use Rattle.std.specs.FinSet as set
 use Rattle.channel_table.proofs.LeaveLemmas.{sets_again, sets_listed, sets_rising}
-use Rattle.channel_table.specs.Listed.{key_of}
-use Rattle.channel_table.specs.Listing.{row_set}
-use Rattle.channel_table.specs.declared.row.Row.{Row}
 use Rattle.channel_table.proofs.table.rows.Rows.set_at.Goals as goal
 
 pub invariant_of-self : goal.invariant_of-self

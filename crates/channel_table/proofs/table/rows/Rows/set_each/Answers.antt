@@ -1,6 +1,5 @@
-use Rattle.std.proofs.Common.{◌≡◌, true, false, subst, sym}
+use Rattle.channel_table.proofs.Base.{◌≡◌, true, false, subst, sym, IsRising}
 use Rattle.channel_table.proofs.IndexLemmas.{set_numbers}
-use Rattle.channel_table.specs.Listed.{IsRising}
 use Rattle.channel_table.proofs.table.rows.Rows.set_each.Goals as goal
 
 pub invariant_of-self : goal.invariant_of-self

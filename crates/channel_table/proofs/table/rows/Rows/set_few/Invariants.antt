@@ -1,5 +1,4 @@
-use Rattle.std.proofs.Common.{length, map, ◌≡◌}
-use Rattle.channel_table.specs.Listing.{row_set}
+use Rattle.channel_table.proofs.Base.{length, map, ◌≡◌, row_set}
 use Rattle.channel_table.proofs.table.rows.Rows.set_few.Given as goal
 
 -- the list makes the same of the rows as before

@@ -1,6 +1,5 @@
-use Rattle.std.proofs.Common.{subst, sym}
+use Rattle.channel_table.proofs.Base.{subst, sym, HasOneLink}
 use Rattle.channel_table.proofs.LinkedLemmas.{tcp_is}
-use Rattle.channel_table.specs.Linked.{HasOneLink}
 use Rattle.channel_table.proofs.table.rows.Rows.tcp_link.Goals as goal
 
 pub returns : goal.returns

@@ -1,5 +1,0 @@
-use Rattle.std.proofs.Common.{length}
-use Rattle.channel_table.proofs.table.listing.+find_server.Given as goal
-
-abbrev pub decreases-find_server : goal.decreases-find_server
-decreases-find_server l = length l.servers.now

@@ -1,5 +1,0 @@
-use Rattle.std.proofs.Common.{length}
-use Rattle.channel_table.proofs.table.listing.+greatest_of.Given as goal
-
-abbrev pub decreases-greatest_of : goal.decreases-greatest_of
-decreases-greatest_of l = length l.servers.now

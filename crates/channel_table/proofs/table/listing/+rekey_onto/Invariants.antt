@@ -1,5 +1,0 @@
-use Rattle.std.proofs.Common.{length}
-use Rattle.channel_table.proofs.table.listing.+rekey_onto.Given as goal
-
-abbrev pub decreases-rekey_onto : goal.decreases-rekey_onto
-decreases-rekey_onto l = length l.servers.now
