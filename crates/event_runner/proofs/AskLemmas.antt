@@ -1,46 +1,15 @@
 -- The query of an attempt that was begun: how it goes out, and how that is cut short.
-use Rattle.std.proofs.Common.{◌≡◌, ◌≢◌, ◌∙◌, ℕ, ◌+◌, ◌==◌, ◌||◌, Bool, true, false, List, [], ◌∷◌, ◌++◌, map, refl, ap, ap₂, sym, subst, arith, eq-eqb, eqb-true, ne_eqb, inl, inr, ⊎_elim, cond, nat_le, true≢false}
-use Rattle.std.specs.Prelude.{IsSomeAnd, None, Ok, Option, Some, find, not, option_map, option_to_list, ◌⊎◌}
-use Rattle.std.specs.Bool.{then_some}
-use Rattle.std.specs.List.{AllByRecursion, list_any}
-use Rattle.std.specs.Option.{option_map_or}
-use Rattle.std.proofs.lemmas.Bool.{and_from, and_parts, cases_Bool, or_parts}
-use Rattle.std.proofs.lemmas.List.{append-nil, map-append}
-use Rattle.std.proofs.lemmas.List.Folds.{list_any-append}
-use Rattle.chan_types.specs.declared.journal.Entry.{Entry}
-use Rattle.chan_types.specs.declared.journal.What.{What}
-use Rattle.chan_types.specs.declared.journal.What.TheVariants.{Fault, Start}
-use Rattle.chan_types.specs.declared.server_key.ServerKey.{ServerKey}
-use Rattle.net_addr.specs.declared.addr.ServerAddr.{ServerAddr}
-use Rattle.net_world.specs.declared.answers.Sent.TheVariants.{Sent as WasSent}
-use Rattle.net_world.specs.declared.log.WorldCall.{WorldCall}
-use Rattle.net_world.specs.declared.log.WorldCall.TheVariants.{Connect, Send}
-use Rattle.channel_model.specs.declared.answers.Begun.TheVariants.{Started}
-use Rattle.channel_model.proofs.Theorems.{agrees_nearly, each_flies, flight-cases, chosen_link-cases, new_link-fresh, AreOthers, agrees_step, noted-others, noted-own, noted-append, told-quiet, own-append}
-use Rattle.channel_model.specs.KeptLinks.{Row, link_of_row}
-use Rattle.channel_model.specs.Choice.{chosen_link, greatest_link, is_on_tcp}
-use Rattle.channel_model.specs.CutShort.{MayLackOne, NearlyAgrees, NearlyInOrder}
-use Rattle.channel_model.specs.Flight.{Attempt, flight, in_flight}
-use Rattle.channel_model.specs.Frames.{framed}
-use Rattle.channel_model.specs.Journal.{Past, followed_by, own_entries}
-use Rattle.channel_model.specs.Lawful.{is_mixed}
-use Rattle.channel_model.specs.Legs.{leg_of}
-use Rattle.channel_model.specs.Links.{Link, held_after, held_link, told}
-use Rattle.channel_model.specs.Meanings.{Starts}
-use Rattle.channel_model.specs.Servers.{has_key, opening_servers, servers_at}
-use Rattle.channel_model.specs.Setting.{Setting}
-use Rattle.channel_model.specs.Stretch.{Agrees, Standing}
-use Rattle.channel_model.specs.Traffic.{Parcel, Route, arrived, asked, connects, datagrams, faulted, faults, is_start_on, messages, noted, noticed, notices, notices_of, opened, query_bytes, queued, written}
-use Rattle.channel_model.specs.Turn.{AreDrawn, Numbered, draws, is_start_to, numbered, served_by, words_of_look}
-use Rattle.event_runner.specs.Parts.{Asks, CutAsking, NearlyServes, words_of}
-use Rattle.event_runner.specs.State.{serve_unless, told_with, was_told}
+use Rattle.event_runner.proofs.Base.{◌≡◌, ◌≢◌, ◌∙◌, ℕ, ◌+◌, ◌==◌, ◌||◌, Bool, true, false, List, [], ◌∷◌, ◌++◌, map, refl, ap, ap₂, sym, subst, arith, eq-eqb, eqb-true, ne_eqb, inl, inr, ⊎_elim, cond, nat_le, true≢false, IsSomeAnd, None, Option, Some, find, not, option_map, option_to_list, ◌⊎◌, then_some, AllByRecursion, list_any, option_map_or, and_from, and_parts, cases_Bool, or_parts, append-nil, map-append, list_any-append, Entry, What, Fault, Start, ServerKey, WasSent, WorldCall, Connect, Send, agrees_nearly, each_flies, flight-cases, chosen_link-cases, new_link-fresh, AreOthers, agrees_step, noted-others, noted-own, noted-append, told-quiet, own-append, Row, link_of_row, chosen_link, greatest_link, is_on_tcp, MayLackOne, NearlyAgrees, NearlyInOrder, Attempt, flight, in_flight, framed, Past, followed_by, own_entries, is_mixed, leg_of, Link, held_after, held_link, told, has_key, opening_servers, servers_at, Setting, Agrees, Standing, Parcel, Route, arrived, asked, connects, datagrams, faulted, faults, is_start_on, messages, noted, noticed, notices, notices_of, opened, query_bytes, queued, written, AreDrawn, Numbered, draws, is_start_to, numbered, served_by, words_of_look, Asks, CutAsking, NearlyServes, words_of, serve_unless, told_with, was_told}
 use Rattle.event_runner.proofs.CallLemmas.{own, own_none, own_one}
+use Rattle.event_runner.proofs.Outing.{Outing, Since, means}
 use Rattle.event_runner.proofs.RowLemmas.{apart_again, apart_split, each_both, each_join, each_split, each_then, lacks_none}
-use Rattle.event_runner.proofs.SoundLemmas.{AreIdle, HasLink, Lacks, RowsApart, Sound, sound_idle}
+use Rattle.event_runner.proofs.SoundLemmas.{HasLink, Lacks, RowsApart, Sound, sound_idle}
 use Rattle.event_runner.proofs.QueryLemmas.{IsBegun, IsCore, agrees_serves, core_connect, core_none, core_send, few_left, find_says, found_test, has_bits, near_none, near_one, near_start, or_later, queued_not, queued_yes, served_list, serves_first, serves_new, serves_part, serves_quiet, serves_received, serves_sent, told_serves, words_split}
 
-module _ (setting : Setting) (seat reading word bits number leg server : ℕ) (address : ServerAddr) (link id : ℕ) (message : List ℕ) (rows : List Row) (keys : List ℕ)
-    (os : List Entry) (others : AreOthers seat os) (idle : AreIdle os) (from : Standing) (sound : Sound setting rows keys from) where
+module _ (o : Outing) {setting : Setting} {seat : ℕ} {rows : List Row} {keys : List ℕ} (since : Since setting seat rows keys) where
+  open o use {reading, word, bits, number, leg, server, address, link, id, message}
+  open since use {os, others, idle, from, sound}
+
   -- the attempt, its entry, and what happened before it
   abbrev pub bits_if : Option ℕ
   bits_if = then_some (is_mixed setting link) bits
@@ -57,7 +26,7 @@ module _ (setting : Setting) (seat reading word bits number leg server : ℕ) (a
   abbrev pub mid : Standing
   mid = record { past = here; held = from.held; unwritten = from.unwritten }
 
-  mid_sound : Sound setting rows keys mid
+  pub mid_sound : Sound setting rows keys mid
   mid_sound = sound_idle setting rows keys os from idle sound
 
   abbrev pub start_entry : Entry
@@ -114,7 +83,7 @@ module _ (setting : Setting) (seat reading word bits number leg server : ℕ) (a
             ∙ append-nil (served_by setting here begun);
       }
 
-  module _ (meant : Starts word bits reading (Ok (Started number leg server address link id message)) setting here (Some begun)) where
+  module _ (meant : means o setting here (Some begun)) where
     -- the query's bytes
     pub query_is : query_bytes setting here attempt ≡ message
     query_is = bytes_of _ _ meant.4
@@ -368,7 +337,7 @@ module _ (setting : Setting) (seat reading word bits number leg server : ℕ) (a
 
   -- ---- the query goes out, or not
 
-  module _ (meant : Starts word bits reading (Ok (Started number leg server address link id message)) setting here (Some begun)) where
+  module _ (meant : means o setting here (Some begun)) where
     -- the Start and the calls that tell of it
     agrees_begun : (core : List WorldCall) (held : List Link) → held ≡ held_after from.held core → told messages from.held core ≡ [] → asked setting here begun ≡ told datagrams from.held core →
         opened here begun ≡ told connects from.held core → ((k : ℕ) → told (written k) from.held core ≡ []) → told faults from.held core ≡ [] →

@@ -1,25 +1,5 @@
 -- A run under way, behind each of whose turns a relation holds between the past there and the entries that stand behind it.
-use Rattle.std.proofs.Common.{◌≡◌, ◌≢◌, ℕ, ◌+◌, ◌-◌, ◌≤◌, Bool, List, [], ◌∷◌, ◌++◌, length, refl, sym, subst, arith}
-use Rattle.std.specs.Prelude.{IsTrue, Option, min, ◌^◌}
-use Rattle.chan_types.specs.declared.journal.Entry.{Entry}
-use Rattle.net_world.specs.declared.answers.Waited.{Waited}
-use Rattle.net_world.specs.declared.log.WorldCall.{WorldCall}
-use Rattle.net_world.specs.declared.log.WorldCall.TheVariants.{Wait}
-use Rattle.channel_model.proofs.Theorems.{each-append}
-use Rattle.channel_model.specs.Completion.{pending, ready}
-use Rattle.channel_model.specs.Course.{Round, has_no_turn}
-use Rattle.channel_model.specs.Endings.{IsStalledBehind}
-use Rattle.channel_model.specs.Journal.{Past, followed_by, own_entries, past_of}
-use Rattle.channel_model.specs.Known.{GoesOn, Known}
-use Rattle.event_runner.specs.declared.answers.Paused.{Paused}
-use Rattle.event_runner.specs.declared.answers.Paused.TheVariants.{Skipped, WaitFault, Woken}
-use Rattle.event_runner.specs.declared.answers.Turned.{Turned}
-use Rattle.event_runner.specs.Goes.{Goes, Leads}
-use Rattle.event_runner.specs.Running.{HasWaited, PausesBy, Running, run_of, wakes_by}
-use Rattle.event_runner.specs.State.{IsTurnOwner}
-use Rattle.event_runner.specs.Turning.{MakesTurn}
-use Rattle.event_runner.specs.UnderWay.{IsUnderWay, Reach, RunsSince, awaiting, delivered, following, rested, turned}
-use Rattle.net_world.specs.Logs.{LogGets}
+use Rattle.event_runner.proofs.Base.{◌≡◌, ◌≢◌, ℕ, ◌+◌, ◌-◌, ◌≤◌, Bool, List, [], ◌∷◌, ◌++◌, length, refl, sym, subst, arith, IsTrue, Option, min, ◌^◌, Entry, Waited, WorldCall, Wait, each-append, pending, ready, Round, has_no_turn, IsStalledBehind, Past, followed_by, own_entries, past_of, GoesOn, Known, Paused, Skipped, WaitFault, Woken, Turned, Goes, Leads, HasWaited, PausesBy, Running, run_of, wakes_by, IsTurnOwner, MakesTurn, IsUnderWay, Reach, RunsSince, awaiting, delivered, following, rested, turned, LogGets}
 use Rattle.event_runner.proofs.GoesLemmas.{owner_before, told_as, told_by, told_trans}
 use Rattle.event_runner.proofs.RoundLemmas.{AreBetween}
 use Rattle.event_runner.proofs.RunLemmas.{MayStand, WayWith, facts_of, waited_here, way_behind, way_broken, way_of, way_rested, way_turned}
@@ -56,31 +36,24 @@ module _ (holds : Past → List Entry → Type 0) (slice : ℕ) where
     with_behind reach old new running goes own may grows =
         let trail = trail_of old new goes in
         told_as (λ calls. IsTurnOwner old → WayWith slice turns asides holds reach old running calls) (λ calls. IsTurnOwner new → WayWith slice turns asides holds reach new running calls)
-        (λ calls way owner. way_behind slice turns asides holds reach old new goes.since running calls trail owner own may grows (way (owner_before old new goes.since trail owner))) l m
+        (λ calls way owner. way_behind slice turns asides holds trail owner own may grows (way (owner_before old new goes.since trail owner))) l m
 
     -- the run has come further behind its last turn
-    with_further : (old new : Reach) (known : Known) (running : Running) → ((calls : List WorldCall) (first : List Entry) (first_asides : List ℕ) (rounds : List Round) →
-        Facts known.setting known.seat slice turns asides old known.seen running calls first first_asides rounds → Facts known.setting known.seat slice turns asides new known.seen running calls first first_asides rounds) →
-        RunsWith turns asides old known running l m → RunsWith turns asides new known running l m
-    with_further old new known running further =
-        told_as (λ calls. IsTurnOwner known → WayWith slice turns asides holds old known running calls) (λ calls. IsTurnOwner known → WayWith slice turns asides holds new known running calls)
-        (λ calls way owner.
-        let w = way owner in
-        let course = w.0.course in (
-          way_of slice turns asides new known running calls course.first course.first_asides course.rounds owner
-              (further calls course.first course.first_asides course.rounds (facts_of slice turns asides old known running calls w.0)),
-          w.1,
-        )) l m
+    with_further : (one other : Reach) (known : Known) (running : Running) →
+        ((calls : List WorldCall) (first : List Entry) (first_asides : List ℕ) (rounds : List Round) → Facts known.setting known.seat slice turns asides one known.seen running calls first first_asides rounds →
+        Facts known.setting known.seat slice turns asides other known.seen running calls first first_asides rounds) →
+        RunsWith turns asides one known running l m → RunsWith turns asides other known running l m
+    with_further one other known running further =
+        told_as (λ calls. IsTurnOwner known → WayWith slice turns asides holds one known running calls) (λ calls. IsTurnOwner known → WayWith slice turns asides holds other known running calls)
+        (λ calls way owner. let w = way owner in (way_of owner (further calls _ _ _ (facts_of w.0)), w.1)) l m
 
     -- nothing is ready any more
     pub with_delivered : (known : Known) (running : Running) → ready known.setting (past_of known.seen) ≡ [] → RunsWith turns asides turned known running l m → RunsWith turns asides delivered known running l m
-    with_delivered known running none = with_further turned delivered known running
-        (λ calls first first_asides rounds. facts_delivered known.setting known.seat slice turns asides first first_asides known.seen running calls rounds none)
+    with_delivered known running none = with_further turned delivered known running (λ calls first asides rounds. facts_delivered known.setting known.seat slice none)
 
     -- a request is pending
     pub with_following : (known : Known) (running : Running) → pending known.setting (past_of known.seen) ≢ [] → RunsWith turns asides rested known running l m → RunsWith turns asides following known running l m
-    with_following known running some = with_further rested following known running
-        (λ calls first first_asides rounds. facts_following known.setting known.seat slice turns asides first first_asides known.seen running calls rounds some)
+    with_following known running some = with_further rested following known running (λ calls first asides rounds. facts_following known.setting known.seat slice some)
 
     -- a turn was made, behind which nothing stands yet
     pub with_turned : ((past : Past) → holds past []) → (old new : Known) (running after : Running) (n : Option (List WorldCall)) (answer : Turned) → Goes (MakesTurn answer) (run_of old running m) (run_of new after n) → after.reading ≡ answer.reading →
@@ -102,7 +75,7 @@ module _ (holds : Past → List Entry → Type 0) (slice : ℕ) where
     with_paused known running after broken n answer some pauses is before =
         subst (λ r. RunsWith turns asides rested known r l n) (sym is)
         (told_as (λ calls. IsTurnOwner known → WayWith slice turns asides holds rested known running calls) (λ calls. IsTurnOwner known → WayWith slice turns asides holds rested known (record running { broken = broken }) calls)
-        (λ calls way owner. let w = way owner in (way_broken slice turns asides rested known running broken calls w.0, w.1)) l n (by_answer answer pauses))
+        (λ calls way owner. let w = way owner in (way_broken broken w.0, w.1)) l n (by_answer answer pauses))
       where
         latest : ℕ
         latest = min (running.reading + slice) (2 ^ 64 - 1)
@@ -111,16 +84,16 @@ module _ (holds : Past → List Entry → Type 0) (slice : ℕ) where
         waited outcome w =
             let until : ℕ = wakes_by known.setting latest (past_of known.seen) in
             let called : RunsWith turns asides awaiting known running l m = with_further delivered awaiting known running
-            (λ calls first first_asides rounds. facts_awaiting known.setting known.seat slice turns asides first first_asides known.seen running calls rounds (waited_here latest outcome known m n w)) before in
+            (λ calls first asides rounds. facts_awaiting known.setting known.seat slice (waited_here latest outcome known m n w)) before in
             told_trans (λ calls. IsTurnOwner known → WayWith slice turns asides holds awaiting known running calls) (λ calls. calls ≡ Wait until outcome ∷ []) (λ calls. IsTurnOwner known → WayWith slice turns asides holds rested known running calls)
             (λ cs ds way waits owner.
-            subst (λ ds. WayWith slice turns asides holds rested known running (cs ++ ds)) (sym waits) (way_rested slice turns asides holds known running cs until outcome some refl owner (way owner)))
+            subst (λ ds. WayWith slice turns asides holds rested known running (cs ++ ds)) (sym waits) (way_rested slice turns asides holds until outcome some refl owner (way owner)))
             l m n called (told_by (λ calls. calls ≡ Wait until outcome ∷ []) (Wait until outcome ∷ []) refl m n w.waits)
 
         by_answer : (answer : Paused) → PausesBy latest answer known known m n → RunsWith turns asides rested known running l n
         by_answer Skipped skips_it =
             subst (λ k. RunsWith turns asides rested known running l k) (sym skips_it.no_call)
-            (with_further delivered rested known running (λ calls first first_asides rounds. facts_skipped known.setting known.seat slice turns asides first first_asides known.seen running calls rounds skips_it.skipped) before)
+            (with_further delivered rested known running (λ calls first asides rounds. facts_skipped known.setting known.seat slice skips_it.skipped) before)
         by_answer Woken w = waited _ w
         by_answer WaitFault w = waited _ w
 
@@ -130,8 +103,7 @@ module _ (holds : Past → List Entry → Type 0) (slice : ℕ) where
   with_stalls turns reach known running calls some way = (
     record {
       course = way.0.course;
-      left_pending = pending_behind known.setting known.seat slice turns 0 way.0.course.first way.0.course.first_asides known.seen running calls reach way.0.course.rounds some
-          (facts_of slice turns 0 reach known running calls way.0);
+      left_pending = pending_behind known.setting known.seat slice some (facts_of way.0);
     },
     way.1,
   )

@@ -1,26 +1,5 @@
 -- One or two calls of a desk, with the calls of the network that go with them.
-use Rattle.std.proofs.Common.{◌≡◌, ◌∙◌, ℕ, ◌==◌, ◌&&◌, ◌||◌, Bool, true, false, List, [], ◌∷◌, ◌++◌, length, refl, ap, sym, subst, true≢false, cond, eq-eqb}
-use Rattle.std.specs.Prelude.{None, Option, Some, is_none, not, option_map}
-use Rattle.std.specs.List.{list_all}
-use Rattle.std.proofs.lemmas.Bool.{and_from, and_parts}
-use Rattle.std.proofs.lemmas.List.{append-nil, append_assoc}
-use Rattle.std.proofs.lemmas.List.Folds.{list_all-append}
-use Rattle.chan_types.specs.declared.journal.Entry.{Entry}
-use Rattle.chan_types.specs.declared.journal.What.{What}
-use Rattle.chan_types.specs.declared.journal.What.TheVariants.{Accept, Arrive, Cancel, Destroy, Expire, Fault, Servers, Start, Take}
-use Rattle.net_world.specs.declared.log.WorldCall.{WorldCall}
-use Rattle.channel_model.proofs.Theorems.{others_are, followed_by-append, AreOthers, own-append}
-use Rattle.channel_model.specs.Course.{is_of_turn}
-use Rattle.channel_model.specs.Flight.{begun_by}
-use Rattle.channel_model.specs.Journal.{Past, followed_by, own_entries, past_of}
-use Rattle.channel_model.specs.Known.{Calls, Known}
-use Rattle.channel_model.specs.Meanings.{Meaning}
-use Rattle.channel_model.specs.Seen.{entries_of}
-use Rattle.channel_model.specs.Setting.{Setting}
-use Rattle.channel_model.specs.Stretch.{Standing}
-use Rattle.channel_model.specs.Turn.{parts_of_entry}
-use Rattle.event_runner.specs.Goes.{Break, Goes, Leads, Stops, Stretch}
-use Rattle.event_runner.specs.State.{IsTurnOwner, State}
+use Rattle.event_runner.proofs.Base.{◌≡◌, ◌∙◌, ℕ, ◌==◌, ◌&&◌, ◌||◌, Bool, true, false, List, [], ◌∷◌, ◌++◌, length, refl, ap, sym, subst, true≢false, cond, eq-eqb, None, Option, Some, is_none, not, option_map, list_all, and_from, and_parts, append-nil, append_assoc, list_all-append, Entry, What, Accept, Arrive, Cancel, Destroy, Expire, Fault, Servers, Start, Take, WorldCall, others_are, followed_by-append, AreOthers, own-append, is_of_turn, begun_by, Past, followed_by, own_entries, past_of, Calls, Known, Meaning, entries_of, Setting, Standing, parts_of_entry, Break, Goes, Leads, Stops, Stretch, IsTurnOwner, State}
 use Rattle.event_runner.proofs.GoesLemmas.{goes_by, stops_by}
 use Rattle.event_runner.proofs.SoundLemmas.{AreIdle, Sound, holds_of, sound_of}
 use Rattle.event_runner.proofs.TrailLemmas.{Trail, made_one, made_others, trail_call, trail_none}

@@ -1,26 +1,5 @@
 -- Links that are looked at one behind the other, and closed where they aren't busy.
-use Rattle.std.proofs.Common.{◌≡◌, ◌≢◌, ◌∙◌, ℕ, ◌+◌, ◌≤◌, ◌==◌, ◌||◌, Bool, true, false, List, [], ◌∷◌, ◌++◌, length, map, refl, ap, ap₂, sym, subst, arith, true≢false, eq-eqb, ne_eqb, cond, length-append}
-use Rattle.std.specs.Prelude.{not}
-use Rattle.std.specs.List.{list_all, list_any}
-use Rattle.std.proofs.lemmas.Bool.{and_from, and_parts}
-use Rattle.std.proofs.lemmas.List.{append-nil, append_assoc, map-append}
-use Rattle.std.proofs.lemmas.List.Folds.{list_all-append, list_any-append}
-use Rattle.chan_types.specs.declared.journal.Entry.{Entry}
-use Rattle.net_world.specs.declared.log.WorldCall.{WorldCall}
-use Rattle.net_world.specs.declared.log.WorldCall.TheVariants.{Close}
-use Rattle.channel_model.proofs.Theorems.{agrees_nearly, in_flight-none, agrees_calls}
-use Rattle.channel_model.specs.KeptLinks.{Row, link_of_row}
-use Rattle.channel_model.specs.Flight.{went_over}
-use Rattle.channel_model.specs.Journal.{Past, followed_by}
-use Rattle.channel_model.specs.Known.{Calls}
-use Rattle.channel_model.specs.Links.{Link, told, without_link}
-use Rattle.channel_model.specs.Meanings.{TellsBusy}
-use Rattle.channel_model.specs.Setting.{Setting}
-use Rattle.channel_model.specs.Stretch.{Standing}
-use Rattle.channel_model.specs.Turn.{closes_held, closes_made, closing, is_busy, is_looked_at, somewhere}
-use Rattle.event_runner.specs.Goes.{Goes, Stops}
-use Rattle.event_runner.specs.Parts.{ClosesUpTo, CutLook, CutPart, LinksApart, LooksAt, MakesPart, Within, is_closed}
-use Rattle.event_runner.specs.State.{Gets, State}
+use Rattle.event_runner.proofs.Base.{◌≡◌, ◌≢◌, ◌∙◌, ℕ, ◌+◌, ◌≤◌, ◌==◌, ◌||◌, Bool, true, false, List, [], ◌∷◌, ◌++◌, length, map, refl, ap, ap₂, sym, subst, arith, true≢false, eq-eqb, ne_eqb, cond, length-append, not, list_all, list_any, and_from, and_parts, append-nil, append_assoc, map-append, list_all-append, list_any-append, Entry, WorldCall, Close, agrees_nearly, in_flight-none, agrees_calls, Row, link_of_row, went_over, Past, followed_by, Calls, Link, told, without_link, TellsBusy, Setting, Standing, closes_held, closes_made, closing, is_busy, is_looked_at, somewhere, Goes, Stops, ClosesUpTo, CutLook, CutPart, LinksApart, LooksAt, MakesPart, Within, is_closed, Gets, State}
 use Rattle.event_runner.proofs.CallLemmas.{goes_look, log_stays, own_none, stops_look}
 use Rattle.event_runner.proofs.FlushLemmas.{links_size}
 use Rattle.event_runner.proofs.GoesLemmas.{goes_joined, goes_none, stops_joined}
@@ -152,7 +131,7 @@ module _ (reading : ℕ) where
         unclosed = none_closed from.held (told closes_made from.held cs) (ap (told closes_made from.held) p.no_call);
         closed = ap (told closes_made from.held) p.no_call ∙ sym (ap (told closes_held from.held) p.no_call);
       })
-      (goes_none IsNothing (λ setting seat s. record { within = within_none reading closing setting seat s; no_entry = refl; no_call = refl; held = refl }) a)
+      (goes_none IsNothing (λ setting seat s. record { within = within_none s; no_entry = refl; no_call = refl; held = refl }) a)
 
   -- ---- one look
 
@@ -238,7 +217,7 @@ module _ (reading : ℕ) where
 
   module _ (count : ℕ) (stays : Bool) (setting : Setting) (seat : ℕ) (x y z : Standing) (es fs : List Entry) (cs ds : List WorldCall) (p : ClosesUpTo reading count setting seat x es cs y) (q : LooksAt reading count stays setting seat y fs ds z) where
     both_within : Within reading closing 0 0 0 setting seat x (es ++ fs) (cs ++ ds) z
-    both_within = within_joined reading closing setting seat 0 0 0 0 0 0 x y z es fs cs ds p.within q.within
+    both_within = within_joined p.within q.within
 
     split_here : (p.kept ≡ q.before) × (p.rest ≡ q.link ∷ q.after)
     split_here = split_same p.kept p.rest q.before (q.link ∷ q.after) (p.count_is ∙ sym q.index_is) (sym p.new_is ∙ q.old_is)
@@ -247,10 +226,10 @@ module _ (reading : ℕ) where
     old_both = p.old_is ∙ ap (λ l. p.done ++ l) split_here.1 ∙ sym (append_assoc p.done (q.link ∷ []) q.after)
 
     closes_both : told closes_made x.held (cs ++ ds) ≡ told closes_made x.held cs ++ told closes_made y.held ds
-    closes_both = told_both closes_made setting seat x y es cs ds p.within.agrees
+    closes_both = told_both closes_made ds p.within.agrees
 
     closed_both : told closes_made x.held (cs ++ ds) ≡ told closes_held x.held (cs ++ ds)
-    closed_both = closes_both ∙ ap₂ (λ l m. l ++ m) p.closed q.closed ∙ sym (told_both closes_held setting seat x y es cs ds p.within.agrees)
+    closed_both = closes_both ∙ ap₂ (λ l m. l ++ m) p.closed q.closed ∙ sym (told_both closes_held ds p.within.agrees)
 
     rest_unclosed : (not (is_closed (told closes_made x.held cs) q.link) ≡ true) × (list_all (λ link. not (is_closed (told closes_made x.held cs) link)) q.after ≡ true)
     rest_unclosed = and_parts _ _ (subst (λ l. list_all (λ link. not (is_closed (told closes_made x.held cs) link)) l ≡ true) split_here.1 p.unclosed)
@@ -364,11 +343,11 @@ module _ (reading : ℕ) where
   pub closes_stop : (count : ℕ) (a b c : State) → Goes (ClosesUpTo reading count) a b → Stops (CutLook reading) b c → Stops (CutPart reading closing) a c
   closes_stop count a b c = stops_joined (ClosesUpTo reading count) (CutLook reading) (CutPart reading closing)
       (λ setting seat x y es fs cs ds p q.
-      let both = nearly_joined reading closing setting seat 0 0 0 x y es fs cs ds p.within q.within in
+      let both = nearly_joined p.within q.within in
       let closes : told closes_made x.held (cs ++ ds) ≡ told closes_made x.held cs =
-      told_both closes_made setting seat x y es cs ds p.within.agrees ∙ ap (λ l. told closes_made x.held cs ++ told closes_made y.held l) q.no_call ∙ append-nil (told closes_made x.held cs) in
+      told_both closes_made ds p.within.agrees ∙ ap (λ l. told closes_made x.held cs ++ told closes_made y.held l) q.no_call ∙ append-nil (told closes_made x.held cs) in
       let held : told closes_held x.held (cs ++ ds) ≡ told closes_held x.held cs =
-      told_both closes_held setting seat x y es cs ds p.within.agrees ∙ ap (λ l. told closes_held x.held cs ++ told closes_held y.held l) q.no_call ∙ append-nil (told closes_held x.held cs) in
+      told_both closes_held ds p.within.agrees ∙ ap (λ l. told closes_held x.held cs ++ told closes_held y.held l) q.no_call ∙ append-nil (told closes_held x.held cs) in
       record {
         nearly = both.nearly;
         alone = both.alone;

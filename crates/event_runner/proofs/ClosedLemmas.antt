@@ -1,30 +1,5 @@
 -- The desk of the tests: nothing was asked, so nothing is pending or ready, waits or is in flight.
-use Rattle.std.proofs.Common.{◌≡◌, ℕ, ◌<◌, List, [], ◌∷◌, ◌++◌, filter, map, refl, ap, ap₂, sym, subst, true, false, None, Some, Ok, Err, Result}
-use Rattle.std.specs.List.{list_any}
-use Rattle.std.specs.Prelude.{IfSome, filter_map, flat_map, is_err, is_some, length, not, option_map}
-use Rattle.std.proofs.lemmas.List.{append-nil}
-use Rattle.chan_types.specs.declared.journal.Entry.{Entry}
-use Rattle.chan_types.specs.declared.journal.What.{What}
-use Rattle.chan_types.specs.declared.journal.What.TheVariants.{Accept, Arrive, Cancel, Destroy, Expire, Fault, Servers, Start, Take}
-use Rattle.channel_model.proofs.Theorems.{lawful_push, past_of-push}
-use Rattle.channel_model.specs.Completion.{completed_at, completed_by, is_open, pending, ready, waiting, waiting_of}
-use Rattle.channel_model.specs.Flight.{flight, in_flight, started}
-use Rattle.channel_model.specs.Journal.{Past, accepted, is_destroyed, past_of}
-use Rattle.channel_model.specs.Known.{Calls}
-use Rattle.channel_model.specs.Flight.{went_over, closes}
-use Rattle.channel_model.specs.Lawful.{IsAllowed, IsLawfulPast, due_of, first_due, least}
-use Rattle.channel_model.specs.Meanings.{Accepts, Arrives, Cancels, Destroys, Expires, Fails, Meaning, SetsServers, Starts, Takes, TellsBusy, TellsCounts, TellsDue}
-use Rattle.channel_model.specs.declared.answers.Begun.TheVariants.{Idle}
-use Rattle.channel_model.specs.declared.answers.Landed.{Landed}
-use Rattle.channel_model.specs.declared.answers.Landed.TheVariants.{Stray}
-use Rattle.channel_model.specs.declared.answers.Lapse.TheVariants.{NotDue}
-use Rattle.channel_model.specs.declared.answers.SetFault.TheVariants.{Closed as ChannelClosed}
-use Rattle.chan_types.specs.declared.refusal.Refusal.TheVariants.{Closed}
-use Rattle.chan_types.specs.declared.script.Script.{Script}
-use Rattle.chan_types.specs.declared.spec.Spec.{Spec}
-use Rattle.item_list.specs.declared.no_memory.NoMemory.{NoMemory}
-use Rattle.net_addr.specs.declared.addr.ServerAddr.{ServerAddr}
-use Rattle.event_runner.specs.ClosedDesk.{IsClosed, known_of, plain_setting}
+use Rattle.event_runner.proofs.Base.{◌≡◌, ℕ, ◌<◌, List, [], ◌∷◌, ◌++◌, filter, map, refl, ap, ap₂, sym, subst, true, false, None, Some, Ok, Err, Result, list_any, IfSome, filter_map, flat_map, is_err, is_some, length, not, option_map, append-nil, Entry, What, Accept, Arrive, Cancel, Destroy, Expire, Fault, Servers, Start, Take, lawful_push, past_of-push, completed_at, completed_by, is_open, pending, ready, waiting, waiting_of, flight, in_flight, started, Past, accepted, is_destroyed, past_of, Calls, went_over, closes, IsAllowed, IsLawfulPast, due_of, first_due, least, Accepts, Arrives, Cancels, Destroys, Expires, Fails, Meaning, SetsServers, Starts, Takes, TellsBusy, TellsCounts, TellsDue, Idle, Landed, Stray, NotDue, ChannelClosed, Closed, Script, Spec, NoMemory, ServerAddr, IsClosed, known_of, plain_setting}
 
 none_accepted : (past : Past) → IsClosed past → accepted past ≡ []
 none_accepted [] c = absurd c

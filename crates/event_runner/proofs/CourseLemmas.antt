@@ -1,20 +1,6 @@
 -- Courses with one turn more, with a wait behind the last turn, and with more entries behind that.
-use Rattle.std.proofs.Common.{◌≡◌, ◌∙◌, ℕ, ◌+◌, ◌==◌, ◌||◌, Bool, true, List, [], ◌∷◌, ◌++◌, length, not, refl, ap, sym, arith, inl, inr, ⊎_elim}
-use Rattle.std.specs.Prelude.{IsTrue, Some, None, flat_map, sum_by}
-use Rattle.std.specs.List.{list_all}
-use Rattle.std.proofs.lemmas.Bool.{and_from, and_parts}
-use Rattle.std.proofs.lemmas.List.{append-nil, append_assoc, flat_map_more, length-append}
-use Rattle.std.proofs.lemmas.List.Folds.{list_all-append}
-use Rattle.std.proofs.lemmas.List.Sums.{sum_by-append, sum_by-cons}
-use Rattle.chan_types.specs.declared.journal.Entry.{Entry}
-use Rattle.net_world.specs.declared.log.WorldCall.{WorldCall}
-use Rattle.channel_model.specs.Completion.{pending}
-use Rattle.channel_model.specs.Course.{AreTurns, IsCourse, IsCourseSoFar, Rest, Round, asides_of, calls_of, calls_of_rest, entries_of, goes_on, has_no_turn, is_of_turn, is_timely, readings, serves_from, standing_after}
-use Rattle.channel_model.specs.Endings.{IsStalledBehind, somewhere_behind}
-use Rattle.channel_model.specs.Journal.{Past}
-use Rattle.channel_model.specs.Setting.{Setting}
-use Rattle.channel_model.specs.Stretch.{Standing, beginning, behind}
-use Rattle.channel_model.specs.Turn.{IsTurn}
+use Rattle.event_runner.proofs.Base.{◌≡◌, ◌∙◌, ℕ, ◌+◌, ◌==◌, ◌||◌, Bool, true, List, [], ◌∷◌, ◌++◌, length, not, refl, ap, sym, arith, inl, inr, ⊎_elim, IsTrue, Some, None, flat_map, sum_by, list_all, and_from, and_parts, append-nil, append_assoc, flat_map_more, length-append, list_all-append, sum_by-append, sum_by-cons, Entry, WorldCall, pending, AreTurns, IsCourse, IsCourseSoFar, Rest, Round, asides_of, calls_of, calls_of_rest, goes_on, has_no_turn, is_of_turn, is_timely, readings, serves_from, standing_after, IsStalledBehind, somewhere_behind, Past, Setting, Standing, beginning, behind, IsTurn}
+use Rattle.channel_model.specs.Course.{entries_of}
 use Rattle.event_runner.proofs.RoundLemmas.{by_last, either_first, flat_last, no_turn-append, somewhere-grows, somewhere_behind-snoc, turn_more, turns_last, turns_snoc, with_more, with_rest}
 
 -- the entry is the seat's, if only a turn makes such a one

@@ -1,23 +1,5 @@
 -- Messages of a link that a desk is handed one by one.
-use Rattle.std.proofs.Common.{◌≡◌, ◌∙◌, ℕ, List, [], ◌∷◌, ◌++◌, map, drop, true, Result, Ok, Err, Option, Some, refl, ap, sym, subst}
-use Rattle.std.specs.Prelude.{OnOk, is_err, slice_range}
-use Rattle.std.proofs.lemmas.List.{append-nil, append_assoc, map-append}
-use Rattle.chan_types.specs.declared.journal.Entry.{Entry}
-use Rattle.chan_types.specs.declared.journal.What.{What}
-use Rattle.chan_types.specs.declared.journal.What.TheVariants.{Arrive}
-use Rattle.item_list.specs.declared.no_memory.NoMemory.{NoMemory}
-use Rattle.channel_model.specs.declared.answers.Landed.{Landed}
-use Rattle.channel_model.specs.declared.answers.Landed.TheVariants.{Matched, Stray}
-use Rattle.channel_model.proofs.Theorems.{left_in-append, messages_in-append, own-append, own-others, own_added}
-use Rattle.channel_model.specs.Frames.{left_in, messages_in}
-use Rattle.channel_model.specs.Journal.{Past, own_entries}
-use Rattle.channel_model.specs.Known.{Calls, Known}
-use Rattle.channel_model.specs.Meanings.{Arrives, Meaning}
-use Rattle.channel_model.specs.Seen.{entries_of}
-use Rattle.channel_model.specs.Setting.{Setting}
-use Rattle.event_runner.specs.Delivering.{Delivers, HasDelivered, HasDeliveredSome}
-use Rattle.event_runner.specs.Goes.{AreMadeInTurns}
-use Rattle.event_runner.specs.Frames.{EndsAt, IsUncut}
+use Rattle.event_runner.proofs.Base.{◌≡◌, ◌∙◌, ℕ, List, [], ◌∷◌, ◌++◌, map, drop, true, Result, Ok, Err, Option, Some, refl, ap, sym, subst, OnOk, is_err, slice_range, append-nil, append_assoc, map-append, Entry, What, Arrive, NoMemory, Landed, Matched, Stray, left_in-append, messages_in-append, own-append, own-others, own_added, left_in, messages_in, Past, own_entries, Calls, Known, Arrives, Meaning, entries_of, Setting, Delivers, HasDelivered, HasDeliveredSome, AreMadeInTurns, EndsAt, IsUncut}
 use Rattle.event_runner.proofs.TrailLemmas.{goes_of, made_one, made_others, made_trans, trail_call, trail_none, trail_of, trail_trans}
 
 -- what an arrive adds

@@ -1,21 +1,5 @@
 -- Attempts that expire, one by one.
-use Rattle.std.proofs.Common.{◌≡◌, ◌∙◌, ℕ, ◌+◌, ◌≤◌, ◌^◌, List, [], ◌∷◌, ◌++◌, refl, sym, subst, arith, eq-eqb, inl, inr, add-zero}
-use Rattle.std.specs.Prelude.{Ok, Err}
-use Rattle.chan_types.specs.declared.journal.Entry.{Entry}
-use Rattle.chan_types.specs.declared.journal.What.TheVariants.{Expire}
-use Rattle.item_list.specs.declared.no_memory.NoMemory.{NoMemory}
-use Rattle.net_world.specs.declared.log.WorldCall.{WorldCall}
-use Rattle.channel_model.specs.declared.answers.Lapse.TheVariants.{Expired, NotDue}
-use Rattle.channel_model.proofs.Theorems.{agrees_nearly, AreOthers, agrees_calls, agrees_expire}
-use Rattle.channel_model.specs.Journal.{followed_by}
-use Rattle.channel_model.specs.Known.{Calls}
-use Rattle.channel_model.specs.Meanings.{Expires}
-use Rattle.channel_model.specs.Setting.{Setting}
-use Rattle.channel_model.specs.Stretch.{Standing}
-use Rattle.channel_model.specs.Turn.{NoneDue, expired_in, expiring}
-use Rattle.event_runner.specs.Goes.{Goes, Stops}
-use Rattle.event_runner.specs.Parts.{CutPart, MakesPart, NearlyWithin, Within}
-use Rattle.event_runner.specs.State.{State}
+use Rattle.event_runner.proofs.Base.{◌≡◌, ◌∙◌, ℕ, ◌+◌, ◌≤◌, ◌^◌, List, [], ◌∷◌, refl, sym, subst, arith, eq-eqb, inl, inr, add-zero, Ok, Err, Entry, Expire, NoMemory, WorldCall, Expired, NotDue, agrees_nearly, AreOthers, agrees_calls, agrees_expire, followed_by, Calls, Expires, Setting, Standing, NoneDue, expired_in, expiring, Goes, Stops, CutPart, MakesPart, NearlyWithin, Within, State}
 use Rattle.event_runner.proofs.CallLemmas.{goes_add, goes_look, log_stays, own, own_none, own_one, past_behind, stops_look}
 use Rattle.event_runner.proofs.GoesLemmas.{goes_as, goes_joined, goes_none, stops_joined}
 use Rattle.event_runner.proofs.SoundLemmas.{Sound, sound_idle, sound_one}
@@ -86,18 +70,18 @@ module _ (reading : ℕ) where
 
   -- so many attempts expired so far
   pub expires_so_far : (a : State) → Goes (Within reading expiring 0 0 0) a a
-  expires_so_far a = goes_none (Within reading expiring 0 0 0) (λ setting seat s. within_none reading expiring setting seat s) a
+  expires_so_far a = goes_none (Within reading expiring 0 0 0) (λ setting seat s. within_none s) a
 
   pub expires_more : (count : ℕ) (a b c : State) → Goes (Within reading expiring 0 count 0) a b → Goes (Within reading expiring 0 1 0) b c → Goes (Within reading expiring 0 (count + 1) 0) a c
   expires_more count a b c = goes_joined (Within reading expiring 0 count 0) (Within reading expiring 0 1 0) (Within reading expiring 0 (count + 1) 0)
-      (λ setting seat x y z es fs cs ds p q. within_joined reading expiring setting seat 0 count 0 0 1 0 x y z es fs cs ds p q) a b c
+      (λ setting seat x y z es fs cs ds p q. within_joined p q) a b c
 
   -- and then none was due
   pub expires_all : (count : ℕ) → count ≤ 2 ^ 16 → (a b c : State) → Goes (Within reading expiring 0 count 0) a b → Goes FindsNoneDue b c → Goes (MakesPart reading expiring 0 count 0) a c
   expires_all count few a b c = goes_joined (Within reading expiring 0 count 0) FindsNoneDue (MakesPart reading expiring 0 count 0)
       (λ setting seat x y z es fs cs ds p q.
-      let both = within_joined reading expiring setting seat 0 count 0 0 0 0 x y z es fs cs ds p q.within in
-      let counts = counts_as seat (es ++ fs) (cs ++ ds) (0 + 0) (count + 0) (0 + 0) 0 count 0 refl (add-zero count) refl both.counts in
+      let both = within_joined p q.within in
+      let counts = counts_as refl (add-zero count) refl both.counts in
       record { made = record { agrees = both.agrees; alone = both.alone; all = inl q.none; few = rw counts.expired_are few }; counts = counts }) a b c
 
   -- or as many as a turn makes
@@ -112,5 +96,5 @@ module _ (reading : ℕ) where
   pub expires_stop : (count : ℕ) → count ≤ 2 ^ 16 → (a b c : State) (fault : NoMemory) → Goes (Within reading expiring 0 count 0) a b → c.log ≡ b.log → Calls (Expires reading (Err fault)) 0 b.known c.known → Stops (CutPart reading expiring) a c
   expires_stop count few a b c fault so_far log call = stops_joined (Within reading expiring 0 count 0) CutExpire (CutPart reading expiring)
       (λ setting seat x y es fs cs ds p q.
-      let both = nearly_joined reading expiring setting seat 0 count 0 x y es fs cs ds p q.within in
+      let both = nearly_joined p q.within in
       record { nearly = both.nearly; alone = both.alone; by_rule = rw (expired-append seat es fs, p.counts.expired_are, q.none) (omega (arith, few)) }) a b c so_far (expires_cut b c fault log call)

@@ -1,27 +1,5 @@
 -- Links that are written to, one behind the other, up to the end of the writing.
-use Rattle.std.proofs.Common.{◌≡◌, ◌∙◌, ℕ, ◌+◌, ◌<◌, ◌≤◌, ◌==◌, ◌||◌, Bool, true, false, List, [], ◌∷◌, ◌++◌, length, take, drop, map, refl, ap, ap₂, sym, subst, arith, true≢false, ne_eqb, add-one, suc, zero, length-take, get_or}
-use Rattle.std.specs.Prelude.{Ok, Err, Option, not}
-use Rattle.std.specs.List.{list_all}
-use Rattle.std.proofs.lemmas.Bool.{and_from, and_parts}
-use mathlib.Core.List.{IsPrefix}
-use Rattle.std.proofs.lemmas.List.{append-nil, map-append}
-use Rattle.std.proofs.lemmas.List.Folds.{list_all-append}
-use Rattle.chan_types.specs.declared.journal.Entry.{Entry}
-use Rattle.item_list.specs.declared.no_memory.NoMemory.{NoMemory}
-use Rattle.channel_model.specs.Calls.{Writing}
-use Rattle.net_world.specs.declared.answers.Wrote.TheVariants.{Failed as NotWritten}
-use Rattle.net_world.specs.declared.log.WorldCall.{WorldCall}
-use Rattle.net_world.specs.declared.log.WorldCall.TheVariants.{Close, Write}
-use Rattle.channel_model.specs.KeptLinks.{Row, link_of_row}
-use Rattle.channel_model.specs.Known.{Calls, Known}
-use Rattle.channel_model.specs.Links.{Link, told, without_link}
-use Rattle.channel_model.specs.Meanings.{Fails}
-use Rattle.channel_model.specs.Setting.{Setting}
-use Rattle.channel_model.specs.Stretch.{Agrees, Standing}
-use Rattle.channel_model.specs.Turn.{closes_made, is_flushed, last_took_nothing, losses, writes_astray, writing, wrotes}
-use Rattle.event_runner.specs.Goes.{Goes, Stops}
-use Rattle.event_runner.specs.Parts.{CutPart, CutWriting, Flushes, MakesPart, Writes, WritesAt, WritesTo, WritesUpTo, is_done, with_row}
-use Rattle.event_runner.specs.State.{Gets, State}
+use Rattle.event_runner.proofs.Base.{◌≡◌, ◌∙◌, ℕ, ◌+◌, ◌<◌, ◌≤◌, ◌==◌, ◌||◌, Bool, true, false, List, [], ◌∷◌, ◌++◌, length, take, drop, map, refl, ap, ap₂, sym, subst, arith, true≢false, ne_eqb, add-one, suc, zero, length-take, get_or, Ok, Err, Option, not, list_all, and_from, and_parts, IsPrefix, append-nil, map-append, list_all-append, Entry, NoMemory, Writing, NotWritten, WorldCall, Close, Write, Row, link_of_row, Calls, Known, Link, told, without_link, Fails, Setting, Agrees, Standing, closes_made, is_flushed, last_took_nothing, losses, writes_astray, writing, wrotes, Goes, Stops, CutPart, CutWriting, Flushes, MakesPart, Writes, WritesAt, WritesTo, WritesUpTo, is_done, with_row, Gets, State}
 use Rattle.event_runner.proofs.CallLemmas.{log_trans}
 use Rattle.event_runner.proofs.GoesLemmas.{goes_joined, goes_none, stops_joined}
 use Rattle.event_runner.proofs.HearLemmas.{prefix_behind, told_both}
@@ -127,9 +105,9 @@ module _ (reading : ℕ) where
     where
       cut_behind : (setting : Setting) (seat : ℕ) (x y : Standing) (es fs : List Entry) (cs ds : List WorldCall) → Writes reading setting seat x es cs y → CutWriting reading setting seat y fs ds → CutWriting reading setting seat x (es ++ fs) (cs ++ ds)
       cut_behind setting seat x y es fs cs ds p q = record {
-        within = nearly_joined reading writing setting seat 0 0 0 x y es fs cs ds p.within q.within;
-        to_held = told_both writes_astray setting seat x y es cs ds p.within.agrees ∙ ap₂ (λ l m. l ++ m) p.to_held q.to_held;
-        closed = rw (told_both closes_made setting seat x y es cs ds p.within.agrees, told_both losses setting seat x y es cs ds p.within.agrees)
+        within = nearly_joined p.within q.within;
+        to_held = told_both writes_astray ds p.within.agrees ∙ ap₂ (λ l m. l ++ m) p.to_held q.to_held;
+        closed = rw (told_both closes_made ds p.within.agrees, told_both losses ds p.within.agrees)
             (subst (λ l. IsPrefix (told closes_made x.held cs ++ told closes_made y.held ds) (l ++ told losses y.held ds)) p.closed
             (prefix_behind (told closes_made x.held cs) (told closes_made y.held ds) (told losses y.held ds) q.closed));
       }
@@ -159,7 +137,7 @@ module _ (reading : ℕ) where
         let ne : (number == link.number) ≡ false = not_true (number == link.number) a.0 in
         let o = others link.number ne in
         let answers : told (wrotes link.number) x.held (cs ++ ds) ≡ told (wrotes link.number) x.held cs =
-        told_both (wrotes link.number) setting seat x y es cs ds agrees ∙ ap (λ l. told (wrotes link.number) x.held cs ++ l) o.0 ∙ append-nil (told (wrotes link.number) x.held cs) in
+        told_both (wrotes link.number) ds agrees ∙ ap (λ l. told (wrotes link.number) x.held cs ++ l) o.0 ∙ append-nil (told (wrotes link.number) x.held cs) in
         and_from _ _ (ap₂ is_done o.1 answers ∙ d.0) (still_flushed links a.1 d.1)
       where
         not_true : (b : Bool) → not b ≡ true → b ≡ false
@@ -180,7 +158,7 @@ module _ (reading : ℕ) where
       let link = next.0 in
       let earlier = still_flushed q.number setting seat x y z es cs ds p.writes.within.agrees q.others (take index y.held) q.apart p.done in
       let here : is_done (z.unwritten q.number) (told (wrotes q.number) x.held (cs ++ ds)) ≡ true =
-      by_last (length (z.unwritten q.number) == 0) (told (wrotes q.number) x.held cs) (told (wrotes q.number) y.held ds) (told (wrotes q.number) x.held (cs ++ ds)) (told_both (wrotes q.number) setting seat x y es cs ds p.writes.within.agrees) next.3 in
+      by_last (length (z.unwritten q.number) == 0) (told (wrotes q.number) x.held cs) (told (wrotes q.number) y.held ds) (told (wrotes q.number) x.held (cs ++ ds)) (told_both (wrotes q.number) ds p.writes.within.agrees) next.3 in
       record {
         writes = writes_joined reading setting seat x y z es fs cs ds p.writes q.writes;
         done =
@@ -211,13 +189,13 @@ module _ (reading : ℕ) where
   pub upto_stop : (count : ℕ) (a b c : State) → Goes (WritesUpTo reading count) a b → Stops (CutWriting reading) b c → Stops (CutPart reading writing) a c
   upto_stop count a b c = stops_joined (WritesUpTo reading count) (CutWriting reading) (CutPart reading writing)
       (λ setting seat x y es fs cs ds p q.
-      let both = nearly_joined reading writing setting seat 0 0 0 x y es fs cs ds p.writes.within q.within in
+      let both = nearly_joined p.writes.within q.within in
       record {
         nearly = both.nearly;
         alone = both.alone;
         by_rule = (
-          told_both writes_astray setting seat x y es cs ds p.writes.within.agrees ∙ ap₂ (λ l m. l ++ m) p.writes.to_held q.to_held,
-          rw (told_both closes_made setting seat x y es cs ds p.writes.within.agrees, told_both losses setting seat x y es cs ds p.writes.within.agrees)
+          told_both writes_astray ds p.writes.within.agrees ∙ ap₂ (λ l m. l ++ m) p.writes.to_held q.to_held,
+          rw (told_both closes_made ds p.writes.within.agrees, told_both losses ds p.writes.within.agrees)
               (subst (λ l. IsPrefix (told closes_made x.held cs ++ told closes_made y.held ds) (l ++ told losses y.held ds)) p.writes.closed
               (prefix_behind (told closes_made x.held cs) (told closes_made y.held ds) (told losses y.held ds) q.closed)),
         );

@@ -1,9 +1,5 @@
 -- Where bytes begin with a whole frame, and where no whole frame is among them.
-use Rattle.std.proofs.Common.{◌≡◌, ℕ, ◌+◌, ◌*◌, ◌-◌, ◌<◌, ◌≤◌, ◌==◌, true, false, List, [], ◌∷◌, ◌++◌, length, get_or, take, drop, refl, sym, arith, ne_eqb, eq-eqb, length-append, length-take, subst, suc}
-use Rattle.std.proofs.lemmas.List.{take-append-drop}
-use Rattle.channel_model.specs.Frames.{left_in, messages_in}
-use Rattle.channel_model.proofs.Theorems.{head-messages_in, part-left_in, part-messages_in}
-use Rattle.event_runner.specs.Frames.{EndsAt, IsUncut}
+use Rattle.event_runner.proofs.Base.{◌≡◌, ℕ, ◌+◌, ◌*◌, ◌-◌, ◌<◌, ◌≤◌, ◌==◌, true, false, List, [], ◌∷◌, ◌++◌, length, get_or, take, drop, refl, sym, arith, ne_eqb, eq-eqb, length-append, length-take, subst, suc, take-append-drop, left_in, messages_in, head-messages_in, part-left_in, part-messages_in, EndsAt, IsUncut}
 
 -- the bytes that complete a frame leave nothing, and what is behind them is cut anew
 whole-left_in : (high low : ℕ) (come : List ℕ) (byte : ℕ) (bytes rest : List ℕ) → length come + length bytes + 1 ≡ 256 * high + low →

@@ -1,19 +1,5 @@
 -- Parts of a run, one behind the other.
-use Rattle.std.proofs.Common.{◌≡◌, ◌∙◌, ℕ, ◌==◌, ◌||◌, Bool, true, List, [], ◌++◌, Result, Ok, Err, refl, ap, sym, subst}
-use Rattle.std.specs.Prelude.{MatchOption, None, Option, Some, is_err, not, option_map}
-use Rattle.std.specs.List.{list_all}
-use Rattle.std.proofs.lemmas.Bool.{and_parts}
-use Rattle.std.proofs.lemmas.List.{append-nil, append_assoc}
-use Rattle.std.proofs.lemmas.List.Folds.{list_all-append}
-use Rattle.chan_types.specs.declared.journal.Entry.{Entry}
-use Rattle.item_list.specs.declared.no_memory.NoMemory.{NoMemory}
-use Rattle.net_world.specs.declared.log.WorldCall.{WorldCall}
-use Rattle.channel_model.specs.Course.{is_of_turn}
-use Rattle.channel_model.specs.Known.{Known}
-use Rattle.channel_model.specs.Setting.{Setting}
-use Rattle.channel_model.specs.Stretch.{Standing}
-use Rattle.event_runner.specs.Goes.{AreMadeInTurns, Break, Ends, Goes, Leads, Leaves, Stops, Stretch}
-use Rattle.event_runner.specs.State.{IsTurnOwner, State}
+use Rattle.event_runner.proofs.Base.{◌≡◌, ◌∙◌, ℕ, ◌==◌, ◌||◌, Bool, true, List, [], ◌++◌, Result, Ok, Err, refl, ap, sym, subst, MatchOption, None, Option, Some, is_err, not, option_map, list_all, and_parts, append-nil, append_assoc, list_all-append, Entry, NoMemory, WorldCall, is_of_turn, Known, Setting, Standing, AreMadeInTurns, Break, Ends, Goes, Leads, Leaves, Stops, Stretch, IsTurnOwner, State}
 use Rattle.event_runner.proofs.TrailLemmas.{Trail, goes_of, made_trans, trail_none, trail_of, trail_trans}
 
 -- the one relation and then the other is the third

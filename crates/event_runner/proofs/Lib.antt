@@ -1,3 +1,5 @@
+mod Base
+mod Outing
 pub mod ClosedLemmas
 pub mod CloseLemmas
 pub mod DeliverLemmas

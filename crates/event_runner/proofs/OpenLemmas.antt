@@ -1,15 +1,5 @@
 -- Servers that are told at the beginning, one by one.
-use Rattle.std.proofs.Common.{◌≡◌, ◌∙◌, ℕ, ◌+◌, ◌<◌, List, [], ◌∷◌, ◌++◌, length, take, get_or, map, Result, Ok, Err, Option, true, refl, ap, sym, arith, zero, suc, add-one}
-use Rattle.std.specs.Prelude.{is_err, option_map}
-use mathlib.Core.List.{IsPrefix}
-use Rattle.item_list.specs.declared.no_memory.NoMemory.{NoMemory}
-use Rattle.net_addr.specs.declared.addr.ServerAddr.{ServerAddr}
-use Rattle.net_world.specs.declared.log.WorldCall.{WorldCall}
-use Rattle.net_world.specs.declared.log.WorldCall.TheVariants.{Serve}
-use Rattle.channel_model.specs.Course.{serves_from}
-use Rattle.channel_model.specs.Servers.{keyed_from}
-use Rattle.event_runner.specs.Running.{Opens}
-use Rattle.event_runner.specs.State.{Gets}
+use Rattle.event_runner.proofs.Base.{◌≡◌, ◌∙◌, ℕ, ◌+◌, ◌<◌, List, [], ◌∷◌, ◌++◌, length, take, get_or, map, Result, Ok, Err, Option, true, refl, ap, sym, arith, zero, suc, add-one, is_err, option_map, IsPrefix, NoMemory, ServerAddr, WorldCall, Serve, serves_from, keyed_from, Opens, Gets}
 use Rattle.event_runner.proofs.CallLemmas.{log_trans}
 use Rattle.event_runner.proofs.GoesLemmas.{told_by}
 

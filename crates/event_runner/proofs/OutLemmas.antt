@@ -1,37 +1,9 @@
 -- A query that goes out, as a desk and a network did it.
-use Rattle.std.proofs.Common.{◌≡◌, ◌≢◌, ◌∙◌, ℕ, ◌==◌, Bool, true, false, List, [], ◌∷◌, ◌++◌, map, refl, ap, ap₂, sym, subst, inl, inr, ⊎_elim}
-use Rattle.std.specs.Prelude.{Err, None, Ok, OnOk, Result, Some, option_map}
-use Rattle.std.specs.Bool.{then_some}
-use Rattle.std.specs.List.{list_any}
-use Rattle.std.proofs.lemmas.Bool.{or_parts}
-use Rattle.std.proofs.lemmas.List.{append-nil}
-use Rattle.chan_types.specs.declared.journal.Entry.{Entry}
-use Rattle.chan_types.specs.declared.journal.What.{What}
-use Rattle.chan_types.specs.declared.journal.What.TheVariants.{Fault, Start}
-use Rattle.item_list.specs.declared.no_memory.NoMemory.{NoMemory}
-use Rattle.net_addr.specs.declared.addr.ServerAddr.{ServerAddr}
-use Rattle.net_world.specs.declared.answers.Sent.TheVariants.{Failed as NotSent, Sent as WasSent}
-use Rattle.net_world.specs.declared.log.WorldCall.{WorldCall}
-use Rattle.net_world.specs.declared.log.WorldCall.TheVariants.{Connect, Send, Serve}
-use Rattle.channel_model.specs.declared.answers.Begun.TheVariants.{Started}
-use Rattle.channel_model.proofs.Theorems.{fault-behind, flight-cases, followed_by-append, AreOthers, noted-others, noted-own, noted-append, same_notices, told-one}
-use Rattle.channel_model.specs.KeptLinks.{Row, link_of_row}
-use Rattle.channel_model.specs.Frames.{framed}
-use Rattle.channel_model.specs.Journal.{Past, followed_by}
-use Rattle.channel_model.specs.Known.{Calls, Known}
-use Rattle.channel_model.specs.Lawful.{is_mixed}
-use Rattle.channel_model.specs.Links.{Link, held_after, held_link, told, without_link}
-use Rattle.channel_model.specs.Meanings.{Fails, Starts}
-use Rattle.channel_model.specs.Setting.{Setting}
-use Rattle.channel_model.specs.Stretch.{Agrees, Standing}
-use Rattle.channel_model.specs.Traffic.{arrived, asked, connects, datagrams, faulted, faults, messages, noted, noticed, notices, notices_of, of_fault, opened, queued, written}
-use Rattle.channel_model.specs.Turn.{is_start_to}
-use Rattle.event_runner.specs.Goes.{AreMadeInTurns, Ends, Goes, Stops}
-use Rattle.event_runner.specs.Parts.{Asks, CutAsking}
-use Rattle.event_runner.specs.State.{HasTold, State, serve_unless, told_with, was_told}
-use Rattle.event_runner.proofs.AskLemmas.{asked_tcp, asked_udp, asks_connected, asks_datagram, asks_of, asks_queued, begun_then, begun_two, behind_start, connected_sound, cut_connected, cut_of, cut_told, cut_untold, opened_tcp, opened_udp, queued_sound, sent_sound}
+use Rattle.event_runner.proofs.Base.{◌≡◌, ◌≢◌, ◌∙◌, ℕ, ◌==◌, Bool, true, false, List, [], ◌∷◌, ◌++◌, map, refl, ap, ap₂, sym, subst, inl, inr, ⊎_elim, Err, None, Ok, OnOk, Result, Some, option_map, then_some, list_any, or_parts, append-nil, Entry, What, Fault, Start, NoMemory, ServerAddr, NotSent, WasSent, WorldCall, Connect, Send, Serve, fault-behind, flight-cases, followed_by-append, AreOthers, noted-others, noted-own, noted-append, same_notices, told-one, Row, link_of_row, framed, Past, followed_by, Calls, Known, is_mixed, Link, held_after, held_link, told, without_link, Fails, Setting, Agrees, Standing, arrived, asked, connects, datagrams, faulted, faults, messages, noted, noticed, notices, notices_of, of_fault, opened, queued, written, is_start_to, AreMadeInTurns, Ends, Goes, Stops, Asks, CutAsking, HasTold, State, serve_unless, told_with, was_told}
+use Rattle.event_runner.proofs.AskLemmas.{asked_tcp, asked_udp, asks_connected, asks_datagram, asks_of, asks_queued, begun_then, begun_two, behind_start, connected_sound, cut_connected, cut_of, cut_told, cut_untold, mid, mid_sound, opened_tcp, opened_udp, queued_sound, sent_sound}
 use Rattle.event_runner.proofs.QueryLemmas.{IsCore, core_connect, core_send, serves_quiet}
-use Rattle.event_runner.proofs.CallLemmas.{call_idle, call_meant, call_others, goes_add, leads_by, log_stays, log_trans, own, past_behind, stops_add, trail_added, trail_none_added}
+use Rattle.event_runner.proofs.CallLemmas.{LeadsTo, call_idle, call_meant, call_others, goes_add, leads_by, log_stays, log_trans, own, past_behind, stops_add, trail_added, trail_none_added}
+use Rattle.event_runner.proofs.Outing.{Outing, Since, means}
 use Rattle.event_runner.proofs.GoesLemmas.{goes_by, owner_before, stops_by}
 use Rattle.event_runner.proofs.RowLemmas.{row_started, sound_lost}
 use Rattle.event_runner.proofs.SoundLemmas.{AreIdle, Sound, sound_idle, sound_of, sound_one}
@@ -41,10 +13,12 @@ use Rattle.event_runner.proofs.TrailLemmas.{Trail, made_one, made_others, made_t
 sound_as : (setting : Setting) (rows rows' : List Row) (keys keys' : List ℕ) (s : Standing) → rows' ≡ rows → keys' ≡ keys → Sound setting rows keys s → Sound setting rows' keys' s
 sound_as setting rows rows' keys keys' s r k sound = subst (λ x. Sound setting x keys' s) (sym r) (subst (λ x. Sound setting rows x s) (sym k) sound)
 
-module _ (reading word bits number leg server : ℕ) (address : ServerAddr) (link id : ℕ) (message : List ℕ) (a b : State) where
+module _ (o : Outing) (a b : State) where
+  open o use {reading, word, bits, number, leg, server, address, link, id, message}
+
   -- the meaning of the start, its entry, and the calls
   abbrev pub Start_is : Known → Known → Type 0
-  Start_is x y = Calls (Starts word bits reading (Ok (Started number leg server address link id message))) 0 x y
+  Start_is x y = Calls (means o) 0 x y
 
   abbrev pub entry_is : What
   entry_is = Start number leg server link id (then_some (is_mixed a.known.setting link) bits) reading
@@ -56,77 +30,98 @@ module _ (reading word bits number leg server : ℕ) (address : ServerAddr) (lin
   keys_are = told_with (was_told server a.told) server a.told
 
   module _ (start : Start_is a.known b.known) where
+    -- the Start and these calls, where nothing is wanting
+    goes_start : (core : List WorldCall) → b.mix ≡ a.mix → b.log ≡ option_map (λ calls. calls ++ calls_are core) a.log →
+        ((since : Since a.known.setting a.known.seat a.rows a.told) → means o a.known.setting (followed_by since.from.past since.os) (Some entry_is) →
+        LeadsTo (Asks reading word bits) a b since.from (since.os ++ own a.known.seat entry_is ∷ []) (calls_are core)) → Goes (Asks reading word bits) a b
+    goes_start core mix log step =
+        goes_add (means o) a b start entry_is start.meant.0 refl (calls_are core) log (Asks reading word bits) mix
+        (λ os others idle from sound meant. step (record { os = os; others = others; idle = idle; from = from; sound = sound }) meant)
+
+    -- and where memory is
+    stops_start : (calls : List WorldCall) → b.log ≡ option_map (λ cs. cs ++ calls) a.log →
+        ((since : Since a.known.setting a.known.seat a.rows a.told) → means o a.known.setting (followed_by since.from.past since.os) (Some entry_is) →
+        CutAsking reading word bits a.known.setting a.known.seat since.from (since.os ++ own a.known.seat entry_is ∷ []) calls) → Stops (CutAsking reading word bits) a b
+    stops_start calls log step =
+        stops_add (means o) a b start entry_is start.meant.0 refl calls log (CutAsking reading word bits)
+        (λ os others idle from sound meant. step (record { os = os; others = others; idle = idle; from = from; sound = sound }) meant)
+
     -- a datagram was sent
     pub goes_sent : link ≡ 0 → b.rows ≡ a.rows → b.told ≡ keys_are → b.mix ≡ a.mix → b.log ≡ option_map (λ calls. calls ++ calls_are (Send server message WasSent ∷ [])) a.log → Goes (Asks reading word bits) a b
     goes_sent udp rows keys mix log =
-        goes_add (Starts word bits reading (Ok (Started number leg server address link id message))) a b start entry_is start.meant.0 refl (calls_are (Send server message WasSent ∷ [])) log (Asks reading word bits) mix
-        (λ os others idle from sound meant. (
-          behind_start a.known.setting a.known.seat reading word bits number leg server address link id message a.rows a.told os others idle from sound meant from.held,
-          past_behind from os (own a.known.seat entry_is),
-          asks_datagram a.known.setting a.known.seat reading word bits number leg server address link id message a.rows a.told os others idle from sound meant udp,
-          sound_as a.known.setting _ b.rows _ b.told _ rows keys (sent_sound a.known.setting a.known.seat reading word bits number leg server address link id message a.rows a.told os others idle from sound meant udp),
+        goes_start (Send server message WasSent ∷ []) mix log
+        (λ since meant. (
+          behind_start o since meant since.from.held,
+          past_behind since.from since.os (own a.known.seat entry_is),
+          asks_datagram o since meant udp,
+          sound_as a.known.setting _ b.rows _ b.told _ rows keys (sent_sound o since meant udp),
         ))
 
     -- the query stands behind a held link's bytes
     pub goes_queued : (before : List Row) (row : Row) (after : List Row) → a.rows ≡ before ++ row ∷ after → row.number ≡ link → b.rows ≡ before ++ record row { unwritten = row.unwritten ++ framed message } ∷ after →
         b.told ≡ keys_are → b.mix ≡ a.mix → b.log ≡ option_map (λ calls. calls ++ calls_are []) a.log → Goes (Asks reading word bits) a b
     goes_queued before row after split is rows keys mix log =
-        goes_add (Starts word bits reading (Ok (Started number leg server address link id message))) a b start entry_is start.meant.0 refl (calls_are []) log (Asks reading word bits) mix
-        (λ os others idle from sound meant.
-        let at : Sound a.known.setting (before ++ row ∷ after) a.told (record { past = followed_by from.past os; held = from.held; unwritten = from.unwritten }) =
-        subst (λ r. Sound a.known.setting r a.told (record { past = followed_by from.past os; held = from.held; unwritten = from.unwritten })) split (sound_idle a.known.setting a.rows a.told os from idle sound) in
-        let has = row_started a.known.setting a.told before row after (record { past = followed_by from.past os; held = from.held; unwritten = from.unwritten }) at in (
-          behind_start a.known.setting a.known.seat reading word bits number leg server address link id message a.rows a.told os others idle from sound meant from.held,
-          past_behind from os (own a.known.seat entry_is),
-          asks_queued a.known.setting a.known.seat reading word bits number leg server address link id message a.rows a.told os others idle from sound meant row is has.0 has.1,
-          sound_as a.known.setting _ b.rows _ b.told _ rows keys (queued_sound a.known.setting a.known.seat reading word bits number leg server address link id message a.rows a.told os others idle from sound meant before row after split is),
+        goes_start [] mix log
+        (λ since meant.
+        let at : Sound a.known.setting (before ++ row ∷ after) a.told (mid o since) = subst (λ r. Sound a.known.setting r a.told (mid o since)) split (mid_sound o since) in
+        let has = row_started a.known.setting a.told before row after (mid o since) at in (
+          behind_start o since meant since.from.held,
+          past_behind since.from since.os (own a.known.seat entry_is),
+          asks_queued o since meant row is has.0 has.1,
+          sound_as a.known.setting _ b.rows _ b.told _ rows keys (queued_sound o since meant before row after split is),
         ))
 
     -- a link was begun, and the query stands on it
     pub goes_connected : link ≢ 0 → held_link link (map link_of_row a.rows) ≡ None → b.rows ≡ a.rows ++ record { number = link; server = server; unread = []; unwritten = [] ++ framed message } ∷ [] →
         b.told ≡ keys_are → b.mix ≡ a.mix → b.log ≡ option_map (λ calls. calls ++ calls_are (Connect server link WasSent ∷ [])) a.log → Goes (Asks reading word bits) a b
     goes_connected tcp none rows keys mix log =
-        goes_add (Starts word bits reading (Ok (Started number leg server address link id message))) a b start entry_is start.meant.0 refl (calls_are (Connect server link WasSent ∷ [])) log (Asks reading word bits) mix
-        (λ os others idle from sound meant. (
-          behind_start a.known.setting a.known.seat reading word bits number leg server address link id message a.rows a.told os others idle from sound meant (from.held ++ record { number = link; server = server; unread = [] } ∷ []),
-          past_behind from os (own a.known.seat entry_is),
-          asks_connected a.known.setting a.known.seat reading word bits number leg server address link id message a.rows a.told os others idle from sound meant tcp none,
-          sound_as a.known.setting _ b.rows _ b.told _ rows keys (connected_sound a.known.setting a.known.seat reading word bits number leg server address link id message a.rows a.told os others idle from sound meant tcp none),
+        goes_start (Connect server link WasSent ∷ []) mix log
+        (λ since meant. (
+          behind_start o since meant (since.from.held ++ record { number = link; server = server; unread = [] } ∷ []),
+          past_behind since.from since.os (own a.known.seat entry_is),
+          asks_connected o since meant tcp none,
+          sound_as a.known.setting _ b.rows _ b.told _ rows keys (connected_sound o since meant tcp none),
         ))
 
     -- memory was wanting
     pub stops_untold : b.log ≡ option_map (λ calls. calls ++ []) a.log → Stops (CutAsking reading word bits) a b
     stops_untold log =
-        stops_add (Starts word bits reading (Ok (Started number leg server address link id message))) a b start entry_is start.meant.0 refl [] log (CutAsking reading word bits)
-        (λ os others idle from sound meant. cut_untold a.known.setting a.known.seat reading word bits number leg server address link id message a.rows a.told os others idle from sound meant)
+        stops_start [] log (λ since meant. cut_untold o since meant)
 
     pub stops_told : b.log ≡ option_map (λ calls. calls ++ calls_are []) a.log → Stops (CutAsking reading word bits) a b
     stops_told log =
-        stops_add (Starts word bits reading (Ok (Started number leg server address link id message))) a b start entry_is start.meant.0 refl (calls_are []) log (CutAsking reading word bits)
-        (λ os others idle from sound meant. cut_told a.known.setting a.known.seat reading word bits number leg server address link id message a.rows a.told os others idle from sound meant)
+        stops_start (calls_are []) log (λ since meant. cut_told o since meant)
 
     pub stops_connected : link ≢ 0 → held_link link (map link_of_row a.rows) ≡ None → b.log ≡ option_map (λ calls. calls ++ calls_are (Connect server link WasSent ∷ [])) a.log → Stops (CutAsking reading word bits) a b
     stops_connected tcp none log =
-        stops_add (Starts word bits reading (Ok (Started number leg server address link id message))) a b start entry_is start.meant.0 refl (calls_are (Connect server link WasSent ∷ [])) log (CutAsking reading word bits)
-        (λ os others idle from sound meant. cut_connected a.known.setting a.known.seat reading word bits number leg server address link id message a.rows a.told os others idle from sound meant tcp none)
+        stops_start (calls_are (Connect server link WasSent ∷ [])) log (λ since meant. cut_connected o since meant tcp none)
 
   -- ---- a failure
 
   -- what fails with the query: its datagram, or its link
   pub record IsFailure (core : List WorldCall) : Type 0 where
-    pub is_core : (server' : ℕ) → server' ≡ server → IsCore server' core
+    pub is_core : IsCore server core
     pub no_message : (held : List Link) → told messages held core ≡ []
     pub no_bytes : (held : List Link) (k : ℕ) → told (written k) held core ≡ []
     pub failed : (held : List Link) → told faults held core ≡ record { server = server; link = link } ∷ []
     pub left : (held : List Link) → held_after held core ≡ held
     pub last : WorldCall
     pub core_is : core ≡ last ∷ []
+    pub noted_are : (since : Since a.known.setting a.known.seat a.rows a.told) → means o a.known.setting (followed_by since.from.past since.os) (Some entry_is) →
+        (asked a.known.setting (followed_by since.from.past since.os) entry_is ≡ told datagrams since.from.held core)
+        × (opened (followed_by since.from.past since.os) entry_is ≡ told connects since.from.held core)
 
   module _ (m : Known) (start : Start_is a.known m) (core : List WorldCall) (is_failure : IsFailure core) where
-    module _ (os : List Entry) (others : AreOthers a.known.seat os) (idle : AreIdle os) (from : Standing) (sound : Sound a.known.setting a.rows a.told from)
-        (meant : Starts word bits reading (Ok (Started number leg server address link id message)) a.known.setting (followed_by from.past os) (Some entry_is))
-        (sends : asked a.known.setting (followed_by from.past os) entry_is ≡ told datagrams from.held core) (links : opened (followed_by from.past os) entry_is ≡ told connects from.held core)
+    module _ (since : Since a.known.setting a.known.seat a.rows a.told) (meant : means o a.known.setting (followed_by since.from.past since.os) (Some entry_is))
         (more : List Entry) (more_others : AreOthers a.known.seat more) where
+      open since use {os, others, idle, from, sound}
+
+      sends : asked a.known.setting (followed_by from.past os) entry_is ≡ told datagrams from.held core
+      sends = (is_failure.noted_are since meant).0
+
+      links : opened (followed_by from.past os) entry_is ≡ told connects from.held core
+      links = (is_failure.noted_are since meant).1
+
       abbrev first_entries : List Entry
       first_entries = os ++ own a.known.seat entry_is ∷ []
 
@@ -185,8 +180,8 @@ module _ (reading word bits number leg server : ℕ) (address : ServerAddr) (lin
 
       asks_failed : Asks reading word bits a.known.setting a.known.seat from (first_entries ++ (more ++ fault_entry ∷ [])) (calls_are core) failed_standing
       asks_failed =
-          asks_of a.known.setting a.known.seat reading word bits number leg server address link id message a.rows a.told os others idle from sound meant (first_entries ++ (more ++ fault_entry ∷ [])) core failed_standing
-          (begun_two a.known.setting a.known.seat reading word bits number leg server address link id message a.rows a.told os others idle from sound more more_others) (is_failure.is_core server refl) agrees_failed
+          asks_of o since meant (first_entries ++ (more ++ fault_entry ∷ [])) core failed_standing
+          (begun_two o since more more_others) is_failure.is_core agrees_failed
           (λ other none. start_first other none)
         where
           start_first : (other : ℕ) → list_any (is_start_to other) (followed_by (entry_is ∷ followed_by from.past os) more) ≡ false → (server == other) ≡ false
@@ -199,8 +194,8 @@ module _ (reading word bits number leg server : ℕ) (address : ServerAddr) (lin
       -- the Fault found no memory
       cut_failed : CutAsking reading word bits a.known.setting a.known.seat from (first_entries ++ more) (calls_are core)
       cut_failed =
-          cut_of a.known.setting a.known.seat reading word bits number leg server address link id message a.rows a.told os others idle from sound meant (first_entries ++ more) core
-          (begun_then a.known.setting a.known.seat reading word bits number leg server address link id message a.rows a.told os others idle from sound more more_others) (is_failure.is_core server refl)
+          cut_of o since meant (first_entries ++ more) core
+          (begun_then o since more more_others) is_failure.is_core
           (record {
             arrivals = inl (noted_then arrived ∙ sym (serves_quiet server address messages (λ h. refl) (was_told server a.told) from.held core ∙ is_failure.no_message from.held));
             sends = inl (noted_then (asked a.known.setting) ∙ sends ∙ sym (serves_quiet server address datagrams (λ h. refl) (was_told server a.told) from.held core));
@@ -252,7 +247,7 @@ module _ (reading word bits number leg server : ℕ) (address : ServerAddr) (lin
       fault_others = subst (λ s. AreOthers s fault.stands.others) start.desk.seat (call_others (Fails server link reading (Ok count)) m b.known fault)
 
       start_trail : Trail a.known m (start.stands.others ++ own a.known.seat entry_is ∷ [])
-      start_trail = trail_added (Starts word bits reading (Ok (Started number leg server address link id message))) a.known m start entry_is start.meant.0
+      start_trail = trail_added (means o) a.known m start entry_is start.meant.0
 
       both_made : AreMadeInTurns a.known.seat ((start.stands.others ++ own a.known.seat entry_is ∷ []) ++ (fault.stands.others ++ own a.known.seat fault_is ∷ []))
       both_made = made_trans a.known m (start.stands.others ++ own a.known.seat entry_is ∷ []) (fault.stands.others ++ own a.known.seat fault_is ∷ []) start.desk.seat
@@ -264,148 +259,114 @@ module _ (reading word bits number leg server : ℕ) (address : ServerAddr) (lin
 
       -- the attempt failed, where what the runner keeps is right behind the Fault
       pub goes_failed : b.mix ≡ a.mix → b.log ≡ option_map (λ calls. calls ++ calls_are core) a.log →
-          ((os : List Entry) (others : AreOthers a.known.seat os) (idle : AreIdle os) (from : Standing) (sound : Sound a.known.setting a.rows a.told from)
-          (meant : Starts word bits reading (Ok (Started number leg server address link id message)) a.known.setting (followed_by from.past os) (Some entry_is)) →
-          (asked a.known.setting (followed_by from.past os) entry_is ≡ told datagrams from.held core) × (opened (followed_by from.past os) entry_is ≡ told connects from.held core)
-          × ((more : List Entry) → AreIdle more → Sound a.known.setting b.rows b.told
-          (record { past = fault_is ∷ followed_by (entry_is ∷ followed_by from.past os) more; held = from.held; unwritten = λ k. from.unwritten k ++ queued a.known.setting k (followed_by from.past os) entry_is }))) →
+          ((since : Since a.known.setting a.known.seat a.rows a.told) → means o a.known.setting (followed_by since.from.past since.os) (Some entry_is) →
+          (more : List Entry) → AreIdle more → Sound a.known.setting b.rows b.told (record {
+            past = fault_is ∷ followed_by (entry_is ∷ followed_by since.from.past since.os) more;
+            held = since.from.held;
+            unwritten = λ k. since.from.unwritten k ++ queued a.known.setting k (followed_by since.from.past since.os) entry_is;
+          })) →
           Goes (Asks reading word bits) a b
       goes_failed mix log step =
           let trail = trail_trans a.known m b.known (start.stands.others ++ own a.known.seat entry_is ∷ []) (fault.stands.others ++ own a.known.seat fault_is ∷ []) start_trail fault_trail in
           goes_by (Asks reading word bits) a b both_entries (calls_are core) trail both_made log
           (λ owner. leads_by (Asks reading word bits) a b both_entries (calls_are core) trail mix (λ from sound past.
-          let os : List Entry = start.stands.others in
-          let others = call_others (Starts word bits reading (Ok (Started number leg server address link id message))) a.known m start in
-          let idle = call_idle (Starts word bits reading (Ok (Started number leg server address link id message))) a.known m start (owner_before m b.known (fault.stands.others ++ own a.known.seat fault_is ∷ []) fault_trail owner) in
-          let more_idle = call_idle (Fails server link reading (Ok count)) m b.known fault owner in
-          let meant : Starts word bits reading (Ok (Started number leg server address link id message)) a.known.setting (followed_by from.past os) (Some entry_is) =
-          subst (λ o. Starts word bits reading (Ok (Started number leg server address link id message)) a.known.setting (followed_by from.past os) o) start.meant.0
-          (call_meant (Starts word bits reading (Ok (Started number leg server address link id message))) a.known m start from.past past) in
-          let facts = step os others idle from sound meant in (
-            failed_standing os others idle from sound meant facts.0 facts.1 fault.stands.others fault_others,
-            past_two os others idle from sound meant facts.0 facts.1 fault.stands.others fault_others,
-            asks_failed os others idle from sound meant facts.0 facts.1 fault.stands.others fault_others,
-            facts.2 fault.stands.others more_idle,
+          let since : Since a.known.setting a.known.seat a.rows a.told = record {
+            os = start.stands.others;
+            others = call_others (means o) a.known m start;
+            idle = call_idle (means o) a.known m start (owner_before m b.known (fault.stands.others ++ own a.known.seat fault_is ∷ []) fault_trail owner);
+            from = from;
+            sound = sound;
+          } in
+          let meant : means o a.known.setting (followed_by from.past start.stands.others) (Some entry_is) =
+          subst (λ w. means o a.known.setting (followed_by from.past start.stands.others) w) start.meant.0 (call_meant (means o) a.known m start from.past past) in (
+            failed_standing since meant fault.stands.others fault_others,
+            past_two since meant fault.stands.others fault_others,
+            asks_failed since meant fault.stands.others fault_others,
+            step since meant fault.stands.others (call_idle (Fails server link reading (Ok count)) m b.known fault owner),
           )))
 
     -- the Fault found no memory
     module _ (unkept : NoMemory) (fault : Calls (Fails server link reading (Err unkept)) 0 m b.known) where
-      pub stops_failed : b.log ≡ option_map (λ calls. calls ++ calls_are core) a.log →
-          ((os : List Entry) (others : AreOthers a.known.seat os) (idle : AreIdle os) (from : Standing) (sound : Sound a.known.setting a.rows a.told from)
-          (meant : Starts word bits reading (Ok (Started number leg server address link id message)) a.known.setting (followed_by from.past os) (Some entry_is)) →
-          (asked a.known.setting (followed_by from.past os) entry_is ≡ told datagrams from.held core) × (opened (followed_by from.past os) entry_is ≡ told connects from.held core)) →
-          Stops (CutAsking reading word bits) a b
-      stops_failed log step =
-          let first = trail_added (Starts word bits reading (Ok (Started number leg server address link id message))) a.known m start entry_is start.meant.0 in
+      pub stops_failed : b.log ≡ option_map (λ calls. calls ++ calls_are core) a.log → Stops (CutAsking reading word bits) a b
+      stops_failed log =
+          let first = trail_added (means o) a.known m start entry_is start.meant.0 in
           let then_ = trail_none_added (Fails server link reading (Err unkept)) m b.known fault fault.meant in
+          let os : List Entry = start.stands.others in
           let more : List Entry = fault.stands.others in
           let more_others : AreOthers a.known.seat more = subst (λ s. AreOthers s more) start.desk.seat (call_others (Fails server link reading (Err unkept)) m b.known fault) in
-          let es : List Entry = (start.stands.others ++ own a.known.seat entry_is ∷ []) ++ more in
-          stops_by (CutAsking reading word bits) a b es (calls_are core) (trail_trans a.known m b.known (start.stands.others ++ own a.known.seat entry_is ∷ []) more first then_)
-          (made_trans a.known m (start.stands.others ++ own a.known.seat entry_is ∷ []) more start.desk.seat (made_one a.known.seat start.stands.others entry_is start.stands.by_others refl) (made_others m.seat more fault.stands.by_others)) log
+          stops_by (CutAsking reading word bits) a b ((os ++ own a.known.seat entry_is ∷ []) ++ more) (calls_are core) (trail_trans a.known m b.known (os ++ own a.known.seat entry_is ∷ []) more first then_)
+          (made_trans a.known m (os ++ own a.known.seat entry_is ∷ []) more start.desk.seat (made_one a.known.seat os entry_is start.stands.by_others refl) (made_others m.seat more fault.stands.by_others)) log
           (λ owner from holds.
-          let sound = sound_of a from holds in
-          let os : List Entry = start.stands.others in
-          let others = call_others (Starts word bits reading (Ok (Started number leg server address link id message))) a.known m start in
-          let idle = call_idle (Starts word bits reading (Ok (Started number leg server address link id message))) a.known m start (owner_before m b.known more then_ owner) in
-          let meant : Starts word bits reading (Ok (Started number leg server address link id message)) a.known.setting (followed_by from.past os) (Some entry_is) =
-          subst (λ o. Starts word bits reading (Ok (Started number leg server address link id message)) a.known.setting (followed_by from.past os) o) start.meant.0
-          (call_meant (Starts word bits reading (Ok (Started number leg server address link id message))) a.known m start from.past holds.fits.past_is) in
-          let facts = step os others idle from sound meant in
-          cut_failed os others idle from sound meant facts.0 facts.1 more more_others)
+          let meant : means o a.known.setting (followed_by from.past os) (Some entry_is) =
+          subst (λ w. means o a.known.setting (followed_by from.past os) w) start.meant.0 (call_meant (means o) a.known m start from.past holds.fits.past_is) in
+          cut_failed (record {
+            os = os;
+            others = call_others (means o) a.known m start;
+            idle = call_idle (means o) a.known m start (owner_before m b.known more then_ owner);
+            from = from;
+            sound = sound_of a from holds;
+          }) meant more more_others)
 
 -- a datagram that failed
-module _ (reading word bits number leg server : ℕ) (address : ServerAddr) (id : ℕ) (message : List ℕ) (a b : State) (m : Known) (start : Start_is reading word bits number leg server address 0 id message a b a.known m) where
-  datagram_failure : IsFailure reading word bits number leg server address 0 id message a b (Send server message NotSent ∷ [])
+module _ (o : Outing) (a b : State) (udp : o.link ≡ 0) where
+  pub datagram_failure : IsFailure o a b (Send o.server o.message NotSent ∷ [])
   datagram_failure = record {
-    is_core = λ s e. core_send_as s e;
+    is_core = core_send o.server o.message NotSent;
     no_message = λ held. refl;
     no_bytes = λ held k. refl;
-    failed = λ held. refl;
+    failed = λ held. ap (λ n. record { server = o.server; link = n } ∷ []) (sym udp);
     left = λ held. refl;
-    last = Send server message NotSent;
+    last = Send o.server o.message NotSent;
     core_is = refl;
+    noted_are = λ since meant. (asked_udp o since meant udp, opened_udp o since meant udp);
   }
-    where
-      core_send_as : (s : ℕ) → s ≡ server → IsCore s (Send server message NotSent ∷ [])
-      core_send_as s e = subst (λ x. IsCore x (Send server message NotSent ∷ [])) (sym e) (core_send server message NotSent)
 
-  pub goes_unsent : (count : ℕ) → Calls (Fails server 0 reading (Ok count)) 0 m b.known → b.rows ≡ a.rows → b.told ≡ told_with (was_told server a.told) server a.told → b.mix ≡ a.mix →
-      b.log ≡ option_map (λ calls. calls ++ (serve_unless (was_told server a.told) server address ++ Send server message NotSent ∷ [])) a.log → Goes (Asks reading word bits) a b
-  goes_unsent count fault rows keys mix log =
-      goes_failed reading word bits number leg server address 0 id message a b m start (Send server message NotSent ∷ []) datagram_failure count fault mix log
-      (λ os others idle from sound meant. (
-        asked_udp a.known.setting a.known.seat reading word bits number leg server address 0 id message a.rows a.told os others idle from sound meant refl,
-        opened_udp a.known.setting a.known.seat reading word bits number leg server address 0 id message a.rows a.told os others idle from sound meant refl,
-        λ more more_idle.
-            let sent = sound_as a.known.setting _ b.rows _ b.told _ rows keys (sent_sound a.known.setting a.known.seat reading word bits number leg server address 0 id message a.rows a.told os others idle from sound meant refl) in
-            let later = sound_idle a.known.setting b.rows b.told more _ more_idle sent in
-            sound_one a.known.setting b.rows b.told (Fault server 0 reading) _ refl later,
-      ))
-
-  pub stops_unsent : (unkept : NoMemory) → Calls (Fails server 0 reading (Err unkept)) 0 m b.known →
-      b.log ≡ option_map (λ calls. calls ++ (serve_unless (was_told server a.told) server address ++ Send server message NotSent ∷ [])) a.log → Stops (CutAsking reading word bits) a b
-  stops_unsent unkept fault log =
-      stops_failed reading word bits number leg server address 0 id message a b m start (Send server message NotSent ∷ []) datagram_failure unkept fault log
-      (λ os others idle from sound meant. (
-        asked_udp a.known.setting a.known.seat reading word bits number leg server address 0 id message a.rows a.told os others idle from sound meant refl,
-        opened_udp a.known.setting a.known.seat reading word bits number leg server address 0 id message a.rows a.told os others idle from sound meant refl,
-      ))
+  pub goes_unsent : (m : Known) (start : Start_is o a b a.known m) (count : ℕ) → Calls (Fails o.server o.link o.reading (Ok count)) 0 m b.known →
+      b.rows ≡ a.rows → b.told ≡ keys_are o a b → b.mix ≡ a.mix → b.log ≡ option_map (λ calls. calls ++ calls_are o a b (Send o.server o.message NotSent ∷ [])) a.log →
+      Goes (Asks o.reading o.word o.bits) a b
+  goes_unsent m start count fault rows keys mix log =
+      goes_failed o a b m start (Send o.server o.message NotSent ∷ []) datagram_failure count fault mix log
+      (λ since meant more more_idle.
+      let sent = sound_as a.known.setting _ b.rows _ b.told _ rows keys (sent_sound o since meant udp) in
+      sound_one a.known.setting b.rows b.told (Fault o.server o.link o.reading) _ refl (sound_idle a.known.setting b.rows b.told more _ more_idle sent))
 
 -- a link that failed to begin
-module _ (reading word bits number leg server : ℕ) (address : ServerAddr) (link id : ℕ) (message : List ℕ) (a b : State) (m : Known) (start : Start_is reading word bits number leg server address link id message a b a.known m)
-    (tcp : link ≢ 0) (none : held_link link (map link_of_row a.rows) ≡ None) where
-  link_failure : IsFailure reading word bits number leg server address link id message a b (Connect server link NotSent ∷ [])
+module _ (o : Outing) (a b : State) (tcp : o.link ≢ 0) (none : held_link o.link (map link_of_row a.rows) ≡ None) where
+  pub link_failure : IsFailure o a b (Connect o.server o.link NotSent ∷ [])
   link_failure = record {
-    is_core = λ s e. core_connect_as s e;
+    is_core = core_connect o.server o.link NotSent;
     no_message = λ held. refl;
     no_bytes = λ held k. refl;
     failed = λ held. refl;
     left = λ held. refl;
-    last = Connect server link NotSent;
+    last = Connect o.server o.link NotSent;
     core_is = refl;
+    noted_are = λ since meant. (asked_tcp o since meant tcp, opened_tcp o since meant tcp none);
   }
-    where
-      core_connect_as : (s : ℕ) → s ≡ server → IsCore s (Connect server link NotSent ∷ [])
-      core_connect_as s e = subst (λ x. IsCore x (Connect server link NotSent ∷ [])) (sym e) (core_connect server link NotSent)
 
-  pub goes_unlinked : (count : ℕ) → Calls (Fails server link reading (Ok count)) 0 m b.known → b.rows ≡ a.rows → b.told ≡ told_with (was_told server a.told) server a.told → b.mix ≡ a.mix →
-      b.log ≡ option_map (λ calls. calls ++ (serve_unless (was_told server a.told) server address ++ Connect server link NotSent ∷ [])) a.log → Goes (Asks reading word bits) a b
-  goes_unlinked count fault rows keys mix log =
-      goes_failed reading word bits number leg server address link id message a b m start (Connect server link NotSent ∷ []) link_failure count fault mix log
-      (λ os others idle from sound meant. (
-        asked_tcp a.known.setting a.known.seat reading word bits number leg server address link id message a.rows a.told os others idle from sound meant tcp,
-        opened_tcp a.known.setting a.known.seat reading word bits number leg server address link id message a.rows a.told os others idle from sound meant tcp none,
-        λ more more_idle.
-            let row : Row = record { number = link; server = server; unread = []; unwritten = [] ++ framed message } in
-            let keys' : List ℕ = told_with (was_told server a.told) server a.told in
-            let linked = connected_sound a.known.setting a.known.seat reading word bits number leg server address link id message a.rows a.told os others idle from sound meant tcp none in
-            let later = sound_idle a.known.setting (a.rows ++ row ∷ []) keys' more _ more_idle linked in
-            let faulted_ = sound_one a.known.setting (a.rows ++ row ∷ []) keys' (Fault server link reading) _ refl later in
-            let lost = sound_lost a.known.setting keys' a.rows row [] _ faulted_ (λ l x flies. ⊎_elim
-            (λ h. absurd (cc (h.0)))
-            (λ h. h.1)
-            (flight-cases a.known.setting l (Fault server link reading) (followed_by (Start number leg server link id (then_some (is_mixed a.known.setting link) bits) reading ∷ followed_by from.past os) more) x flies)) in
-            let same : lost_held from.held ≡ from.held = lost.held_are ∙ ap (map link_of_row) (append-nil a.rows) ∙ sym sound.held_are in
-            sound_as a.known.setting (a.rows ++ []) b.rows keys' b.told _ (rows ∙ sym (append-nil a.rows)) keys
-            (subst (λ h. Sound a.known.setting (a.rows ++ []) keys' (record {
-              past = Fault server link reading ∷ followed_by (Start number leg server link id (then_some (is_mixed a.known.setting link) bits) reading ∷ followed_by from.past os) more;
-              held = h;
-              unwritten = λ k. from.unwritten k ++ queued a.known.setting k (followed_by from.past os) (Start number leg server link id (then_some (is_mixed a.known.setting link) bits) reading);
-            })) same lost),
-      ))
+  pub goes_unlinked : (m : Known) (start : Start_is o a b a.known m) (count : ℕ) → Calls (Fails o.server o.link o.reading (Ok count)) 0 m b.known →
+      b.rows ≡ a.rows → b.told ≡ keys_are o a b → b.mix ≡ a.mix → b.log ≡ option_map (λ calls. calls ++ calls_are o a b (Connect o.server o.link NotSent ∷ [])) a.log →
+      Goes (Asks o.reading o.word o.bits) a b
+  goes_unlinked m start count fault rows keys mix log =
+      goes_failed o a b m start (Connect o.server o.link NotSent ∷ []) link_failure count fault mix log
+      (λ since meant more more_idle.
+      let row : Row = record { number = o.link; server = o.server; unread = []; unwritten = [] ++ framed o.message } in
+      let past : Past = entry_is o a b ∷ followed_by since.from.past since.os in
+      let linked = connected_sound o since meant tcp none in
+      let later = sound_idle a.known.setting (a.rows ++ row ∷ []) (keys_are o a b) more _ more_idle linked in
+      let faulted_ = sound_one a.known.setting (a.rows ++ row ∷ []) (keys_are o a b) (Fault o.server o.link o.reading) _ refl later in
+      let lost = sound_lost a.known.setting (keys_are o a b) a.rows row [] _ faulted_
+      (λ l x flies. ⊎_elim (λ h. absurd (cc (h.0))) (λ h. h.1) (flight-cases a.known.setting l (Fault o.server o.link o.reading) (followed_by past more) x flies)) in
+      let same : lost_held since.from.held ≡ since.from.held = lost.held_are ∙ ap (map link_of_row) (append-nil a.rows) ∙ sym since.sound.held_are in
+      sound_as a.known.setting (a.rows ++ []) b.rows (keys_are o a b) b.told _ (rows ∙ sym (append-nil a.rows)) keys
+      (subst (λ h. Sound a.known.setting (a.rows ++ []) (keys_are o a b) (record {
+        past = Fault o.server o.link o.reading ∷ followed_by past more;
+        held = h;
+        unwritten = λ k. since.from.unwritten k ++ queued a.known.setting k (followed_by since.from.past since.os) (entry_is o a b);
+      })) same lost))
     where
       lost_held : List Link → List Link
-      lost_held held = without_link link (held ++ record { number = link; server = server; unread = [] } ∷ [])
-
-  pub stops_unlinked : (unkept : NoMemory) → Calls (Fails server link reading (Err unkept)) 0 m b.known →
-      b.log ≡ option_map (λ calls. calls ++ (serve_unless (was_told server a.told) server address ++ Connect server link NotSent ∷ [])) a.log → Stops (CutAsking reading word bits) a b
-  stops_unlinked unkept fault log =
-      stops_failed reading word bits number leg server address link id message a b m start (Connect server link NotSent ∷ []) link_failure unkept fault log
-      (λ os others idle from sound meant. (
-        asked_tcp a.known.setting a.known.seat reading word bits number leg server address link id message a.rows a.told os others idle from sound meant tcp,
-        opened_tcp a.known.setting a.known.seat reading word bits number leg server address link id message a.rows a.told os others idle from sound meant tcp none,
-      ))
+      lost_held held = without_link o.link (held ++ record { number = o.link; server = o.server; unread = [] } ∷ [])
 
 -- a server that is told, or isn't any more
 pub tells_already : (server : ℕ) (address : ServerAddr) (a b : State) → was_told server a.told ≡ true → b ≡ a → HasTold server address a b
@@ -418,11 +379,14 @@ tells_already server address a b is same = subst (λ x. HasTold server address a
 })
 
 -- a query that is put behind a held link's bytes, to its end
-pub queued_ends : (reading word bits number leg server : ℕ) (address : ServerAddr) (link id : ℕ) (message : List ℕ) (a t b : State) (start : Start_is reading word bits number leg server address link id message a b a.known b.known)
-    (before : List Row) (row fed : Row) (after : List Row) (result : Result Unit NoMemory) → HasTold server address a t → t.rows ≡ before ++ row ∷ after → row.number ≡ link → b.rows ≡ before ++ fed ∷ after → b.told ≡ t.told → b.mix ≡ t.mix → b.log ≡ t.log →
-    OnOk result (fed ≡ record row { unwritten = row.unwritten ++ framed message }) → Ends (λ done. Asks reading word bits) (CutAsking reading word bits) result a b
-queued_ends reading word bits number leg server address link id message a t b start before row fed after (Ok done) told split is rows keys mix log put =
-    goes_queued reading word bits number leg server address link id message a b start before row after (sym told.rows ∙ split) is (rows ∙ ap (λ r. before ++ r ∷ after) put) (keys ∙ told.told) (mix ∙ told.mix)
-    (log ∙ log_trans (serve_unless (was_told server a.told) server address) [] a.log t.log t.log told.log (log_stays t.log))
-queued_ends reading word bits number leg server address link id message a t b start before row fed after (Err fault) told split is rows keys mix log put =
-    stops_told reading word bits number leg server address link id message a b start (log ∙ log_trans (serve_unless (was_told server a.told) server address) [] a.log t.log t.log told.log (log_stays t.log))
+pub queued_ends : (o : Outing) (a t b : State) (start : Start_is o a b a.known b.known) (before : List Row) (row fed : Row) (after : List Row) (result : Result Unit NoMemory) →
+    HasTold o.server o.address a t → t.rows ≡ before ++ row ∷ after → row.number ≡ o.link → b.rows ≡ before ++ fed ∷ after → b.told ≡ t.told → b.mix ≡ t.mix → b.log ≡ t.log →
+    OnOk result (fed ≡ record row { unwritten = row.unwritten ++ framed o.message }) → Ends (λ done. Asks o.reading o.word o.bits) (CutAsking o.reading o.word o.bits) result a b
+queued_ends o a t b start before row fed after result told split is rows keys mix log put = by result put
+  where
+    logged : b.log ≡ option_map (λ calls. calls ++ calls_are o a b []) a.log
+    logged = log ∙ log_trans (serve_unless (was_told o.server a.told) o.server o.address) [] a.log t.log t.log told.log (log_stays t.log)
+
+    by : (r : Result Unit NoMemory) → OnOk r (fed ≡ record row { unwritten = row.unwritten ++ framed o.message }) → Ends (λ done. Asks o.reading o.word o.bits) (CutAsking o.reading o.word o.bits) r a b
+    by (Ok done) is_put = goes_queued o a b start before row after (sym told.rows ∙ split) is (rows ∙ ap (λ r. before ++ r ∷ after) is_put) (keys ∙ told.told) (mix ∙ told.mix) logged
+    by (Err fault) is_put = stops_told o a b start logged

@@ -1,25 +1,6 @@
 -- A pause: what it saw of the channel, and its wait.
-use Rattle.std.proofs.Common.{◌≡◌, ◌∙◌, ℕ, ◌==◌, ◌&&◌, ◌||◌, Bool, true, false, List, ◌++◌, Result, Ok, Err, Option, Some, None, refl, ap, sym, subst}
-use Rattle.std.specs.Prelude.{is_err, min, nat_lt, not, option_map}
-use Rattle.std.specs.Option.{option_map_or}
-use Rattle.std.proofs.lemmas.List.{append-nil}
-use Rattle.item_list.specs.declared.no_memory.NoMemory.{NoMemory}
-use Rattle.net_world.specs.declared.answers.Waited.{Waited}
-use Rattle.net_world.specs.declared.log.WorldCall.{WorldCall}
-use Rattle.net_world.specs.declared.log.WorldCall.TheVariants.{Wait}
+use Rattle.event_runner.proofs.Base.{◌≡◌, ◌∙◌, ℕ, ◌==◌, ◌&&◌, ◌||◌, Bool, true, false, List, ◌++◌, Result, Ok, Err, Option, Some, None, refl, ap, sym, subst, is_err, min, nat_lt, not, option_map, option_map_or, append-nil, NoMemory, Waited, WorldCall, Wait, call_goes_on, goes_on_refl, goes_on_trans, skips, past_of, Calls, Known, Due, first_due, Meaning, TellsCounts, TellsDue, Names, NamesBecome, entries_of, most_entries, Paused, HasLooked, HasSkipped, HasWaited, Pauses, wakes_by, Gets}
 use Rattle.channel_model.specs.declared.answers.Counts.{Counts}
-use Rattle.channel_model.proofs.Theorems.{call_goes_on, goes_on_refl, goes_on_trans}
-use Rattle.channel_model.specs.Course.{skips}
-use Rattle.channel_model.specs.Journal.{past_of}
-use Rattle.channel_model.specs.Known.{Calls, Known}
-use Rattle.channel_model.specs.Lawful.{Due, first_due}
-use Rattle.channel_model.specs.Meanings.{Meaning, TellsCounts, TellsDue}
-use Rattle.channel_model.specs.Names.{Names, NamesBecome}
-use Rattle.channel_model.specs.Seen.{entries_of}
-use Rattle.channel_model.specs.Turn.{most_entries}
-use Rattle.event_runner.specs.declared.answers.Paused.{Paused}
-use Rattle.event_runner.specs.Running.{HasLooked, HasSkipped, HasWaited, Pauses, wakes_by}
-use Rattle.event_runner.specs.State.{Gets}
 
 -- what a call saw, where it adds nothing
 seen_is : (meaning : Meaning) (old new : Known) (call : Calls meaning 0 old new) → call.added ≡ None → new.seen ≡ call.here

@@ -1,30 +1,5 @@
 -- A piece of a held link, and the messages that become whole with it.
-use Rattle.std.proofs.Common.{◌≡◌, ◌∙◌, ℕ, ◌==◌, ◌||◌, ◌&&◌, Bool, true, false, List, [], ◌∷◌, ◌++◌, map, refl, ap, sym, subst, arith, inl, inr, cond}
-use Rattle.std.specs.Prelude.{Err, Ok, OnOk, Result, count_by, filter_map, is_none, not}
-use Rattle.std.specs.List.{list_all}
-use Rattle.std.proofs.lemmas.Bool.{and_from, and_parts}
-use Rattle.std.proofs.lemmas.List.{append-nil, map-append}
-use Rattle.chan_types.specs.declared.journal.Entry.{Entry}
-use Rattle.chan_types.specs.declared.journal.What.TheVariants.{Arrive}
-use Rattle.net_world.specs.declared.answers.Got.TheVariants.{Piece}
-use Rattle.net_world.specs.declared.log.WorldCall.{WorldCall}
-use Rattle.net_world.specs.declared.log.WorldCall.TheVariants.{Receive}
-use Rattle.channel_model.proofs.Theorems.{Brings, agrees_piece, told-one}
-use Rattle.channel_model.specs.Course.{is_of_turn}
-use Rattle.channel_model.specs.Flight.{begun_by}
-use Rattle.channel_model.specs.Frames.{left_in, messages_in}
-use Rattle.channel_model.specs.Journal.{Past, followed_by, own_entries}
-use Rattle.channel_model.specs.Links.{held_link, told, with_bytes}
-use Rattle.channel_model.specs.Setting.{Setting}
-use Rattle.channel_model.specs.Stretch.{Standing}
-use Rattle.channel_model.specs.KeptLinks.{Row}
-use Rattle.channel_model.specs.Traffic.{Notice, Parcel, arrived, asked, brought, faulted, messages, noted, noticed, notices, of_message, opened, queued}
-use Rattle.channel_model.specs.Turn.{is_among, is_at, is_expire, losses, parts_of_entry, receiving}
-use Rattle.item_list.specs.declared.no_memory.NoMemory.{NoMemory}
-use Rattle.event_runner.specs.Delivering.{Delivers, HasDelivered, HasDeliveredSome, NoteArrivals}
-use Rattle.event_runner.specs.Goes.{Ends, Goes, Stops}
-use Rattle.event_runner.specs.Parts.{CutHearing, Hears}
-use Rattle.event_runner.specs.State.{Gets, State}
+use Rattle.event_runner.proofs.Base.{◌≡◌, ◌∙◌, ℕ, ◌==◌, ◌||◌, ◌&&◌, Bool, true, false, List, [], ◌∷◌, ◌++◌, map, refl, ap, sym, subst, arith, inl, inr, cond, Err, Ok, OnOk, Result, count_by, filter_map, is_none, not, list_all, and_from, and_parts, append-nil, map-append, Entry, Arrive, Piece, WorldCall, Receive, Brings, agrees_piece, told-one, is_of_turn, begun_by, left_in, messages_in, Past, followed_by, own_entries, held_link, told, with_bytes, Setting, Standing, Row, Notice, Parcel, arrived, asked, brought, faulted, messages, noted, noticed, notices, of_message, opened, queued, is_among, is_at, is_expire, losses, parts_of_entry, receiving, NoMemory, Delivers, HasDelivered, HasDeliveredSome, NoteArrivals, Ends, Goes, Stops, CutHearing, Hears, Gets, State}
 use Rattle.event_runner.proofs.CallLemmas.{begins_none, leads_by, other_quiet, owner_of}
 use Rattle.event_runner.proofs.GoesLemmas.{goes_by, stops_by}
 use Rattle.event_runner.proofs.RowLemmas.{row_held, sound_fed}

@@ -1,26 +1,5 @@
 -- What goes out with the query of an attempt: the calls, the words before them, and what a Start notes.
-use Rattle.std.proofs.Common.{◌≡◌, ℕ, ◌==◌, ◌&&◌, ◌||◌, Bool, true, false, List, [], ◌∷◌, ◌++◌, refl, ap, sym, subst, arith, inl, inr, ⊎_elim, cond, le-leb, length, nat_le, true≢false, ◌≤◌}
-use Rattle.std.specs.Prelude.{IfSome, Some, find, not}
-use Rattle.std.specs.Bool.{then_some}
-use Rattle.std.specs.List.{AllByRecursion, list_all}
-use Rattle.std.proofs.lemmas.Bool.{cases_Bool}
-use Rattle.chan_types.specs.declared.journal.Entry.{Entry}
-use Rattle.chan_types.specs.declared.journal.What.{What}
-use Rattle.chan_types.specs.declared.server_key.ServerKey.{ServerKey}
-use Rattle.net_addr.specs.declared.addr.ServerAddr.{ServerAddr}
-use Rattle.net_world.specs.declared.answers.Sent.{Sent}
-use Rattle.net_world.specs.declared.log.WorldCall.{WorldCall}
-use Rattle.net_world.specs.declared.log.WorldCall.TheVariants.{Connect, Send, Serve}
-use Rattle.channel_model.proofs.Theorems.{agrees_serve}
-use Rattle.channel_model.specs.CutShort.{MayLackOne, NearlyInOrder}
-use Rattle.channel_model.specs.Journal.{Past, own_entries}
-use Rattle.channel_model.specs.Links.{Link, told}
-use Rattle.channel_model.specs.Setting.{Setting}
-use Rattle.channel_model.specs.Stretch.{Agrees, Standing}
-use Rattle.channel_model.specs.Traffic.{Parcel, Route, noted, notices, notices_of, of_datagram, of_link}
-use Rattle.channel_model.specs.Turn.{HasBits, Numbered, are_served_first, draws, expired_in, is_among, is_at, is_sent_to, numbered, parts_of_call, parts_of_entry, received_in, served_by, serves, started_in, starting, words_of_look}
-use Rattle.event_runner.specs.Parts.{words_of}
-use Rattle.event_runner.specs.State.{serve_unless}
+use Rattle.event_runner.proofs.Base.{◌≡◌, ℕ, ◌==◌, ◌&&◌, ◌||◌, Bool, true, false, List, [], ◌∷◌, ◌++◌, refl, ap, sym, subst, arith, inl, inr, ⊎_elim, cond, le-leb, length, nat_le, true≢false, ◌≤◌, IfSome, Some, find, not, then_some, AllByRecursion, list_all, cases_Bool, Entry, What, ServerKey, ServerAddr, Sent, WorldCall, Connect, Send, Serve, agrees_serve, MayLackOne, NearlyInOrder, Past, own_entries, Link, told, Setting, Agrees, Standing, Parcel, Route, noted, notices, notices_of, of_datagram, of_link, HasBits, Numbered, are_served_first, draws, expired_in, is_among, is_at, is_sent_to, numbered, parts_of_call, parts_of_entry, received_in, served_by, serves, started_in, starting, words_of_look, words_of, serve_unless}
 
 -- what is found passes the test, and is one of the list
 pub find_says : {X : Type 0} (P : X → Type 0) (test : X → Bool) (xs : List X) (c : X) → AllByRecursion P xs → find test xs ≡ Some c → (test c ≡ true) × P c

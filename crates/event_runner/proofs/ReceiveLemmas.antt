@@ -1,30 +1,5 @@
 -- Items that are received, one by one.
-use Rattle.std.proofs.Common.{◌≡◌, ◌∙◌, ℕ, false, List, [], ◌∷◌, ◌++◌, map, refl, ap, sym, subst, arith, eq-eqb, inl, inr, ⊎_elim}
-use Rattle.std.specs.Prelude.{None, Ok, Some, option_map}
-use Rattle.std.proofs.lemmas.List.{append-nil}
-use Rattle.chan_types.specs.declared.journal.Entry.{Entry}
-use Rattle.chan_types.specs.declared.journal.What.{What}
-use Rattle.chan_types.specs.declared.journal.What.TheVariants.{Arrive, Fault}
-use Rattle.net_world.specs.declared.answers.Got.{Got}
-use Rattle.net_world.specs.declared.answers.Got.TheVariants.{Datagram, Ended, Failed as LinkFailed, Nothing, Piece}
-use Rattle.net_world.specs.declared.log.WorldCall.{WorldCall}
-use Rattle.net_world.specs.declared.log.WorldCall.TheVariants.{Close, Receive}
-use Rattle.channel_model.specs.declared.answers.Landed.{Landed}
-use Rattle.channel_model.proofs.Theorems.{agrees_nearly, flight-cases, AreOthers, agrees_calls, agrees_datagram, agrees_nothing, agrees_step, noted-others, noted-own, agrees_none}
-use Rattle.channel_model.specs.CutShort.{FallsShort, NearlyAgrees}
-use Rattle.channel_model.specs.Flight.{went_over}
-use Rattle.channel_model.specs.Journal.{followed_by}
-use Rattle.channel_model.specs.Known.{Calls}
-use Rattle.channel_model.specs.Links.{Link, held_after, held_by_receive, held_link, told, with_bytes, without_link}
-use Rattle.channel_model.specs.Meanings.{Arrives, Fails, Meaning}
-use Rattle.channel_model.specs.Setting.{Setting}
-use Rattle.channel_model.specs.Stretch.{Standing}
-use Rattle.channel_model.specs.KeptLinks.{Row, link_of_row}
-use Rattle.channel_model.specs.Traffic.{arrived, asked, fault_received, faulted, faults, messages, messages_of, noted, noticed, notices, opened, queued}
-use Rattle.channel_model.specs.Turn.{if_held, is_nothing, losses, lost_receiving}
-use Rattle.event_runner.specs.Goes.{Goes, Stops}
-use Rattle.event_runner.specs.Parts.{CutHearing, Hears, HearsNothing}
-use Rattle.event_runner.specs.State.{Gets, State}
+use Rattle.event_runner.proofs.Base.{◌≡◌, ◌∙◌, ℕ, false, List, [], ◌∷◌, ◌++◌, map, refl, ap, sym, subst, arith, eq-eqb, inl, inr, ⊎_elim, None, Ok, Some, option_map, append-nil, Entry, What, Arrive, Fault, Got, Datagram, Ended, LinkFailed, Nothing, Piece, WorldCall, Close, Receive, Landed, agrees_nearly, flight-cases, AreOthers, agrees_calls, agrees_datagram, agrees_nothing, agrees_step, noted-others, noted-own, agrees_none, FallsShort, NearlyAgrees, went_over, followed_by, Calls, Link, held_after, held_by_receive, held_link, told, with_bytes, without_link, Arrives, Fails, Meaning, Setting, Standing, Row, link_of_row, arrived, asked, fault_received, faulted, faults, messages, messages_of, noted, noticed, notices, opened, queued, if_held, is_nothing, losses, lost_receiving, Goes, Stops, CutHearing, Hears, HearsNothing, Gets, State}
 use Rattle.event_runner.proofs.CallLemmas.{goes_add, goes_alone, log_stays, own, own_none, own_one, past_behind, stops_add, stops_alone, stops_look}
 use Rattle.event_runner.proofs.DeliverLemmas.{arrive_adds}
 use Rattle.event_runner.proofs.RowLemmas.{lacks_none, row_held, sound_lost, with_bytes_lacks, without_again, without_lacks}

@@ -1,21 +1,5 @@
 -- Turns with what stands behind them, where one more comes or the last one changes.
-use Rattle.std.proofs.Common.{◌≡◌, ◌∙◌, ℕ, ◌==◌, ◌&&◌, ◌||◌, Bool, true, false, List, [], ◌∷◌, ◌++◌, length, map, not, refl, ap, sym, inl, inr}
-use Rattle.std.specs.Prelude.{Option, Some, None, flat_map, is_none, ◌⊎◌, ⊤}
-use Rattle.std.specs.List.{AllByRecursion, list_all}
-use Rattle.std.proofs.lemmas.Bool.{and_from, and_parts}
-use Rattle.std.proofs.lemmas.List.{append_assoc, flat_map_more}
-use Rattle.std.proofs.lemmas.List.Folds.{list_all-append}
-use Rattle.chan_types.specs.declared.journal.Entry.{Entry}
-use Rattle.resolv_options.specs.Lasts.{last_or}
-use Rattle.channel_model.proofs.Theorems.{holds-grows}
-use Rattle.channel_model.specs.Course.{AreTurns, Rest, Round, Test, delivers_then, goes_on, has_no_turn, has_none_of, is_of_turn, is_timely, may_follow, rests_there, skips, soon, standing_after, waits_there, wakes_at}
-use Rattle.channel_model.specs.Completion.{pending, ready}
-use Rattle.channel_model.specs.Endings.{somewhere_behind}
-use Rattle.channel_model.specs.Journal.{Past, followed_by}
-use Rattle.channel_model.specs.Setting.{Setting}
-use Rattle.channel_model.specs.Stretch.{Standing, behind}
-use Rattle.channel_model.specs.Turn.{somewhere}
-use Rattle.event_runner.specs.UnderWay.{Reach, awaiting, delivered, following, has_come, rested, turned}
+use Rattle.event_runner.proofs.Base.{◌≡◌, ◌∙◌, ℕ, ◌==◌, ◌&&◌, ◌||◌, Bool, true, false, List, [], ◌∷◌, ◌++◌, length, map, not, refl, ap, sym, inl, inr, Option, Some, None, flat_map, is_none, ◌⊎◌, ⊤, AllByRecursion, list_all, and_from, and_parts, append_assoc, flat_map_more, list_all-append, Entry, last_or, holds-grows, AreTurns, Rest, Round, Test, delivers_then, goes_on, has_no_turn, has_none_of, is_of_turn, is_timely, may_follow, rests_there, skips, soon, standing_after, waits_there, wakes_at, pending, ready, somewhere_behind, Past, followed_by, Setting, Standing, behind, somewhere, Reach, awaiting, delivered, following, has_come, rested, turned}
 
 -- no turns, or turns with a last one
 pub by_last : (P : List Round → Type 0) → P [] → ((before : List Round) (round : Round) → P (before ++ round ∷ [])) → (rounds : List Round) → P rounds

@@ -1,19 +1,5 @@
 -- The links that a runner holds: one that is lost, one that gets bytes, and one of which bytes are written.
-use Rattle.std.proofs.Common.{◌≡◌, ◌≢◌, ◌∙◌, ℕ, ◌+◌, ◌<◌, ◌==◌, Bool, true, false, List, [], ◌∷◌, ◌++◌, length, get_or, set, take, drop, map, refl, ap, sym, subst, arith, ne_eqb, eq-eqb, eqb-true, zero, suc, Option, Some, None, cond, true≢false, add-one, ap₂}
-use Rattle.std.specs.Prelude.{IsSomeAnd, not}
-use Rattle.std.specs.List.{AllByRecursion, list_any}
-use Rattle.std.proofs.lemmas.Bool.{and_from}
-use Rattle.std.proofs.lemmas.List.{map-append}
-use Rattle.std.proofs.lemmas.List.Elements.{filter-append}
-use Rattle.channel_model.specs.KeptLinks.{Row, link_of_row}
-use Rattle.channel_model.specs.Flight.{Attempt, flight, went_over}
-use Rattle.channel_model.specs.Frames.{left_in}
-use Rattle.channel_model.specs.Legs.{Leg}
-use Rattle.channel_model.specs.Links.{Link, held_link, with_bytes, without_link}
-use Rattle.channel_model.specs.Setting.{Setting}
-use Rattle.channel_model.specs.Stretch.{Standing}
-use Rattle.channel_model.specs.Traffic.{is_start_on}
-use Rattle.event_runner.specs.Rows.{IsAt}
+use Rattle.event_runner.proofs.Base.{◌≡◌, ◌≢◌, ◌∙◌, ℕ, ◌+◌, ◌<◌, ◌==◌, Bool, true, false, List, [], ◌∷◌, ◌++◌, length, get_or, set, take, drop, map, refl, ap, sym, subst, arith, ne_eqb, eq-eqb, eqb-true, zero, suc, Option, Some, None, cond, true≢false, add-one, ap₂, IsSomeAnd, not, AllByRecursion, list_any, and_from, map-append, filter-append, Row, link_of_row, Attempt, flight, went_over, left_in, Leg, Link, held_link, with_bytes, without_link, Setting, Standing, is_start_on, IsAt}
 use Rattle.event_runner.proofs.SoundLemmas.{HasLink, Lacks, RowsApart, Sound}
 
 -- a list at a place

@@ -1,22 +1,5 @@
 -- What a runner keeps is as a standing has it, and stays so behind entries that begin no attempt.
-use Rattle.std.proofs.Common.{◌≡◌, ◌≢◌, ◌∙◌, ℕ, ◌==◌, ◌||◌, true, false, List, [], ◌∷◌, map, refl, ap, sym, subst, arith, true≢false, ⊎_elim, zero, suc, Option, Some, None}
-use Rattle.std.specs.Prelude.{All, IsSomeAnd, is_none, filter_map}
-use Rattle.std.specs.List.{AllByRecursion, cons_option, list_all, list_any}
-use Rattle.std.proofs.lemmas.Bool.{and_parts, cases_Bool}
-use Rattle.chan_types.specs.declared.journal.Entry.{Entry}
-use Rattle.chan_types.specs.declared.journal.What.{What}
-use Rattle.channel_model.proofs.Theorems.{flight-cases, flight-started, is_leg-says}
-use Rattle.channel_model.specs.KeptLinks.{AreApart, Row, link_of_row}
-use Rattle.channel_model.specs.Flight.{Attempt, begun_by, flight, has_leg, in_flight, started}
-use Rattle.channel_model.specs.Journal.{followed_by, past_of}
-use Rattle.channel_model.specs.Legs.{Leg, is_leg}
-use Rattle.channel_model.specs.Links.{Link, held_link}
-use Rattle.channel_model.specs.Servers.{has_key, opening_servers}
-use Rattle.channel_model.specs.Setting.{Setting}
-use Rattle.channel_model.specs.Stretch.{Standing}
-use Rattle.channel_model.specs.Traffic.{is_start_on}
-use Rattle.channel_model.specs.Turn.{is_start_to}
-use Rattle.event_runner.specs.State.{Holds, State}
+use Rattle.event_runner.proofs.Base.{◌≡◌, ◌≢◌, ◌∙◌, ℕ, ◌==◌, ◌||◌, true, false, List, [], ◌∷◌, map, refl, ap, sym, subst, arith, true≢false, ⊎_elim, zero, suc, Option, Some, None, All, IsSomeAnd, is_none, filter_map, AllByRecursion, cons_option, list_all, list_any, and_parts, cases_Bool, Entry, What, flight-cases, flight-started, is_leg-says, AreApart, Row, link_of_row, Attempt, begun_by, flight, has_leg, in_flight, started, followed_by, past_of, Leg, is_leg, Link, held_link, has_key, opening_servers, Setting, Standing, is_start_on, is_start_to, Holds, State}
 
 -- what holds by index holds of each, and the other way round
 pub each_of : {X : Type 0} (P : X → Type 0) (xs : List X) → All P xs → AllByRecursion P xs

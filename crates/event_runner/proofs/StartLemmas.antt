@@ -1,30 +1,5 @@
 -- Attempts that are started, one behind the other, up to the end of the starting.
-use Rattle.std.proofs.Common.{◌≡◌, ◌∙◌, ℕ, ◌+◌, ◌<◌, ◌≤◌, ◌==◌, ◌||◌, ◌^◌, Bool, true, false, List, [], ◌∷◌, ◌++◌, cond, le-leb, length, map, nat_le, refl, ap, ap₂, sym, subst, arith, inl, inr, ⊎_elim, true≢false, eq-eqb, add-zero}
-use Rattle.std.specs.Prelude.{Err, Ok, Option, Result, not, option_map}
-use Rattle.std.specs.List.{list_all, list_any}
-use Rattle.std.proofs.lemmas.Bool.{and_from, and_parts, cases_Bool}
-use Rattle.std.proofs.lemmas.List.{append-nil, append_assoc}
-use Rattle.std.proofs.lemmas.List.Folds.{list_all-append}
-use Rattle.chan_types.specs.declared.journal.Entry.{Entry}
-use Rattle.chan_types.specs.declared.journal.What.{What}
-use Rattle.chan_types.specs.declared.server_key.ServerKey.{ServerKey}
-use Rattle.item_list.specs.declared.no_memory.NoMemory.{NoMemory}
-use Rattle.net_world.specs.declared.log.WorldCall.{WorldCall}
-use Rattle.net_world.specs.declared.log.WorldCall.TheVariants.{Close, Connect, Now, Receive, Send, Serve, Wait, Word, Write}
-use Rattle.channel_model.specs.declared.answers.Begun.TheVariants.{Idle, NoId}
-use Rattle.channel_model.proofs.Theorems.{agrees_nearly, AreOthers, agrees_calls, noted-others, noted-append, told-append}
-use Rattle.channel_model.specs.Journal.{Past, followed_by}
-use Rattle.channel_model.specs.Known.{Calls}
-use Rattle.channel_model.specs.Links.{Link, held_after, held_by, told}
-use Rattle.channel_model.specs.Meanings.{Starts}
-use Rattle.channel_model.specs.Setting.{Setting}
-use Rattle.channel_model.specs.Stretch.{Agrees, Standing}
-use Rattle.channel_model.specs.Traffic.{connects, datagrams, faults, messages, noted, written}
-use Rattle.channel_model.specs.Turn.{AreDrawn, MayLackServer, NoneStarts, Numbered, are_served_first, draws, is_among, is_sent_to, is_start_to, numbered, parts_of_call, received_in, served_by, serves, started_in, starting, words_of_look}
-use Rattle.event_runner.specs.Goes.{Goes, Stops}
-use Rattle.event_runner.specs.Parts.{Asks, Begins, BeginsNone, CutAsking, CutBeginning, CutPart, MakesPart, NearlyServes, NearlyWithin, Within, words_of}
-use Rattle.event_runner.specs.State.{Draws, DrawsIf, Gets, State}
-use Rattle.net_world.specs.Logs.{Logs}
+use Rattle.event_runner.proofs.Base.{◌≡◌, ◌∙◌, ℕ, ◌+◌, ◌<◌, ◌≤◌, ◌==◌, ◌||◌, ◌^◌, Bool, true, false, List, [], ◌∷◌, ◌++◌, cond, le-leb, length, map, nat_le, refl, ap, ap₂, sym, subst, arith, inl, inr, ⊎_elim, true≢false, eq-eqb, add-zero, Err, Ok, Option, Result, not, option_map, list_all, list_any, and_from, and_parts, cases_Bool, append-nil, append_assoc, list_all-append, Entry, What, ServerKey, NoMemory, WorldCall, Close, Connect, Now, Receive, Send, Serve, Wait, Word, Write, Idle, NoId, agrees_nearly, AreOthers, agrees_calls, noted-others, noted-append, told-append, Past, followed_by, Calls, Link, held_after, held_by, told, Starts, Setting, Agrees, Standing, connects, datagrams, faults, messages, noted, written, AreDrawn, MayLackServer, NoneStarts, Numbered, are_served_first, draws, is_among, is_sent_to, is_start_to, numbered, parts_of_call, received_in, served_by, serves, started_in, starting, words_of_look, Goes, Stops, Asks, Begins, BeginsNone, CutAsking, CutBeginning, CutPart, MakesPart, NearlyServes, NearlyWithin, Within, words_of, Draws, DrawsIf, Gets, State, Logs}
 use Rattle.event_runner.proofs.CallLemmas.{goes_look, log_stays, log_trans, own_none, stops_alone, stops_look}
 use Rattle.event_runner.proofs.GoesLemmas.{goes_as, goes_by, goes_joined, goes_none, stops_joined}
 use Rattle.event_runner.proofs.HearLemmas.{told_both}
@@ -272,7 +247,7 @@ serves_behind setting seat x y es fs cs ds agrees same sent = by_cases
     noted_both = noted-append seat (served_by setting) x.past es fs ∙ ap₂ (λ l q. l ++ noted seat (served_by setting) q fs) same (sym agrees.past_is)
 
     both : told serves x.held cs ++ told serves y.held ds ≡ told serves x.held (cs ++ ds)
-    both = sym (told_both serves setting seat x y es cs ds agrees)
+    both = sym (told_both serves ds agrees)
 
     by_cases : NearlyServes setting seat y fs ds → NearlyServes setting seat x (es ++ fs) (cs ++ ds)
     by_cases (inl alike) = inl (noted_both ∙ ap (λ l. told serves x.held cs ++ l) alike ∙ both)
@@ -301,16 +276,16 @@ look_words setting word bits = by_mix setting.options.flags.mix
     by_mix false = refl
 
 module _ (reading : ℕ) where
-  module _ (word bits : ℕ) (setting : Setting) (seat : ℕ) (x y : Standing) (es fs : List Entry) (cs ds : List WorldCall) (p : DrawsWords reading word bits setting seat x es cs y) where
+  module _ {word bits : ℕ} {setting : Setting} {seat : ℕ} {x y : Standing} {es : List Entry} {cs : List WorldCall} (fs : List Entry) (ds : List WorldCall) (p : DrawsWords reading word bits setting seat x es cs y) where
     drawn_noted : {A : Type 0} (notes : Past → What → List A) → noted seat notes x.past (es ++ fs) ≡ noted seat notes y.past fs
     drawn_noted notes =
         noted-append seat notes x.past es fs ∙ ap₂ (λ l m. l ++ m) (ap (noted seat notes x.past) p.no_entry) (ap (λ q. noted seat notes q fs) (sym p.within.agrees.past_is))
 
     drawn_served : told serves x.held (cs ++ ds) ≡ told serves y.held ds
-    drawn_served = told_both serves setting seat x y es cs ds p.within.agrees ∙ ap (λ l. l ++ told serves y.held ds) p.served_none
+    drawn_served = told_both serves ds p.within.agrees ∙ ap (λ l. l ++ told serves y.held ds) p.served_none
 
     drawn_draws : told draws y.held ds ≡ [] → told draws x.held (cs ++ ds) ≡ words_of setting.options.flags.mix word bits
-    drawn_draws none = told_both draws setting seat x y es cs ds p.within.agrees ∙ ap₂ (λ l m. l ++ m) p.drawn none ∙ append-nil (words_of setting.options.flags.mix word bits)
+    drawn_draws none = told_both draws ds p.within.agrees ∙ ap₂ (λ l m. l ++ m) p.drawn none ∙ append-nil (words_of setting.options.flags.mix word bits)
 
     later_start : (server : ℕ) → list_any (is_start_to server) x.past ≡ true → list_any (is_start_to server) y.past ≡ true
     later_start server h = subst (λ q. list_any (is_start_to server) q ≡ true) (sym p.within.agrees.past_is) (start_stays server x.past es h)
@@ -319,35 +294,35 @@ module _ (reading : ℕ) where
   pub asks_joined : (word bits : ℕ) (a b c : State) → Goes (DrawsWords reading word bits) a b → Goes (Asks reading word bits) b c → Goes (Begins reading 1) a c
   asks_joined word bits a b c = goes_joined (DrawsWords reading word bits) (Asks reading word bits) (Begins reading 1)
       (λ setting seat x y z es fs cs ds p q. record {
-        within = within_joined reading starting setting seat 0 0 0 0 0 1 x y z es fs cs ds p.within q.within;
-        drawn = λ left starts words rest. rw (drawn_noted word bits setting seat x y es fs cs ds p numbered, drawn_draws word bits setting seat x y es fs cs ds p q.no_word) (q.drawn left starts words rest);
-        served = drawn_noted word bits setting seat x y es fs cs ds p (served_by setting) ∙ q.served ∙ sym (drawn_served word bits setting seat x y es fs cs ds p);
+        within = within_joined p.within q.within;
+        drawn = λ left starts words rest. rw (drawn_noted fs ds p numbered, drawn_draws fs ds p q.no_word) (q.drawn left starts words rest);
+        served = drawn_noted fs ds p (served_by setting) ∙ q.served ∙ sym (drawn_served fs ds p);
         served_first = first_joined cs ds p.first q.served_first (unsent_any cs (told serves [] ds) p.unsent);
-        told_new = λ server before. rw (drawn_served word bits setting seat x y es fs cs ds p) (q.told_new server (later_start word bits setting seat x y es fs cs ds p server before));
+        told_new = λ server before. rw (drawn_served fs ds p) (q.told_new server (later_start fs ds p server before));
         sent = λ server none. list_all-append (λ call. not (is_sent_to server call)) cs ds ∙ and_from _ _ (p.unsent server) (q.sent server none);
       }) a b c
 
   pub asks_stop : (word bits : ℕ) (a b c : State) → Goes (DrawsWords reading word bits) a b → Stops (CutAsking reading word bits) b c → Stops (CutBeginning reading) a c
   asks_stop word bits a b c = stops_joined (DrawsWords reading word bits) (CutAsking reading word bits) (CutBeginning reading)
       (λ setting seat x y es fs cs ds p q. record {
-        within = nearly_joined reading starting setting seat 0 0 0 x y es fs cs ds p.within q.within;
+        within = nearly_joined p.within q.within;
         few = rw (started-append seat es fs, p.within.counts.started_are) (omega (arith, q.few));
-        drawn = rw (drawn_noted word bits setting seat x y es fs cs ds p numbered, drawn_draws word bits setting seat x y es fs cs ds p q.no_word) q.drawn;
+        drawn = rw (drawn_noted fs ds p numbered, drawn_draws fs ds p q.no_word) q.drawn;
         served = serves_behind setting seat x y es fs cs ds p.within.agrees (ap (noted seat (served_by setting) x.past) p.no_entry ∙ sym p.served_none) (λ server none. p.unsent server) q.served;
         served_first = first_joined cs ds p.first q.served_first (unsent_any cs (told serves [] ds) p.unsent);
-        told_new = λ server before. rw (drawn_served word bits setting seat x y es fs cs ds p) (q.told_new server (later_start word bits setting seat x y es fs cs ds p server before));
+        told_new = λ server before. rw (drawn_served fs ds p) (q.told_new server (later_start fs ds p server before));
       }) a b c
 
   pub start_stop : (word bits : ℕ) (a b c : State) → Goes (DrawsWords reading word bits) a b → Stops (CutStart reading) b c → Stops (CutBeginning reading) a c
   start_stop word bits a b c = stops_joined (DrawsWords reading word bits) (CutStart reading) (CutBeginning reading)
       (λ setting seat x y es fs cs ds p q.
-      let unserved : told serves x.held (cs ++ ds) ≡ [] = drawn_served word bits setting seat x y es fs cs ds p ∙ ap (told serves y.held) q.no_call in
+      let unserved : told serves x.held (cs ++ ds) ≡ [] = drawn_served fs ds p ∙ ap (told serves y.held) q.no_call in
       record {
-        within = nearly_joined reading starting setting seat 0 0 0 x y es fs cs ds p.within q.within;
+        within = nearly_joined p.within q.within;
         few = rw (started-append seat es fs, p.within.counts.started_are, q.none) (omega arith);
-        drawn = rw (drawn_noted word bits setting seat x y es fs cs ds p numbered, q.no_start, drawn_draws word bits setting seat x y es fs cs ds p (ap (told draws y.held) q.no_call))
+        drawn = rw (drawn_noted fs ds p numbered, q.no_start, drawn_draws fs ds p (ap (told draws y.held) q.no_call))
             (le-leb (length (words_of setting.options.flags.mix word bits)) (words_of_look setting) (omega (arith, look_words setting word bits)));
-        served = inl (drawn_noted word bits setting seat x y es fs cs ds p (served_by setting) ∙ q.unserved ∙ sym unserved);
+        served = inl (drawn_noted fs ds p (served_by setting) ∙ q.unserved ∙ sym unserved);
         served_first = subst (λ l. are_served_first (cs ++ l) ≡ true) (sym q.no_call) (subst (λ l. are_served_first l ≡ true) (sym (append-nil cs)) p.first);
         told_new = λ server before. rw unserved refl;
       }) a b c
@@ -355,14 +330,14 @@ module _ (reading : ℕ) where
   pub none_joined : (word bits : ℕ) (a b c : State) → Goes (DrawsWords reading word bits) a b → Goes (FindsNone reading) b c → Goes (BeginsNone reading) a c
   none_joined word bits a b c = goes_joined (DrawsWords reading word bits) (FindsNone reading) (BeginsNone reading)
       (λ setting seat x y z es fs cs ds p q.
-      let unserved : told serves x.held (cs ++ ds) ≡ [] = drawn_served word bits setting seat x y es fs cs ds p ∙ ap (told serves y.held) q.no_call in
+      let unserved : told serves x.held (cs ++ ds) ≡ [] = drawn_served fs ds p ∙ ap (told serves y.held) q.no_call in
       record {
-        begins = within_joined reading starting setting seat 0 0 0 0 0 0 x y z es fs cs ds p.within q.within;
+        begins = within_joined p.within q.within;
         none = q.none;
-        no_start = drawn_noted word bits setting seat x y es fs cs ds p numbered ∙ q.no_start;
+        no_start = drawn_noted fs ds p numbered ∙ q.no_start;
         drawn = eq-eqb (length (told draws x.held (cs ++ ds))) (words_of_look setting)
-            (ap length (drawn_draws word bits setting seat x y es fs cs ds p (ap (told draws y.held) q.no_call)) ∙ look_words setting word bits);
-        served = drawn_noted word bits setting seat x y es fs cs ds p (served_by setting) ∙ q.unserved ∙ sym unserved;
+            (ap length (drawn_draws fs ds p (ap (told draws y.held) q.no_call)) ∙ look_words setting word bits);
+        served = drawn_noted fs ds p (served_by setting) ∙ q.unserved ∙ sym unserved;
         served_none = unserved;
         served_first = subst (λ l. are_served_first (cs ++ l) ≡ true) (sym q.no_call) (subst (λ l. are_served_first l ≡ true) (sym (append-nil cs)) p.first);
       }) a b c
@@ -372,7 +347,7 @@ module _ (reading : ℕ) where
   pub begins_so_far : (a : State) → Goes (Begins reading 0) a a
   begins_so_far a = goes_none (Begins reading 0)
       (λ setting seat s. record {
-        within = within_none reading starting setting seat s;
+        within = within_none s;
         drawn = λ left starts words rest. rest;
         served = refl;
         served_first = refl;
@@ -383,12 +358,12 @@ module _ (reading : ℕ) where
   without_nil : (left : ℕ → Bool) (setting : Setting) (starts : List Numbered) (words : List ℕ) → AreDrawn setting left (starts ++ []) (words ++ []) → AreDrawn setting left starts words
   without_nil left setting starts words h = subst (λ l. AreDrawn setting left l words) (append-nil starts) (subst (λ l. AreDrawn setting left (starts ++ []) l) (append-nil words) h)
 
-  module _ (count : ℕ) (setting : Setting) (seat : ℕ) (x y : Standing) (es fs : List Entry) (cs ds : List WorldCall) (p : Begins reading count setting seat x es cs y) where
+  module _ {count : ℕ} {setting : Setting} {seat : ℕ} {x y : Standing} {es : List Entry} {cs : List WorldCall} (fs : List Entry) (ds : List WorldCall) (p : Begins reading count setting seat x es cs y) where
     noted_both : {A : Type 0} (notes : Past → What → List A) → noted seat notes x.past (es ++ fs) ≡ noted seat notes x.past es ++ noted seat notes y.past fs
     noted_both notes = noted-append seat notes x.past es fs ∙ ap (λ q. noted seat notes x.past es ++ noted seat notes q fs) (sym p.within.agrees.past_is)
 
     served_both : noted seat (served_by setting) y.past fs ≡ told serves y.held ds → noted seat (served_by setting) x.past (es ++ fs) ≡ told serves x.held (cs ++ ds)
-    served_both same = noted_both (served_by setting) ∙ ap₂ (λ l m. l ++ m) p.served same ∙ sym (told_both serves setting seat x y es cs ds p.within.agrees)
+    served_both same = noted_both (served_by setting) ∙ ap₂ (λ l m. l ++ m) p.served same ∙ sym (told_both serves ds p.within.agrees)
 
     first_both : are_served_first ds ≡ true → ((server : ℕ) → list_any (is_start_to server) y.past ≡ true → list_all (λ key. not (key.key == server)) (told serves y.held ds) ≡ true) → are_served_first (cs ++ ds) ≡ true
     first_both first new =
@@ -401,7 +376,7 @@ module _ (reading : ℕ) where
         let n : noted seat numbered x.past (es ++ fs) ++ starts ≡ noted seat numbered x.past es ++ (noted seat numbered y.past fs ++ starts) =
         ap (λ l. l ++ starts) (noted_both numbered) ∙ append_assoc (noted seat numbered x.past es) (noted seat numbered y.past fs) starts in
         let t : told draws x.held (cs ++ ds) ++ words ≡ told draws x.held cs ++ (told draws y.held ds ++ words) =
-        ap (λ l. l ++ words) (told_both draws setting seat x y es cs ds p.within.agrees) ∙ append_assoc (told draws x.held cs) (told draws y.held ds) words in
+        ap (λ l. l ++ words) (told_both draws ds p.within.agrees) ∙ append_assoc (told draws x.held cs) (told draws y.held ds) words in
         subst (λ l. AreDrawn setting left l (told draws x.held (cs ++ ds) ++ words)) (sym n)
         (subst (λ l. AreDrawn setting left (noted seat numbered x.past es ++ (noted seat numbered y.past fs ++ starts)) l) (sym t)
         (p.drawn left (noted seat numbered y.past fs ++ starts) (told draws y.held ds ++ words) rest))
@@ -418,14 +393,14 @@ module _ (reading : ℕ) where
   pub begins_more : (count : ℕ) (a b c : State) → Goes (Begins reading count) a b → Goes (Begins reading 1) b c → Goes (Begins reading (count + 1)) a c
   begins_more count a b c = goes_joined (Begins reading count) (Begins reading 1) (Begins reading (count + 1))
       (λ setting seat x y z es fs cs ds p q. record {
-        within = within_joined reading starting setting seat 0 0 count 0 0 1 x y z es fs cs ds p.within q.within;
-        drawn = λ left starts words rest. drawn_both count setting seat x y es fs cs ds p left starts words (q.drawn left starts words rest);
-        served = served_both count setting seat x y es fs cs ds p q.served;
-        served_first = first_both count setting seat x y es fs cs ds p q.served_first q.told_new;
+        within = within_joined p.within q.within;
+        drawn = λ left starts words rest. drawn_both fs ds p left starts words (q.drawn left starts words rest);
+        served = served_both fs ds p q.served;
+        served_first = first_both fs ds p q.served_first q.told_new;
         told_new = λ server before.
-            ap (list_all (λ (key : ServerKey). not (key.key == server))) (told_both serves setting seat x y es cs ds p.within.agrees)
+            ap (list_all (λ (key : ServerKey). not (key.key == server))) (told_both serves ds p.within.agrees)
             ∙ list_all-append (λ (key : ServerKey). not (key.key == server)) (told serves x.held cs) (told serves y.held ds)
-            ∙ and_from _ _ (p.told_new server before) (q.told_new server (start_later count setting seat x y es fs cs ds p server before));
+            ∙ and_from _ _ (p.told_new server before) (q.told_new server (start_later fs ds p server before));
         sent = λ server none.
             list_all-append (λ call. not (is_sent_to server call)) cs ds
             ∙ and_from _ _ (p.sent server (no_start_before server y.past fs (subst (λ past. list_any (is_start_to server) past ≡ false) q.within.agrees.past_is none))) (q.sent server none);
@@ -434,17 +409,17 @@ module _ (reading : ℕ) where
   pub begins_all : (count : ℕ) → count ≤ 2 ^ 16 → (a b c : State) → Goes (Begins reading count) a b → Goes (BeginsNone reading) b c → Goes (MakesPart reading starting 0 0 count) a c
   begins_all count few a b c = goes_joined (Begins reading count) (BeginsNone reading) (MakesPart reading starting 0 0 count)
       (λ setting seat x y z es fs cs ds p q.
-      let both = within_joined reading starting setting seat 0 0 count 0 0 0 x y z es fs cs ds p.within q.begins in
-      let counts = counts_as seat (es ++ fs) (cs ++ ds) 0 0 (count + 0) 0 0 count refl refl (add-zero count) both.counts in
+      let both = within_joined p.within q.begins in
+      let counts = counts_as refl refl (add-zero count) both.counts in
       let looked : AreDrawn setting (λ left. left == words_of_look setting) (noted seat numbered y.past fs) (told draws y.held ds) = rw q.no_start q.drawn in
       record {
         made = record {
           agrees = both.agrees;
           alone = both.alone;
-          all = inl (q.none, drawn_whole count setting seat x y es fs cs ds p (λ left. left == words_of_look setting) looked);
+          all = inl (q.none, drawn_whole fs ds p (λ left. left == words_of_look setting) looked);
           few = rw counts.started_are few;
-          served = served_both count setting seat x y es fs cs ds p q.served;
-          served_first = first_both count setting seat x y es fs cs ds p q.served_first (λ server h. rw q.served_none refl);
+          served = served_both fs ds p q.served;
+          served_first = first_both fs ds p q.served_first (λ server h. rw q.served_none refl);
         };
         counts = counts;
       }) a b c
@@ -452,7 +427,7 @@ module _ (reading : ℕ) where
   pub begins_most : (count : ℕ) → count ≡ 65536 → (a b : State) → Goes (Begins reading count) a b → Goes (MakesPart reading starting 0 0 65536) a b
   begins_most count all a b = goes_as (Begins reading count) (MakesPart reading starting 0 0 65536)
       (λ setting seat x y es cs p.
-      let counts = counts_as seat es cs 0 0 count 0 0 65536 refl refl all p.within.counts in
+      let counts = counts_as refl refl all p.within.counts in
       record {
         made = record {
           agrees = p.within.agrees;
@@ -468,14 +443,14 @@ module _ (reading : ℕ) where
   pub begins_stop : (count : ℕ) → count < 65536 → (a b c : State) → Goes (Begins reading count) a b → Stops (CutBeginning reading) b c → Stops (CutPart reading starting) a c
   begins_stop count few a b c = stops_joined (Begins reading count) (CutBeginning reading) (CutPart reading starting)
       (λ setting seat x y es fs cs ds p q.
-      let both = nearly_joined reading starting setting seat 0 0 count x y es fs cs ds p.within q.within in
+      let both = nearly_joined p.within q.within in
       record {
         nearly = both.nearly;
         alone = both.alone;
         by_rule = (
           rw (started-append seat es fs, p.within.counts.started_are) (omega (arith, few, q.few)),
-          drawn_whole count setting seat x y es fs cs ds p (λ left. nat_le left (words_of_look setting)) q.drawn,
+          drawn_whole fs ds p (λ left. nat_le left (words_of_look setting)) q.drawn,
           lacks_server reading setting seat x (es ++ fs) (cs ++ ds) (serves_behind setting seat x y es fs cs ds p.within.agrees p.served p.sent q.served),
-          first_both count setting seat x y es fs cs ds p q.served_first q.told_new,
+          first_both fs ds p q.served_first q.told_new,
         );
       }) a b c

@@ -1,20 +1,5 @@
 -- Calls of a desk, one behind the other, with the entries that came between.
-use Rattle.std.proofs.Common.{◌≡◌, ◌≢◌, ◌∙◌, ℕ, ◌==◌, true, List, [], ◌∷◌, ◌++◌, Some, refl, ap, ap₂, sym, subst}
-use Rattle.std.proofs.lemmas.List.{append-nil, append_assoc}
-use Rattle.std.proofs.lemmas.Bool.{and_from}
-use Rattle.std.proofs.lemmas.List.Folds.{list_all-append}
-use Rattle.std.specs.List.{AllByRecursion, list_all}
-use Rattle.chan_types.specs.declared.journal.Entry.{Entry}
-use Rattle.chan_types.specs.declared.journal.What.{What}
-use Rattle.channel_model.proofs.Theorems.{calls_stretch, names_stay_behind, names_stay_refl, names_stay_trans, own-append, own-others, own_added}
-use Rattle.channel_model.specs.Journal.{own_entries}
-use Rattle.channel_model.specs.Known.{Calls, GoesOn, IsSameDesk, Known}
-use Rattle.channel_model.specs.Lawful.{IsLawful}
-use Rattle.channel_model.specs.Meanings.{Meaning}
-use Rattle.channel_model.specs.Names.{NamesStay}
-use Rattle.channel_model.specs.Course.{is_of_turn}
-use Rattle.channel_model.specs.Seen.{entries_of}
-use Rattle.event_runner.specs.Goes.{AreMadeInTurns, is_made_in_turn}
+use Rattle.event_runner.proofs.Base.{◌≡◌, ◌≢◌, ◌∙◌, ℕ, ◌==◌, true, List, [], ◌∷◌, ◌++◌, Some, refl, ap, ap₂, sym, subst, append-nil, append_assoc, and_from, list_all-append, AllByRecursion, list_all, Entry, What, calls_stretch, names_stay_behind, names_stay_refl, names_stay_trans, own-append, own-others, own_added, own_entries, Calls, GoesOn, IsSameDesk, Known, IsLawful, Meaning, NamesStay, is_of_turn, entries_of, AreMadeInTurns, is_made_in_turn}
 
 -- a desk went on by these entries
 pub record Trail (old new : Known) (entries : List Entry) : Type 0 where

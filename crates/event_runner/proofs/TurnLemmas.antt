@@ -1,17 +1,5 @@
 -- The parts of a turn, one behind the other.
-use Rattle.std.proofs.Common.{◌≡◌, ◌∙◌, ℕ, ◌+◌, List, [], ◌∷◌, ◌++◌, refl, ap, sym, subst, inl, inr, arith}
-use Rattle.std.specs.Prelude.{Option}
-use Rattle.std.proofs.lemmas.List.{append-nil, append_assoc}
-use Rattle.chan_types.specs.declared.journal.Entry.{Entry}
-use Rattle.net_world.specs.declared.log.WorldCall.{WorldCall}
-use Rattle.net_world.specs.declared.log.WorldCall.TheVariants.{Now}
-use Rattle.channel_model.specs.Setting.{Setting}
-use Rattle.channel_model.specs.Stretch.{Standing}
-use Rattle.channel_model.specs.Turn.{HasMade, HaveMade, Part, all_parts, parts_before}
-use Rattle.event_runner.specs.Goes.{Goes, Stops}
-use Rattle.event_runner.specs.Parts.{Counts, CutPart, MakesPart}
-use Rattle.event_runner.specs.State.{Gets, State}
-use Rattle.event_runner.specs.Turning.{IsCutShort, MakesTurn}
+use Rattle.event_runner.proofs.Base.{◌≡◌, ◌∙◌, ℕ, ◌+◌, List, [], ◌∷◌, ◌++◌, refl, ap, sym, subst, inl, inr, arith, Option, append-nil, append_assoc, Entry, WorldCall, Now, Setting, Standing, HasMade, HaveMade, Part, all_parts, parts_before, Goes, Stops, Counts, CutPart, MakesPart, Gets, State, IsCutShort, MakesTurn}
 use Rattle.event_runner.proofs.CallLemmas.{log_stays}
 use Rattle.event_runner.proofs.GoesLemmas.{goes_as, goes_by, goes_joined, stops_by, stops_joined}
 use Rattle.event_runner.proofs.TrailLemmas.{trail_none}
@@ -105,7 +93,7 @@ module _ (reading : ℕ) where
   parts_all r e s q d t i j k a b = goes_as (SoFar all_parts r e s) (MakesTurn (record { reading = reading; received = q; expired = d; started = t }))
       (λ setting seat x y es cs p. record {
         turn = record { made = p.made; calls_are = p.calls_are; parts = p.parts_are };
-        counts = counts_as seat es cs r e s q d t i j k p.counts;
+        counts = counts_as i j k p.counts;
       }) a b
 
 -- the clock wasn't read

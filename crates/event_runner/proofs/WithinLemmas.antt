@@ -1,22 +1,5 @@
 -- Two stretches of one part of a turn, one behind the other.
-use Rattle.std.proofs.Common.{◌≡◌, ◌∙◌, ℕ, ◌+◌, ◌&&◌, Bool, true, List, [], ◌++◌, length, refl, ap, ap₂, length-append, cond}
-use Rattle.std.specs.Prelude.{count_by, filter_map, not}
-use Rattle.std.specs.List.{list_all}
-use Rattle.std.proofs.lemmas.Bool.{and_from, and_parts}
-use Rattle.std.proofs.lemmas.List.Elements.{filter_map-append}
-use Rattle.std.proofs.lemmas.List.Folds.{list_all-append}
-use Rattle.std.proofs.lemmas.List.Sums.{sum_by-append}
-use Rattle.chan_types.specs.declared.journal.Entry.{Entry}
-use Rattle.net_world.specs.declared.answers.Got.{Got}
-use Rattle.net_world.specs.declared.log.WorldCall.{WorldCall}
-use Rattle.channel_model.proofs.Theorems.{nearly_behind, agrees_none, agrees_trans, own-append}
-use Rattle.channel_model.specs.Calls.{received_by}
-use Rattle.channel_model.specs.Flight.{begun_by}
-use Rattle.channel_model.specs.Journal.{own_entries}
-use Rattle.channel_model.specs.Setting.{Setting}
-use Rattle.channel_model.specs.Stretch.{Standing}
-use Rattle.channel_model.specs.Turn.{Part, are_of, expired_in, is_among, is_at, is_expire, is_nothing, parts_of_call, parts_of_entry, received_in, started_in}
-use Rattle.event_runner.specs.Parts.{Counts, NearlyWithin, Within}
+use Rattle.event_runner.proofs.Base.{◌≡◌, ◌∙◌, ℕ, ◌+◌, ◌&&◌, Bool, true, List, [], ◌++◌, length, refl, ap, ap₂, length-append, cond, count_by, filter_map, not, list_all, and_from, and_parts, filter_map-append, list_all-append, sum_by-append, Entry, Got, WorldCall, nearly_behind, agrees_none, agrees_trans, own-append, received_by, begun_by, own_entries, Setting, Standing, Part, are_of, expired_in, is_among, is_at, is_expire, is_nothing, parts_of_call, parts_of_entry, received_in, started_in, Counts, NearlyWithin, Within}
 
 -- all is of the part in both
 pub alone_joined : (part : Part) (seat reading : ℕ) (es fs : List Entry) (cs ds : List WorldCall) →
@@ -54,10 +37,10 @@ counts_joined seat es fs cs ds r e s q d t x y = record {
   started_are = started-append seat es fs ∙ ap₂ (λ m n. m + n) x.started_are y.started_are;
 }
 
-module _ (reading : ℕ) (part : Part) (setting : Setting) (seat : ℕ) where
-  pub within_joined : (r e s q d t : ℕ) (a b c : Standing) (es fs : List Entry) (cs ds : List WorldCall) →
+module _ {reading : ℕ} {part : Part} {setting : Setting} {seat : ℕ} where
+  pub within_joined : {r e s q d t : ℕ} {a b c : Standing} {es fs : List Entry} {cs ds : List WorldCall} →
       Within reading part r e s setting seat a es cs b → Within reading part q d t setting seat b fs ds c → Within reading part (r + q) (e + d) (s + t) setting seat a (es ++ fs) (cs ++ ds) c
-  within_joined r e s q d t a b c es fs cs ds x y = record {
+  within_joined {r} {e} {s} {q} {d} {t} {a} {b} {c} {es} {fs} {cs} {ds} x y = record {
     agrees = agrees_trans setting seat a b c es fs cs ds x.agrees y.agrees;
     alone = alone_joined part seat reading es fs cs ds x.alone y.alone;
     counts = counts_joined seat es fs cs ds r e s q d t x.counts y.counts;
@@ -66,13 +49,13 @@ module _ (reading : ℕ) (part : Part) (setting : Setting) (seat : ℕ) where
   pub within_none : (a : Standing) → Within reading part 0 0 0 setting seat a [] [] a
   within_none a = record { agrees = agrees_none setting seat a; alone = refl; counts = record { received_are = refl; expired_are = refl; started_are = refl } }
 
-  pub nearly_joined : (r e s : ℕ) (a b : Standing) (es fs : List Entry) (cs ds : List WorldCall) →
+  pub nearly_joined : {r e s : ℕ} {a b : Standing} {es fs : List Entry} {cs ds : List WorldCall} →
       Within reading part r e s setting seat a es cs b → NearlyWithin reading part setting seat b fs ds → NearlyWithin reading part setting seat a (es ++ fs) (cs ++ ds)
-  nearly_joined r e s a b es fs cs ds x y = record {
+  nearly_joined {r} {e} {s} {a} {b} {es} {fs} {cs} {ds} x y = record {
     nearly = nearly_behind setting seat a b es fs cs ds x.agrees y.nearly;
     alone = alone_joined part seat reading es fs cs ds x.alone y.alone;
   }
 
 -- the same counts, otherwise written
-pub counts_as : (seat : ℕ) (es : List Entry) (cs : List WorldCall) (r e s q d t : ℕ) → r ≡ q → e ≡ d → s ≡ t → Counts seat es cs r e s → Counts seat es cs q d t
-counts_as seat es cs r e s q d t i j k x = record { received_are = x.received_are ∙ i; expired_are = x.expired_are ∙ j; started_are = x.started_are ∙ k }
+pub counts_as : {seat : ℕ} {es : List Entry} {cs : List WorldCall} {r e s q d t : ℕ} → r ≡ q → e ≡ d → s ≡ t → Counts seat es cs r e s → Counts seat es cs q d t
+counts_as i j k x = record { received_are = x.received_are ∙ i; expired_are = x.expired_are ∙ j; started_are = x.started_are ∙ k }

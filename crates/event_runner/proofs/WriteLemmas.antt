@@ -1,31 +1,5 @@
 -- Bytes that are written to a link, call by call.
-use Rattle.std.proofs.Common.{◌≡◌, ◌≢◌, ◌∙◌, ℕ, ◌==◌, ◌||◌, Bool, true, false, List, [], ◌∷◌, ◌++◌, length, drop, refl, ap, ap₂, sym, subst, arith, inl, ⊎_elim, true≢false, eq-eqb, ne_eqb, cond}
-use Rattle.std.specs.Prelude.{Err, None, Ok, Option, Result, Some, is_err, option_map}
-use Rattle.std.specs.List.{list_any}
-use Rattle.std.proofs.lemmas.List.{append-nil, map-append}
-use Rattle.chan_types.specs.declared.journal.Entry.{Entry}
-use Rattle.chan_types.specs.declared.journal.What.{What}
-use Rattle.chan_types.specs.declared.journal.What.TheVariants.{Fault}
-use Rattle.item_list.specs.declared.no_memory.NoMemory.{NoMemory}
-use Rattle.net_world.specs.declared.answers.Wrote.{Wrote}
-use Rattle.net_world.specs.declared.answers.Wrote.TheVariants.{Count, Failed as NotWritten}
-use Rattle.net_world.specs.declared.log.WorldCall.{WorldCall}
-use Rattle.net_world.specs.declared.log.WorldCall.TheVariants.{Close, Write}
-use Rattle.channel_model.proofs.Theorems.{agrees_nearly, flight-cases, agrees_written, AreOthers, agrees_step, noted-others, noted-own}
-use Rattle.channel_model.proofs.Theorems.{without_taken}
-use Rattle.channel_model.specs.KeptLinks.{Row, link_of_row}
-use Rattle.channel_model.specs.Calls.{Writing}
-use Rattle.channel_model.specs.Journal.{followed_by}
-use Rattle.channel_model.specs.Known.{Calls, Known}
-use Rattle.channel_model.specs.Links.{held_after, held_link, told, without_link}
-use Rattle.channel_model.specs.Meanings.{Fails, Meaning}
-use Rattle.channel_model.specs.Setting.{Setting}
-use Rattle.channel_model.specs.Stretch.{Agrees, Standing}
-use Rattle.channel_model.specs.Traffic.{arrived, asked, faulted, faults, is_start_on, noted, noticed, notices, opened, queued}
-use Rattle.channel_model.specs.Turn.{closes_made, last_took_nothing, losses, writes_astray, writing, wrotes}
-use Rattle.event_runner.specs.Goes.{Break, Goes, Leads, Leaves, Stops, Stretch}
-use Rattle.event_runner.specs.Parts.{CutWriting, FlushEnds, Flushes, Writes, WritesTo, is_done}
-use Rattle.event_runner.specs.State.{Gets, IsTurnOwner, State}
+use Rattle.event_runner.proofs.Base.{◌≡◌, ◌≢◌, ◌∙◌, ℕ, ◌==◌, ◌||◌, Bool, true, false, List, [], ◌∷◌, ◌++◌, length, drop, refl, ap, ap₂, sym, subst, arith, inl, ⊎_elim, true≢false, eq-eqb, ne_eqb, cond, Err, None, Ok, Option, Result, Some, is_err, option_map, list_any, append-nil, map-append, Entry, What, Fault, NoMemory, Wrote, Count, NotWritten, WorldCall, Close, Write, agrees_nearly, flight-cases, agrees_written, AreOthers, agrees_step, noted-others, noted-own, without_taken, Row, link_of_row, Writing, followed_by, Calls, Known, held_after, held_link, told, without_link, Fails, Meaning, Setting, Agrees, Standing, arrived, asked, faulted, faults, is_start_on, noted, noticed, notices, opened, queued, closes_made, last_took_nothing, losses, writes_astray, wrotes, Break, Goes, Leads, Leaves, Stops, Stretch, CutWriting, FlushEnds, Flushes, Writes, WritesTo, is_done, Gets, IsTurnOwner, State}
 use Rattle.event_runner.proofs.CallLemmas.{goes_add, goes_alone, own, own_none, own_one, past_behind, stops_add, stops_look}
 use Rattle.event_runner.proofs.GoesLemmas.{goes_joined, goes_none, told_as}
 use Rattle.event_runner.proofs.HearLemmas.{told_both}
@@ -83,21 +57,21 @@ nil_if false = refl
 module _ (reading : ℕ) where
   pub writes_joined : (setting : Setting) (seat : ℕ) (x y z : Standing) (es fs : List Entry) (cs ds : List WorldCall) → Writes reading setting seat x es cs y → Writes reading setting seat y fs ds z → Writes reading setting seat x (es ++ fs) (cs ++ ds) z
   writes_joined setting seat x y z es fs cs ds p q = record {
-    within = within_joined reading writing setting seat 0 0 0 0 0 0 x y z es fs cs ds p.within q.within;
-    to_held = told_both writes_astray setting seat x y es cs ds p.within.agrees ∙ ap₂ (λ l m. l ++ m) p.to_held q.to_held;
+    within = within_joined p.within q.within;
+    to_held = told_both writes_astray ds p.within.agrees ∙ ap₂ (λ l m. l ++ m) p.to_held q.to_held;
     closed =
-        told_both closes_made setting seat x y es cs ds p.within.agrees ∙ ap₂ (λ l m. l ++ m) p.closed q.closed
-        ∙ sym (told_both losses setting seat x y es cs ds p.within.agrees);
+        told_both closes_made ds p.within.agrees ∙ ap₂ (λ l m. l ++ m) p.closed q.closed
+        ∙ sym (told_both losses ds p.within.agrees);
   }
 
   pub writes_none : (setting : Setting) (seat : ℕ) (s : Standing) → Writes reading setting seat s [] [] s
-  writes_none setting seat s = record { within = within_none reading writing setting seat s; to_held = refl; closed = refl }
+  writes_none setting seat s = record { within = within_none s; to_held = refl; closed = refl }
 
   pub others_joined : (number : ℕ) (setting : Setting) (seat : ℕ) (x y z : Standing) (es : List Entry) (cs ds : List WorldCall) → Agrees setting seat x es cs y →
       ((k : ℕ) → (number == k) ≡ false → (told (wrotes k) x.held cs ≡ []) × (y.unwritten k ≡ x.unwritten k)) → ((k : ℕ) → (number == k) ≡ false → (told (wrotes k) y.held ds ≡ []) × (z.unwritten k ≡ y.unwritten k)) →
       (k : ℕ) → (number == k) ≡ false → (told (wrotes k) x.held (cs ++ ds) ≡ []) × (z.unwritten k ≡ x.unwritten k)
   others_joined number setting seat x y z es cs ds agrees p q k ne =
-      (told_both (wrotes k) setting seat x y es cs ds agrees ∙ ap₂ (λ l m. l ++ m) (p k ne).0 (q k ne).0, (q k ne).1 ∙ (p k ne).1)
+      (told_both (wrotes k) ds agrees ∙ ap₂ (λ l m. l ++ m) (p k ne).0 (q k ne).0, (q k ne).1 ∙ (p k ne).1)
 
   pub to_joined : (number : ℕ) (a b c : State) → Goes (WritesTo reading number) a b → Goes (WritesTo reading number) b c → Goes (WritesTo reading number) a c
   to_joined number a b c = goes_joined (WritesTo reading number) (WritesTo reading number) (WritesTo reading number)
@@ -119,7 +93,7 @@ module _ (reading : ℕ) where
           held = q.writes.held ∙ p.held;
           others = others_joined number setting seat x y z es cs ds p.writes.within.agrees p.others q.writes.others;
         };
-        flushed = by_last (length (z.unwritten number) == 0) (told (wrotes number) x.held cs) (told (wrotes number) y.held ds) (told (wrotes number) x.held (cs ++ ds)) (told_both (wrotes number) setting seat x y es cs ds p.writes.within.agrees) q.flushed;
+        flushed = by_last (length (z.unwritten number) == 0) (told (wrotes number) x.held cs) (told (wrotes number) y.held ds) (told (wrotes number) x.held (cs ++ ds)) (told_both (wrotes number) ds p.writes.within.agrees) q.flushed;
       }) a b c
     where
       by_last : (b : Bool) (xs ys all : List Writing) → all ≡ xs ++ ys → (b || last_took_nothing ys) ≡ true → (b || last_took_nothing all) ≡ true

@@ -1,5 +1,4 @@
-use Rattle.std.proofs.Common.{arith, refl, sym, ◌∙◌, ap}
-use Rattle.event_runner.specs.State.{was_told}
+use Rattle.event_runner.proofs.Base.{arith, refl, sym, ◌∙◌, ap, was_told}
 use Rattle.event_runner.proofs.OutLemmas.{tells_already}
 use Rattle.event_runner.proofs.asking.tell.Goals as goal
 

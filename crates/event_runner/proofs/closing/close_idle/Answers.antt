@@ -1,4 +1,4 @@
-use Rattle.std.proofs.Common.{arith, refl, ◌∙◌, ◌+◌, ◌≡◌, vec_len}
+use Rattle.event_runner.proofs.Base.{arith, refl, ◌∙◌, ◌+◌, ◌≡◌, vec_len}
 use Rattle.event_runner.proofs.CloseLemmas.{closes_all, closes_less, closes_more, closes_none, closes_stop}
 use Rattle.event_runner.proofs.GoesLemmas.{ends_err}
 use Rattle.event_runner.proofs.closing.close_idle.Goals as goal

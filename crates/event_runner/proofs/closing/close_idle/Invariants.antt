@@ -1,7 +1,4 @@
-use Rattle.std.proofs.Common.{◌≡◌, ◌-◌, ◌≤◌, vec_len, ℕ}
-use Rattle.event_runner.specs.Goes.{Goes}
-use Rattle.event_runner.specs.Parts.{ClosesUpTo}
-use Rattle.event_runner.specs.State.{state_of}
+use Rattle.event_runner.proofs.Base.{◌≡◌, ◌-◌, ◌≤◌, vec_len, ℕ, Goes, ClosesUpTo, state_of}
 use Rattle.event_runner.proofs.closing.close_idle.Given as goal
 
 abbrev pub invariant-loop-index : goal.invariant-loop-index

@@ -1,4 +1,4 @@
-use Rattle.std.proofs.Common.{refl, ◌+◌, ◌<◌, arith, drop, length, take}
+use Rattle.event_runner.proofs.Base.{refl, ◌+◌, ◌<◌, arith, drop, length, take}
 use Rattle.event_runner.proofs.CloseLemmas.{look_cut, look_gone, look_stays}
 use Rattle.event_runner.proofs.FlushLemmas.{front_size, placed_row}
 use Rattle.event_runner.proofs.GoesLemmas.{ends_err}

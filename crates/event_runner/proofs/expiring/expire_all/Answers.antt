@@ -1,4 +1,4 @@
-use Rattle.std.proofs.Common.{arith, refl}
+use Rattle.event_runner.proofs.Base.{arith, refl}
 use Rattle.event_runner.proofs.ExpireLemmas.{expires_all, expires_more, expires_most, expires_none, expires_one, expires_so_far, expires_stop}
 use Rattle.event_runner.proofs.GoesLemmas.{ends_err}
 use Rattle.event_runner.proofs.expiring.expire_all.Goals as goal

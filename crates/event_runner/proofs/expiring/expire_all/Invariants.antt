@@ -1,10 +1,4 @@
-use Rattle.std.specs.Prelude.{List, Option}
-use Rattle.net_world.specs.declared.log.WorldCall.{WorldCall}
-use Rattle.channel_model.specs.Turn.{expiring}
-use Rattle.event_runner.specs.declared.kept.Kept.{Kept}
-use Rattle.event_runner.specs.Goes.{Goes}
-use Rattle.event_runner.specs.Parts.{Within}
-use Rattle.event_runner.specs.State.{state_of}
+use Rattle.event_runner.proofs.Base.{List, Option, WorldCall, expiring, Kept, Goes, Within, state_of}
 use Rattle.event_runner.proofs.expiring.expire_all.Given as goal
 
 abbrev pub invariant-loop-expired : goal.invariant-loop-expired

@@ -1,4 +1,4 @@
-use Rattle.std.proofs.Common.{[]}
+use Rattle.event_runner.proofs.Base.{[]}
 use Rattle.event_runner.proofs.DeliverLemmas.{delivers_err, handed_all, handed_cut, handed_more, handed_none}
 use Rattle.event_runner.proofs.inbound.deliver.Goals as goal
 

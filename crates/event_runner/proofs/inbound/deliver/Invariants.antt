@@ -1,4 +1,4 @@
-use Rattle.std.proofs.Common.{length}
+use Rattle.event_runner.proofs.Base.{length}
 use Rattle.event_runner.proofs.DeliverLemmas.{HasHanded}
 use Rattle.event_runner.proofs.inbound.deliver.Given as goal
 

@@ -1,6 +1,4 @@
-use Rattle.std.proofs.Common.{◌≡◌, drop, map}
-use Rattle.channel_model.specs.KeptLinks.{link_of_row}
-use Rattle.channel_model.specs.Links.{held_link}
+use Rattle.event_runner.proofs.Base.{◌≡◌, drop, map, link_of_row, held_link}
 use Rattle.event_runner.proofs.kept.find_link.Given as goal
 
 abbrev pub invariant-loop-index : goal.invariant-loop-index

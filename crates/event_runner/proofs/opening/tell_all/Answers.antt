@@ -1,4 +1,4 @@
-use Rattle.std.proofs.Common.{◌∙◌, ◌<◌, [], ◌∷◌, ◌++◌, length, arith, refl, ap, rules, sym}
+use Rattle.event_runner.proofs.Base.{◌∙◌, ◌<◌, [], ◌∷◌, ◌++◌, length, arith, refl, ap, rules, sym}
 use Rattle.event_runner.proofs.OpenLemmas.{keys_next, opens_err, opens_more}
 use Rattle.event_runner.proofs.opening.tell_all.Goals as goal
 

@@ -1,7 +1,4 @@
-use Rattle.std.proofs.Common.{◌≡◌, ◌≤◌, ◌++◌, map, take}
-use Rattle.std.specs.Prelude.{option_map}
-use Rattle.channel_model.specs.Course.{serves_from}
-use Rattle.channel_model.specs.Servers.{keyed_from}
+use Rattle.event_runner.proofs.Base.{◌≡◌, ◌≤◌, ◌++◌, map, take, option_map, serves_from, keyed_from}
 use Rattle.event_runner.proofs.opening.tell_all.Given as goal
 
 abbrev pub invariant-loop-key : goal.invariant-loop-key

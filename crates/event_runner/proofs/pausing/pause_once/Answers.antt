@@ -1,4 +1,4 @@
-use Rattle.std.proofs.Common.{sym, ◌∙◌}
+use Rattle.event_runner.proofs.Base.{sym, ◌∙◌}
 use Rattle.event_runner.proofs.PauseLemmas.{both_look, pause_err, skipped, waited}
 use Rattle.event_runner.proofs.pausing.pause_once.Goals as goal
 

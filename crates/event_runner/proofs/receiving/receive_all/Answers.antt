@@ -1,4 +1,4 @@
-use Rattle.std.proofs.Common.{arith, refl, ◌∙◌}
+use Rattle.event_runner.proofs.Base.{arith, refl, ◌∙◌}
 use Rattle.event_runner.proofs.GoesLemmas.{ends_err}
 use Rattle.event_runner.proofs.HearLemmas.{hears_all, hears_more, hears_most, hears_so_far, hears_stop}
 use Rattle.event_runner.proofs.receiving.receive_all.Goals as goal

@@ -1,7 +1,4 @@
-use Rattle.std.proofs.Common.{◌≡◌, ◌≤◌}
-use Rattle.event_runner.specs.Goes.{Goes}
-use Rattle.event_runner.specs.Parts.{Hears}
-use Rattle.event_runner.specs.State.{state_of}
+use Rattle.event_runner.proofs.Base.{◌≡◌, ◌≤◌, Goes, Hears, state_of}
 use Rattle.event_runner.proofs.receiving.receive_all.Given as goal
 
 abbrev pub invariant-loop-received : goal.invariant-loop-received

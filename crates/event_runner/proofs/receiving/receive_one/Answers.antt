@@ -1,5 +1,4 @@
-use Rattle.std.proofs.Common.{refl}
-use Rattle.net_world.specs.declared.answers.Got.TheVariants.{Datagram}
+use Rattle.event_runner.proofs.Base.{refl, Datagram}
 use Rattle.event_runner.proofs.GoesLemmas.{ends_err}
 use Rattle.event_runner.proofs.ReceiveLemmas.{cut_item, cut_receive, hears_datagram, hears_nothing}
 use Rattle.event_runner.proofs.receiving.receive_one.Goals as goal

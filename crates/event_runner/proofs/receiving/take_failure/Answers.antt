@@ -1,6 +1,4 @@
-use Rattle.std.proofs.Common.{refl, ◌∙◌, [], ◌∷◌}
-use Rattle.net_world.specs.declared.answers.Got.TheVariants.{Failed as LinkFailed}
-use Rattle.net_world.specs.declared.log.WorldCall.TheVariants.{Close, Receive}
+use Rattle.event_runner.proofs.Base.{refl, ◌∙◌, [], ◌∷◌, LinkFailed, Close, Receive}
 use Rattle.event_runner.proofs.CallLemmas.{log_trans}
 use Rattle.event_runner.proofs.GoesLemmas.{ends_err}
 use Rattle.event_runner.proofs.ReceiveLemmas.{cut_close, cut_item, failure_loss, hears_failure, hears_loss}

@@ -1,4 +1,4 @@
-use Rattle.std.proofs.Common.{refl}
+use Rattle.event_runner.proofs.Base.{refl}
 use Rattle.event_runner.proofs.PieceLemmas.{piece_ends}
 use Rattle.event_runner.proofs.ReceiveLemmas.{passes_piece}
 use Rattle.event_runner.proofs.RowLemmas.{found_row, rows_set}

@@ -1,4 +1,4 @@
-use Rattle.std.proofs.Common.{arith, refl, ◌∙◌}
+use Rattle.event_runner.proofs.Base.{arith, refl, ◌∙◌}
 use Rattle.event_runner.proofs.GoesLemmas.{ends_err}
 use Rattle.event_runner.proofs.StartLemmas.{begins_all, begins_more, begins_most, begins_so_far, begins_stop}
 use Rattle.event_runner.proofs.starting.start_all.Goals as goal

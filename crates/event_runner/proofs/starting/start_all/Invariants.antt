@@ -1,7 +1,4 @@
-use Rattle.std.proofs.Common.{◌≡◌, ◌≤◌}
-use Rattle.event_runner.specs.Goes.{Goes}
-use Rattle.event_runner.specs.Parts.{Begins}
-use Rattle.event_runner.specs.State.{state_of}
+use Rattle.event_runner.proofs.Base.{◌≡◌, ◌≤◌, Goes, Begins, state_of}
 use Rattle.event_runner.proofs.starting.start_all.Given as goal
 
 abbrev pub invariant-loop-started : goal.invariant-loop-started

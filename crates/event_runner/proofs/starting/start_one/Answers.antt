@@ -1,5 +1,4 @@
-use Rattle.std.proofs.Common.{arith, refl, ◌∙◌, [], ◌∷◌}
-use Rattle.event_runner.specs.State.{state_of}
+use Rattle.event_runner.proofs.Base.{arith, refl, ◌∙◌, [], ◌∷◌, state_of}
 use Rattle.event_runner.proofs.CallLemmas.{log_stays}
 use Rattle.event_runner.proofs.GoesLemmas.{ends_err}
 use Rattle.event_runner.proofs.StartLemmas.{asks_joined, asks_stop, goes_drawn, goes_idle, goes_no_id, none_joined, start_stop, stops_start, stops_words, words_logged}

@@ -1,6 +1,4 @@
-use Rattle.std.proofs.Common.{refl, [], ◌∷◌}
-use Rattle.channel_model.specs.Turn.{closing, expiring, receiving, starting, writing}
-use Rattle.event_runner.specs.State.{state_of}
+use Rattle.event_runner.proofs.Base.{refl, [], ◌∷◌, closing, expiring, receiving, starting, writing, state_of}
 use Rattle.event_runner.proofs.GoesLemmas.{ends_err}
 use Rattle.event_runner.proofs.TurnLemmas.{five_parts, part_cut, part_more, reads_clock, unread}
 use Rattle.event_runner.proofs.turning.turn_once.Goals as goal

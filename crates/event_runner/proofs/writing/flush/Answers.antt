@@ -1,5 +1,4 @@
-use Rattle.std.proofs.Common.{arith, refl, ◌∙◌, ◌==◌, ap, sym, length, eqb-true}
-use Rattle.event_runner.specs.Parts.{with_row}
+use Rattle.event_runner.proofs.Base.{arith, refl, ◌∙◌, ◌==◌, ap, sym, length, eqb-true, with_row}
 use Rattle.event_runner.proofs.WriteLemmas.{flush_err, flushed_as, goes_empty, goes_full, goes_wrote, no_bytes, to_as, to_cut, to_flushed, to_joined, to_none}
 use Rattle.event_runner.proofs.writing.flush.Goals as goal
 

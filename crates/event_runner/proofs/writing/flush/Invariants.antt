@@ -1,8 +1,4 @@
-use Rattle.std.proofs.Common.{◌≡◌, ◌≤◌, length, ℕ, Bool, List}
-use Rattle.channel_model.specs.KeptLinks.{Row}
-use Rattle.channel_model.specs.Known.{Known}
-use Rattle.event_runner.specs.Goes.{Goes}
-use Rattle.event_runner.specs.Parts.{WritesTo, with_row}
+use Rattle.event_runner.proofs.Base.{◌≡◌, ◌≤◌, length, ℕ, Bool, List, Row, Known, Goes, WritesTo, with_row}
 use Rattle.event_runner.proofs.writing.flush.Given as goal
 
 abbrev pub invariant-loop-world : goal.invariant-loop-world

@@ -1,4 +1,4 @@
-use Rattle.std.proofs.Common.{arith, refl, ◌∙◌, ◌+◌, ◌≡◌, vec_len}
+use Rattle.event_runner.proofs.Base.{arith, refl, ◌∙◌, ◌+◌, ◌≡◌, vec_len}
 use Rattle.event_runner.proofs.FlushLemmas.{upto_all, upto_gone, upto_none, upto_stays, upto_stop}
 use Rattle.event_runner.proofs.GoesLemmas.{ends_err}
 use Rattle.event_runner.proofs.writing.write_all.Goals as goal

@@ -1,7 +1,4 @@
-use Rattle.std.proofs.Common.{◌≡◌, ◌-◌, ◌≤◌, vec_len}
-use Rattle.event_runner.specs.Goes.{Goes}
-use Rattle.event_runner.specs.Parts.{WritesUpTo}
-use Rattle.event_runner.specs.State.{state_of}
+use Rattle.event_runner.proofs.Base.{◌≡◌, ◌-◌, ◌≤◌, vec_len, Goes, WritesUpTo, state_of}
 use Rattle.event_runner.proofs.writing.write_all.Given as goal
 
 abbrev pub invariant-loop-index : goal.invariant-loop-index

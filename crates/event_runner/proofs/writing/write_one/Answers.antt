@@ -1,4 +1,4 @@
-use Rattle.std.proofs.Common.{◌+◌, ◌<◌, arith, drop, length, take}
+use Rattle.event_runner.proofs.Base.{◌+◌, ◌<◌, arith, drop, length, take}
 use Rattle.event_runner.proofs.FlushLemmas.{front_size, one_err, one_gone, one_stays, one_unclosed, one_unkept, placed_row}
 use Rattle.event_runner.proofs.GoesLemmas.{ends_err}
 use Rattle.event_runner.proofs.RowLemmas.{removed_rows, rows_set}

@@ -1,4 +1,4 @@
-use Rattle.std.proofs.Common.{refl}
+use Rattle.event_runner.proofs.Base.{refl}
 use Rattle.event_runner.proofs.PauseLemmas.{looked_none}
 use Rattle.event_runner.proofs.runner.Runner.pause.Goals as goal
 

@@ -1,5 +1,4 @@
-use Rattle.std.specs.Prelude.{All}
-use Rattle.net_world.specs.Script.{MayCome}
+use Rattle.event_runner.proofs.Base.{All, MayCome}
 use Rattle.event_runner.proofs.tests.turns.many.Given as goal
 
 abbrev pub invariant-loop-byte : goal.invariant-loop-byte

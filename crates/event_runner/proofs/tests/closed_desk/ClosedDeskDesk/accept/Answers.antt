@@ -1,4 +1,4 @@
-use Rattle.chan_types.specs.Plans.{blank}
+use Rattle.event_runner.proofs.Base.{blank}
 use Rattle.event_runner.proofs.ClosedLemmas.{refuses}
 use Rattle.event_runner.proofs.tests.closed_desk.ClosedDeskDesk.accept.Goals as goal
 

@@ -1,4 +1,4 @@
-use Rattle.std.proofs.Common.{sym}
+use Rattle.event_runner.proofs.Base.{sym}
 use Rattle.event_runner.proofs.ClosedLemmas.{arrives, arrives_not, stays_closed}
 use Rattle.event_runner.proofs.tests.closed_desk.ClosedDeskDesk.arrive.Goals as goal
 

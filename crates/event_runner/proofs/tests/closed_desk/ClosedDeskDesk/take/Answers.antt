@@ -1,4 +1,4 @@
-use Rattle.chan_types.specs.Plans.{blank}
+use Rattle.event_runner.proofs.Base.{blank}
 use Rattle.event_runner.proofs.ClosedLemmas.{takes}
 use Rattle.event_runner.proofs.tests.closed_desk.ClosedDeskDesk.take.Goals as goal
 
