@@ -1,11 +1,10 @@
 -- A new fleet's helms at its channels, and what steering leaves of them.
-use Rattle.std.proofs.Common.{◌≡◌, ◌∙◌, ◌<◌, ℕ, suc, ◌+◌, List, [], ◌∷◌, ◌++◌, length, refl, ap, sym, subst, arith, inl, inr}
-use Rattle.std.proofs.lemmas.List.{length-append}
-use Rattle.std.specs.Prelude.{◌⊎◌}
+use Rattle.std.proofs.Common.{◌≡◌, ◌∙◌, ℕ, ◌+◌, List, [], ◌∷◌, ◌++◌, length, map, refl, ap, sym, arith, inl, inr}
 use Rattle.atomic_table.specs.Seated.{TableId}
 use Rattle.channel_fleet.specs.Making.{AreNewChannels, setting_of}
 use Rattle.channel_fleet.specs.Serving.{Serves, Watch}
-use Rattle.channel_fleet.specs.Views.{BerthView, HelmView, IsHelmAt, first_berths, passes_with}
+use Rattle.channel_fleet.specs.Stands.{AreHelmsOf}
+use Rattle.channel_fleet.specs.Views.{BerthView, HelmView, IsHelmAt, first_berths, later_berths, passes_with}
 use Rattle.channel_fleet.specs.declared.helm_end.HelmEnd.{HelmEnd}
 use Rattle.channel_fleet.specs.declared.setup.Setup.{Setup}
 use Rattle.shared_channel.specs.Passes.{PassView}
@@ -29,3 +28,14 @@ one_helm callers (s ∷ []) (l ∷ ls) rows [] helm new one =
 one_helm callers (s ∷ []) (l ∷ k ∷ ls) rows (h ∷ hs) helm new one = absurd new.1
 one_helm callers (s ∷ []) (l ∷ []) rows (h ∷ []) helm new one = absurd new.1
 one_helm callers (s ∷ []) (l ∷ []) rows (h ∷ i ∷ hs) helm new one = absurd new.1
+
+-- the helms of a new fleet are at their channels
+pub new_helms : (callers : ℕ) (setups : List Setup) (locks : List TableId) (rows : List (List BerthView)) (helms : List HelmView) → AreNewChannels callers setups locks rows helms → AreHelmsOf locks helms
+new_helms callers [] [] rows [] new = tt
+new_helms callers [] [] rows (h ∷ hs) new = absurd new
+new_helms callers [] (l ∷ ls) rows helms new = absurd new
+new_helms callers (s ∷ ss) [] rows helms new = absurd new
+new_helms callers (s ∷ ss) (l ∷ ls) rows [] new = absurd new
+new_helms callers (s ∷ ss) (l ∷ ls) rows (h ∷ hs) new =
+    let at = (all_parts (λ (p : PassView). p.lock ≡ l) _ (h.caller ∷ h.turner ∷ []) (all_at l (setting_of s) (callers + 2) (passes_with (first_berths rows) h) new.0.made)).1 in
+    ((at.1.0, at.0), new_helms callers ss ls (map later_berths rows) hs new.1)

@@ -4,8 +4,12 @@ mod MakingLemmas
 mod YardLemmas
 mod EndingLemmas
 mod CallingLemmas
+mod UseLemmas
 mod StayLemmas
 mod SteerLemmas
 mod ServeLemmas
 mod HelmLemmas
+mod SendLemmas
+mod StandLemmas
+mod FrontLemmas
 pub mod Theorems

@@ -7,20 +7,20 @@ use Rattle.chan_types.specs.declared.journal.Entry.{Entry}
 use Rattle.chan_types.specs.declared.journal.What.{What}
 use Rattle.chan_types.specs.declared.journal.What.TheVariants.{Accept, Arrive, Cancel, Destroy, Expire, Fault, Servers, Start, Take}
 use Rattle.channel_fleet.specs.Serving.{BeganAndServed, Begins, HasCause, HasServed, IsBegun, IsUnturned, LeavesHelm, Watch, first_steering}
-use Rattle.channel_fleet.specs.Steering.{EndsHere, Goes, Steering, steering_of}
+use Rattle.channel_fleet.specs.Stands.{SteersOn, watch_at}
+use Rattle.channel_fleet.specs.Steering.{EndsHere, Steering}
 use Rattle.channel_fleet.specs.Views.{HelmView}
 use Rattle.channel_fleet.specs.declared.helm_end.HelmEnd.{HelmEnd}
-use Rattle.channel_fleet.specs.declared.helm_end.HelmEnd.TheVariants.{WaitFault}
+use Rattle.channel_fleet.specs.declared.stand.Stand.{Stand}
 use Rattle.channel_model.specs.Completion.{taken_by}
-use Rattle.channel_model.specs.Course.{has_no_turn, is_of_turn}
+use Rattle.channel_model.specs.Course.{has_no_turn}
 use Rattle.channel_model.specs.Journal.{own_entries}
 use Rattle.channel_model.specs.Known.{GoesOn, Known}
 use Rattle.channel_model.specs.Servers.{servers_set_by}
 use Rattle.channel_model.specs.Turn.{parts_of_entry}
 use Rattle.event_runner.specs.Running.{Running}
-use Rattle.event_runner.specs.UnderWay.{RunsSince, rested}
+use Rattle.event_runner.specs.UnderWay.{rested}
 use Rattle.event_runner.proofs.Theorems.{runs_begin}
-use Rattle.net_world.specs.Cause.{Rose}
 use Rattle.net_world.specs.declared.log.WorldCall.{WorldCall}
 use Rattle.shared_channel.specs.Passes.{PassView, desk_of}
 use Rattle.shared_channel.specs.Settling.{taken_in}
@@ -29,8 +29,8 @@ use Rattle.shared_channel.proofs.Theorems.{stays, went_as_desk}
 use Rattle.worker_session.specs.Setting.{SetsNone}
 use Rattle.worker_session.specs.Standing.{StandsIn}
 use Rattle.worker_session.specs.Stepping.{StepsOn, is_of_run}
-use Rattle.worker_session.specs.Turning.{Turning, longest_pause, turning_of}
-use Rattle.worker_session.specs.declared.coming.Coming.TheVariants.{UnderWay, WaitFault as WaitFailed}
+use Rattle.worker_session.specs.Turning.{Turning, longest_pause}
+use Rattle.worker_session.specs.declared.coming.Coming.TheVariants.{UnderWay}
 use Rattle.worker_session.proofs.Theorems.{stands_new}
 use Rattle.channel_fleet.proofs.SteerLemmas.{goes_caller, goes_turning}
 
@@ -73,25 +73,36 @@ stays_steps old new t u was is steps = go (subst (RunsOn old) (sym is) (by_old t
 cause_of : (end : HelmEnd) (first last : Steering) → first.turning.coming ≡ UnderWay → StepsOn first.turning last.turning → EndsHere end last → HasCause end first.turning.wait_faults last.turning.wait_faults
 cause_of end first last under_way steps ends = λ is. steps.wait_fault (λ failed. cc (sym under_way ∙ failed)) (subst (λ e. EndsHere e last) is ends)
 
--- a helm served
-pub served : (turns : ℕ) (old : HelmView) (running : Running) (log : Option (List WorldCall)) (wait_faults : ℕ) (end : HelmEnd) (new : Watch) (last : Steering) (turner caller : PassView)
-    → turner ≡ old.turner → caller ≡ old.caller → Goes old.made turns (steering_of caller (turning_of (desk_of turner) running turns old.behind_turn None UnderWay log wait_faults) old.told None) last
-    → LeavesHelm turns old last new → EndsHere end last → HasServed turns old running log wait_faults end new
-served turns old running log wait_faults end new last turner caller turner_is caller_is goes leaves ends =
-    let first = first_steering turns running log wait_faults old in
-    let course : Goes old.made turns first last =
-    subst (λ c. Goes old.made turns (steering_of c (turning_of (desk_of old.turner) running turns old.behind_turn None UnderWay log wait_faults) old.told None) last) caller_is
-    (subst (λ t. Goes old.made turns (steering_of caller (turning_of (desk_of t) running turns old.behind_turn None UnderWay log wait_faults) old.told None) last) turner_is goes) in
-    let steps = goes_turning old.made turns first last course in
-    record {
-      last = last;
-      course = course;
-      leaves = leaves;
-      ends = ends;
-      cause = subst (HasCause end wait_faults) (sym leaves.wait_faults) (cause_of end first last refl steps ends);
-      settled_turner = stays_steps old.turner new.helm.turner first.turning last.turning refl leaves.turner steps;
-      settled_caller = subst (StaysSettled old.caller) (sym leaves.caller) (goes_caller old.made turns first last course);
-    }
+module _ {B W J : Type 0} (log : W → Option (List WorldCall)) (wait_faults : W → ℕ) where
+  -- what a helm has that steered
+  leaves : (turns : ℕ) (old : HelmView) (first : Steering) (new : Stand B W J) (steers : SteersOn log wait_faults old.made turns first new) → LeavesHelm turns old steers.last (watch_at log wait_faults new)
+  leaves turns old first new steers = record {
+    turner = ap (λ (s : Steering). s.turning.known) steers.stands;
+    caller = ap (λ (s : Steering). s.caller) steers.stands;
+    told = ap (λ (s : Steering). s.told) steers.stands;
+    runner = steers.runner;
+    behind_turn = ap (λ (s : Steering). s.turning.behind_turn) steers.stands;
+    made = steers.made;
+    log = ap (λ (s : Steering). s.turning.log) steers.stands;
+    wait_faults = ap (λ (s : Steering). s.turning.wait_faults) steers.stands;
+  }
+
+  -- a helm served
+  served : (turns : ℕ) (old : HelmView) (running : Running) (log_begun : Option (List WorldCall)) (faults : ℕ) (new : Stand B W J)
+      → (steers : SteersOn log wait_faults old.made turns (first_steering turns running log_begun faults old) new) → HasServed turns old running log_begun faults steers.why (watch_at log wait_faults new)
+  served turns old running log_begun faults new steers =
+      let first = first_steering turns running log_begun faults old in
+      let left = leaves turns old first new steers in
+      let steps = goes_turning old.made turns first steers.last steers.course in
+      record {
+        last = steers.last;
+        course = steers.course;
+        leaves = left;
+        ends = steers.ends;
+        cause = subst (HasCause steers.why faults) (sym left.wait_faults) (cause_of steers.why first steers.last refl steps steers.ends);
+        settled_turner = stays_steps old.turner new.helm.turner first.turning steers.last.turning refl left.turner steps;
+        settled_caller = subst (StaysSettled old.caller) (sym left.caller) (goes_caller old.made turns first steers.last steers.course);
+      }
 
 -- where a helm that made no turn before stands behind that
 stands_first : (turns : ℕ) (old : HelmView) (running : Running) (before log : Option (List WorldCall)) (wait_faults : ℕ) → IsBegun old running before log → IsUnturned old → StandsIn turns None before (first_steering turns running log wait_faults old).turning
@@ -101,25 +112,14 @@ stands_first turns old running before log wait_faults begun un =
     let no_turn : has_no_turn old.turner.seen ≡ true = ap has_no_turn un.unseen in
     stands_new turns None before (first_steering turns running log wait_faults old).turning refl un.rests refl refl none (runs_begin longest_pause rested (desk_of old.turner) running before log no_turn opens.1 opens.0.0 opens.0.1)
 
--- a helm that begins leaves all but its runner as it was
-pub began : (turns : ℕ) (old new : Watch) (taken : HelmView) (running : Running) (had : Option Running) (log : Option (List WorldCall)) (wait_faults : ℕ) (end : HelmEnd)
-    → IsBegun old.helm running old.log log → taken ≡ record old.helm { runner = had } → wait_faults ≡ old.wait_faults → HasServed turns taken running log wait_faults end new → BeganAndServed turns old end new
-began turns old new taken running had log wait_faults end begun is waits serves =
-    go (subst (λ w. HasServed turns (record old.helm { runner = had }) running log w end new) waits (subst (λ h. HasServed turns h running log wait_faults end new) is serves))
-  where
-    go : HasServed turns (record old.helm { runner = had }) running log old.wait_faults end new → BeganAndServed turns old end new
-    go s = record {
-      running = running;
-      log = log;
-      begins = begun;
-      served = record {
-        last = s.last;
-        course = s.course;
-        leaves = record { turner = s.leaves.turner; caller = s.leaves.caller; told = s.leaves.told; runner = s.leaves.runner; behind_turn = s.leaves.behind_turn; made = s.leaves.made; log = s.leaves.log; wait_faults = s.leaves.wait_faults };
-        ends = s.ends;
-        cause = s.cause;
-        settled_turner = s.settled_turner;
-        settled_caller = s.settled_caller;
-      };
-      stands = λ un. (goes_turning old.helm.made turns (first_steering turns running log old.wait_faults old.helm) s.last s.course).stands turns None old.log (stands_first turns old.helm running old.log log old.wait_faults begun un);
-    }
+-- a helm began and served its channel
+pub began_served : {B W J : Type 0} (log : W → Option (List WorldCall)) (wait_faults : W → ℕ) (turns : ℕ) (old : Watch) (new : Stand B W J) (running : Running) (log_begun : Option (List WorldCall)) → IsBegun old.helm running old.log log_begun
+    → (steers : SteersOn log wait_faults old.helm.made turns (first_steering turns running log_begun old.wait_faults old.helm) new) → BeganAndServed turns old steers.why (watch_at log wait_faults new)
+unfolding served
+began_served log wait_faults turns old new running log_begun begins steers = record {
+  running = running;
+  log = log_begun;
+  begins = begins;
+  served = served log wait_faults turns old.helm running log_begun old.wait_faults new steers;
+  stands = λ un. (goes_turning old.helm.made turns (first_steering turns running log_begun old.wait_faults old.helm) steers.last steers.course).stands turns None old.log (stands_first turns old.helm running old.log log_begun old.wait_faults begins un);
+}

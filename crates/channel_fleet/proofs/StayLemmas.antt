@@ -1,24 +1,22 @@
 -- Calls through a fleet's passes leave them settled, and a new fleet whose passes and helms stayed so may be finished.
-use Rattle.std.proofs.Common.{◌≡◌, ◌∙◌, ℕ, Bool, List, [], ◌∷◌, ◌++◌, Result, Ok, Err, map, refl, sym, subst, arith}
+use Rattle.std.proofs.Common.{◌≡◌, ◌∙◌, ℕ, Bool, List, [], ◌∷◌, ◌++◌, Result, map, refl, arith}
 use Rattle.std.specs.List.{AllByRecursion}
 use Rattle.atomic_table.specs.Seated.{TableId}
 use Rattle.chan_types.specs.declared.spec.Spec.{Spec}
-use Rattle.channel_fleet.specs.Calling.{Asks, CallsBerth, CallsEach, CallsPass, ChangesAt, ShowsBerth}
+use Rattle.channel_fleet.specs.Calling.{Asks, CallsEach, ChangesAt, ShowsBerth}
 use Rattle.channel_fleet.specs.Finishing.{EachMayFinish, MayFinish}
 use Rattle.channel_fleet.specs.Making.{AreNewChannels, IsNewFleet}
-use Rattle.channel_fleet.specs.Routing.{route_of}
 use Rattle.channel_fleet.specs.Staying.{AllBerthsStay, AllHelmsStay, BerthsStay}
 use Rattle.channel_fleet.specs.Views.{BerthView, HelmView, IsAtFleet, first_berths, later_berths, passes_with}
 use Rattle.channel_fleet.specs.declared.asked.Asked.{Asked}
 use Rattle.channel_fleet.specs.declared.setup.Setup.{Setup}
 use Rattle.channel_fleet.specs.declared.shown.Shown.{Shown}
-use Rattle.channel_model.specs.Meanings.{Accepts, Cancels, Destroys, Meaning}
+use Rattle.channel_model.specs.Meanings.{Cancels, Destroys}
 use Rattle.channel_model.specs.declared.answers.Refused.{Refused}
 use Rattle.completion_ticket.specs.States.{CallbackState}
-use Rattle.shared_channel.specs.Passes.{PassView}
 use Rattle.shared_channel.specs.Staying.{AllStaySettled, StaysSettled}
-use Rattle.shared_channel.specs.Under.{plan_of}
-use Rattle.shared_channel.proofs.Theorems.{may_finish, stays_accept, stays_cancel, stays_destroy, stays_more, stays_none}
+use Rattle.shared_channel.proofs.Theorems.{may_finish, stays_more, stays_none}
+use Rattle.channel_fleet.proofs.UseLemmas.{uses_ask, uses_cancels, uses_destroys, uses_show, uses_stay}
 
 -- berths to which nothing happens, and berths to which more does
 pub berths_stay_none : (berths : List BerthView) → BerthsStay berths berths
@@ -32,38 +30,18 @@ berths_stay_more (o ∷ os) [] news first more = absurd first
 berths_stay_more (o ∷ os) (m ∷ ms) [] first more = absurd more
 berths_stay_more (o ∷ os) (m ∷ ms) (n ∷ ns) first more = (stays_more o.pass m.pass n.pass first.0 more.0, berths_stay_more os ms ns first.1 more.1)
 
--- something is done through one of them
-changed_stay : (channel : ℕ) (changes : BerthView → BerthView → Type 0) (old new : List BerthView) → ((from to : BerthView) → changes from to → StaysSettled from.pass to.pass) → ChangesAt channel changes old new → BerthsStay old new
-changed_stay channel changes old new keeps its = subst (BerthsStay old) (sym its.is) (subst (λ l. BerthsStay l (its.earlier ++ its.to ∷ its.behind)) (sym its.was) (go its.earlier))
-  where
-    go : (bs : List BerthView) → BerthsStay (bs ++ its.from ∷ its.behind) (bs ++ its.to ∷ its.behind)
-    go [] = (keeps its.from its.to its.changed, berths_stay_none its.behind)
-    go (b ∷ bs) = (stays_none b.pass, go bs)
-
--- a call is made through each of them
-each_stay : {A : Type 0} (means : A → Meaning) (answers : List A) (old new : List BerthView) → ((answer : A) (from to : PassView) → CallsPass (means answer) from to → StaysSettled from to) → CallsEach means answers old new → BerthsStay old new
-each_stay means [] [] [] keeps calls = tt
-each_stay means [] [] (n ∷ ns) keeps calls = absurd calls
-each_stay means [] (o ∷ os) news keeps calls = absurd calls
-each_stay means (a ∷ more) [] news keeps calls = absurd calls
-each_stay means (a ∷ more) (o ∷ os) [] keeps calls = absurd calls
-each_stay means (a ∷ more) (o ∷ os) (n ∷ ns) keeps calls = (keeps a o.pass n.pass calls.0.pass, each_stay means more os ns keeps calls.1)
-
+-- each call of a caller
 pub stays_ask : (channels : ℕ) (spec : Spec) (callback : CallbackState) (answer : Result Asked (Refused CallbackState)) (old new : List BerthView) → Asks channels spec callback answer old new → BerthsStay old new
-stays_ask channels spec callback (Ok asked) old new asks =
-    changed_stay (route_of spec channels) (CallsBerth (Accepts plan_of spec callback (Ok asked.number))) old new (λ from to call. stays_accept spec callback (Ok asked.number) from.pass to.pass call.pass.call) asks.1
-stays_ask channels spec callback (Err refused) old new asks =
-    changed_stay (route_of spec channels) (CallsBerth (Accepts plan_of spec callback (Err refused))) old new (λ from to call. stays_accept spec callback (Err refused) from.pass to.pass call.pass.call) asks
+stays_ask channels spec callback answer old new asks = uses_stay old new (uses_ask channels spec callback answer old new asks)
 
 pub stays_cancels : (answers : List ℕ) (old new : List BerthView) → CallsEach Cancels answers old new → BerthsStay old new
-stays_cancels answers old new calls = each_stay Cancels answers old new (λ answer from to call. stays_cancel answer from to call.call) calls
+stays_cancels answers old new calls = uses_stay old new (uses_cancels answers old new calls)
 
 pub stays_destroys : (answers : List Bool) (old new : List BerthView) → CallsEach Destroys answers old new → BerthsStay old new
-stays_destroys answers old new calls = each_stay Destroys answers old new (λ answer from to call. stays_destroy answer from to call.call) calls
+stays_destroys answers old new calls = uses_stay old new (uses_destroys answers old new calls)
 
 pub stays_show : (channel : ℕ) (shown : Shown) (old new : List BerthView) → ChangesAt channel (ShowsBerth shown) old new → BerthsStay old new
-stays_show channel shown old new changes =
-    changed_stay channel (ShowsBerth shown) old new (λ from to shows. subst (StaysSettled from.pass) (sym shows.same) (stays_none from.pass)) changes
+stays_show channel shown old new changes = uses_stay old new (uses_show channel shown old new changes)
 
 -- of the callers the last one's berths were used, and those before it stayed
 pub last_stays : (rest news : List (List BerthView)) (old new : List BerthView) → AllBerthsStay rest news → BerthsStay old new → AllBerthsStay (rest ++ old ∷ []) (news ++ new ∷ [])

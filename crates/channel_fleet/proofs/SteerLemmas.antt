@@ -1,11 +1,11 @@
 -- Stretches of a helm's steering, one behind the other.
-use Rattle.std.proofs.Common.{◌≡◌, ◌∙◌, ℕ, Bool, true, false, List, [], ◌∷◌, ◌++◌, MatchBool, None, Option, Some, refl, ap, sym, subst}
+use Rattle.std.proofs.Common.{◌≡◌, ℕ, Bool, true, false, List, [], ◌∷◌, ◌++◌, MatchBool, None, Option, Some, refl, ap, sym, subst}
 use Rattle.channel_fleet.specs.Steering.{Goes, IsAnswered, Move, Moves, MovesEach, Steering, delivering, finding_none, keeping, publishing, turning_on}
 use Rattle.channel_fleet.specs.declared.shown.Shown.{Shown}
 use Rattle.completion_ticket.specs.States.{CalledState, no_orders}
 use Rattle.shared_channel.specs.Spending.{DeliversOne}
 use Rattle.shared_channel.specs.Staying.{StaysSettled}
-use Rattle.shared_channel.proofs.Theorems.{stays_counts, stays_delivery, stays_more, stays_none, stays_same}
+use Rattle.shared_channel.proofs.Theorems.{stays_counts, stays_delivery, stays_more, stays_same}
 use Rattle.worker_session.specs.Stepping.{StepsOn}
 use Rattle.worker_session.proofs.Theorems.{steps_none, steps_then}
 

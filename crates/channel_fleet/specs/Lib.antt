@@ -7,3 +7,7 @@ pub mod Finishing
 pub mod Staying
 pub mod Steering
 pub mod Serving
+pub mod Stands
+pub mod Steersmen
+pub mod Fronts
+pub mod Beside

@@ -1,5 +1,5 @@
 -- A stretch of a helm's steering: how it begins, what is done, and how it ends.
-use Rattle.std.specs.Prelude.{Bool, Err, List, None, Ok, Option, Some, [], false, ℕ, ⊤, ◌≡◌, ◌≢◌, ◌⊎◌}
+use Rattle.std.specs.Prelude.{Err, List, None, Ok, Option, Some, [], false, ℕ, ◌≡◌, ◌⊎◌}
 use Rattle.channel_fleet.specs.Steering.{EndsHere, Goes, Steering, made_by}
 use Rattle.channel_fleet.specs.Views.{HelmView}
 use Rattle.channel_fleet.specs.declared.helm_end.HelmEnd.{HelmEnd}

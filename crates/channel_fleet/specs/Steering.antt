@@ -1,5 +1,5 @@
 -- What a helm does at its channel, one thing after the other.
-use Rattle.std.specs.Prelude.{Bool, List, None, Option, Some, [], min, ℕ, ◌+◌, ◌++◌, ◌-◌, ◌^◌, ◌∷◌, ◌≡◌, ◌≢◌}
+use Rattle.std.specs.Prelude.{List, None, Option, Some, [], min, ℕ, ◌+◌, ◌++◌, ◌-◌, ◌^◌, ◌∷◌, ◌≡◌, ◌≢◌}
 use Rattle.channel_fleet.specs.Calling.{CallsPass}
 use Rattle.channel_fleet.specs.declared.helm_end.HelmEnd.{HelmEnd}
 use Rattle.channel_fleet.specs.declared.helm_end.HelmEnd.TheVariants.{Done, NoMemory, Stalled, WaitFault}

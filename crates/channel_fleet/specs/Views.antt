@@ -1,5 +1,5 @@
 -- What contracts see of a fleet's passes and helms. A fleet is seen as its channels, each by the identity of its lock.
-use Rattle.std.specs.Prelude.{Bool, List, Option, slice_index_or, ℕ, ◌<◌, length, [], map, ◌++◌, ◌∷◌, ◌≡◌}
+use Rattle.std.specs.Prelude.{Bool, List, Option, slice_index_or, ℕ, [], map, ◌++◌, ◌∷◌, ◌≡◌}
 use Rattle.atomic_table.specs.Seated.{TableId}
 use Rattle.channel_fleet.specs.declared.shown.Shown.{Shown}
 use Rattle.event_runner.specs.Running.{Running}

@@ -1,8 +1,8 @@
 //! A helm at its channel: it delivers, publishes counts, and makes turns and pauses.
 
-ghost use Rattle.std.specs.Prelude.{◌≡◌, ◌++◌, ◌-◌, ◌+◌, ◌^◌, ◌∷◌, [], IfSome, MatchBool, min};
-ghost use Rattle.channel_fleet.specs.Steering.{EndsHere, Goes, steering_of};
-ghost use Rattle.worker_session.specs.Turning.{turning_of};
+ghost use Rattle.std.specs.Prelude.{◌≡◌, ◌++◌, ◌-◌, ◌+◌, ◌^◌, ◌∷◌, [], IfSome, MatchBool, Some, min};
+ghost use Rattle.channel_fleet.specs.Steering.{EndsHere, Goes};
+ghost use Rattle.channel_fleet.specs.Steersmen.{man_at};
 
 use crate::helm_end::HelmEnd;
 use crate::shown::Shown;
@@ -13,6 +13,8 @@ use completion_ticket::Done;
 use net_world::World;
 use shared_channel::{Place, deliver_one};
 use std::sync::Wait;
+use std::sync::atomic::{AtomicBool, Ordering};
+use std::thread::yield_now;
 use watched_value::Publisher;
 use worker_session::{Coming, Turner};
 
@@ -52,23 +54,18 @@ impl<'f, B: Done + Drop, R: Wait, J: ChannelJournal, D: Desk + Drop, W: World + 
     D,
     W,
 > {
-    /// Brings the channel to its answers, until nothing is left to be done or its turns have come to an end. Answers why it
-    /// ended.
-    pub fn run(&mut self, rt: &R) -> HelmEnd
-        ensures goes { Goes self.old.earlier self.old.turns
-            (steering_of self.old.caller (turning_of (D.known self.old.turner.desk) self.old.turner.runner self.old.turner.left
-            self.old.turner.behind_turn self.old.turner.later self.old.turner.coming (W.log self.old.turner.world)
-            (W.wait_faults self.old.turner.world)) self.old.board self.old.looked) (steering_of self.new.caller (turning_of (D.known self.new.turner.desk) self.new.turner.runner self.new.turner.left
-            self.new.turner.behind_turn self.new.turner.later self.new.turner.coming (W.log self.new.turner.world)
-            (W.wait_faults self.new.turner.world)) self.new.board self.new.looked) }
+    /// Brings the channel to its answers, until its turns have come to an end, or nothing is left to be done by counts that it
+    /// was answered once others had returned. Answers why it ended.
+    pub fn run(&mut self, rt: &R, returned: &AtomicBool) -> HelmEnd
+        ensures goes { Goes self.old.earlier self.old.turns (man_at self.old) (man_at self.new) }
         ensures same { (self.new.earlier ≡ self.old.earlier) × (self.new.turns ≡ self.old.turns) }
-        ensures ended { EndsHere result (steering_of self.new.caller (turning_of (D.known self.new.turner.desk) self.new.turner.runner self.new.turner.left
-            self.new.turner.behind_turn self.new.turner.later self.new.turner.coming (W.log self.new.turner.world)
-            (W.wait_faults self.new.turner.world)) self.new.board self.new.looked) }
+        ensures ended { EndsHere result (man_at self.new) }
         ensures origin { W.origin self.new.turner.world ≡ W.origin self.old.turner.world }
     {
         for _ in rt.forever() {
-            if let Some(end) = self.go_round(rt) {
+            // read first: so the counts that say that all is done are those of behind the others' return
+            let last = returned.load(Ordering::SeqCst);
+            if let Some(end) = ends_with(self.go_round(rt), last) {
                 return end;
             }
         }
@@ -78,16 +75,9 @@ impl<'f, B: Done + Drop, R: Wait, J: ChannelJournal, D: Desk + Drop, W: World + 
     /// Delivers the first ready request; or, where none is ready, publishes the counts and makes a turn or a pause. Answers why
     /// it ends, where nothing is left to be done.
     fn go_round(&mut self, rt: &R) -> Option<HelmEnd>
-        ensures goes { Goes self.old.earlier self.old.turns
-            (steering_of self.old.caller (turning_of (D.known self.old.turner.desk) self.old.turner.runner self.old.turner.left
-            self.old.turner.behind_turn self.old.turner.later self.old.turner.coming (W.log self.old.turner.world)
-            (W.wait_faults self.old.turner.world)) self.old.board self.old.looked) (steering_of self.new.caller (turning_of (D.known self.new.turner.desk) self.new.turner.runner self.new.turner.left
-            self.new.turner.behind_turn self.new.turner.later self.new.turner.coming (W.log self.new.turner.world)
-            (W.wait_faults self.new.turner.world)) self.new.board self.new.looked) }
+        ensures goes { Goes self.old.earlier self.old.turns (man_at self.old) (man_at self.new) }
         ensures same { (self.new.earlier ≡ self.old.earlier) × (self.new.turns ≡ self.old.turns) }
-        ensures ended { IfSome result (λ end. EndsHere end (steering_of self.new.caller (turning_of (D.known self.new.turner.desk) self.new.turner.runner self.new.turner.left
-            self.new.turner.behind_turn self.new.turner.later self.new.turner.coming (W.log self.new.turner.world)
-            (W.wait_faults self.new.turner.world)) self.new.board self.new.looked)) }
+        ensures ended { IfSome result (λ end. EndsHere end (man_at self.new)) }
         ensures origin { W.origin self.new.turner.world ≡ W.origin self.old.turner.world }
     {
         if self.deliver_first() {
@@ -102,12 +92,7 @@ impl<'f, B: Done + Drop, R: Wait, J: ChannelJournal, D: Desk + Drop, W: World + 
 
     /// Makes a turn or a pause, where there is something to be done. Answers whether there is more.
     fn turn_on(&mut self) -> bool
-        ensures goes { Goes self.old.earlier self.old.turns
-            (steering_of self.old.caller (turning_of (D.known self.old.turner.desk) self.old.turner.runner self.old.turner.left
-            self.old.turner.behind_turn self.old.turner.later self.old.turner.coming (W.log self.old.turner.world)
-            (W.wait_faults self.old.turner.world)) self.old.board self.old.looked) (steering_of self.new.caller (turning_of (D.known self.new.turner.desk) self.new.turner.runner self.new.turner.left
-            self.new.turner.behind_turn self.new.turner.later self.new.turner.coming (W.log self.new.turner.world)
-            (W.wait_faults self.new.turner.world)) self.new.board self.new.looked) }
+        ensures goes { Goes self.old.earlier self.old.turns (man_at self.old) (man_at self.new) }
         ensures same { (self.new.earlier ≡ self.old.earlier) × (self.new.turns ≡ self.old.turns) }
         ensures origin { W.origin self.new.turner.world ≡ W.origin self.old.turner.world }
     {
@@ -116,12 +101,7 @@ impl<'f, B: Done + Drop, R: Wait, J: ChannelJournal, D: Desk + Drop, W: World + 
 
     /// Calls the callback of the first ready request, if one is.
     fn deliver_first(&mut self) -> bool
-        ensures goes { Goes self.old.earlier self.old.turns
-            (steering_of self.old.caller (turning_of (D.known self.old.turner.desk) self.old.turner.runner self.old.turner.left
-            self.old.turner.behind_turn self.old.turner.later self.old.turner.coming (W.log self.old.turner.world)
-            (W.wait_faults self.old.turner.world)) self.old.board self.old.looked) (steering_of self.new.caller (turning_of (D.known self.new.turner.desk) self.new.turner.runner self.new.turner.left
-            self.new.turner.behind_turn self.new.turner.later self.new.turner.coming (W.log self.new.turner.world)
-            (W.wait_faults self.new.turner.world)) self.new.board self.new.looked) }
+        ensures goes { Goes self.old.earlier self.old.turns (man_at self.old) (man_at self.new) }
         ensures same { (self.new.earlier ≡ self.old.earlier) × (self.new.turns ≡ self.old.turns) }
         ensures origin { W.origin self.new.turner.world ≡ W.origin self.old.turner.world }
     {
@@ -131,12 +111,7 @@ impl<'f, B: Done + Drop, R: Wait, J: ChannelJournal, D: Desk + Drop, W: World + 
     /// Publishes the channel's counts, where they aren't those that were published last. One for which there is no memory is
     /// left out.
     fn publish_counts(&mut self, rt: &R)
-        ensures goes { Goes self.old.earlier self.old.turns
-            (steering_of self.old.caller (turning_of (D.known self.old.turner.desk) self.old.turner.runner self.old.turner.left
-            self.old.turner.behind_turn self.old.turner.later self.old.turner.coming (W.log self.old.turner.world)
-            (W.wait_faults self.old.turner.world)) self.old.board self.old.looked) (steering_of self.new.caller (turning_of (D.known self.new.turner.desk) self.new.turner.runner self.new.turner.left
-            self.new.turner.behind_turn self.new.turner.later self.new.turner.coming (W.log self.new.turner.world)
-            (W.wait_faults self.new.turner.world)) self.new.board self.new.looked) }
+        ensures goes { Goes self.old.earlier self.old.turns (man_at self.old) (man_at self.new) }
         ensures same { (self.new.earlier ≡ self.old.earlier) × (self.new.turns ≡ self.old.turns) }
         ensures origin { W.origin self.new.turner.world ≡ W.origin self.old.turner.world }
     {
@@ -151,9 +126,7 @@ impl<'f, B: Done + Drop, R: Wait, J: ChannelJournal, D: Desk + Drop, W: World + 
     /// Why it ends: a wait of its network failed; or memory was wanting; or by the counts that it was answered last nothing is
     /// pending or ready; or by them a request is pending, and no turn is left. None, where there is more to do.
     fn end(&self) -> Option<HelmEnd>
-        ensures { IfSome result (λ end. EndsHere end (steering_of self.now.caller (turning_of (D.known self.now.turner.desk) self.now.turner.runner self.now.turner.left
-            self.now.turner.behind_turn self.now.turner.later self.now.turner.coming (W.log self.now.turner.world)
-            (W.wait_faults self.now.turner.world)) self.now.board self.now.looked)) }
+        ensures { IfSome result (λ end. EndsHere end (man_at self.now)) }
     {
         match self.turner.coming {
             Coming::WaitFault => Some(HelmEnd::WaitFault),
@@ -165,9 +138,7 @@ impl<'f, B: Done + Drop, R: Wait, J: ChannelJournal, D: Desk + Drop, W: World + 
 
     /// The same by the counts alone.
     fn end_by_counts(&self) -> Option<HelmEnd>
-        ensures { IfSome result (λ end. EndsHere end (steering_of self.now.caller (turning_of (D.known self.now.turner.desk) self.now.turner.runner self.now.turner.left
-            self.now.turner.behind_turn self.now.turner.later self.now.turner.coming (W.log self.now.turner.world)
-            (W.wait_faults self.now.turner.world)) self.now.board self.now.looked)) }
+        ensures { IfSome result (λ end. EndsHere end (man_at self.now)) }
     {
         let Some(counts) = self.looked else {
             return None;
@@ -191,6 +162,18 @@ impl<'f, B: Done + Drop, R: Wait, J: ChannelJournal, D: Desk + Drop, W: World + 
     {
         self.earlier
             .saturating_add(self.turns.saturating_sub(self.turner.left))
+    }
+}
+
+/// Why a helm ends that would end so: not as done, unless this was so behind the others' return.
+fn ends_with(end: Option<HelmEnd>, last: bool) -> Option<HelmEnd>
+    ensures { IfSome result (λ its. end ≡ Some its) }
+{
+    if end == Some(HelmEnd::Done) && !last {
+        yield_now();
+        None
+    } else {
+        end
     }
 }
 
