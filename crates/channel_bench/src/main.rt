@@ -6,6 +6,7 @@
 mod adig;
 mod failed;
 mod replay;
+mod requests;
 mod runner;
 mod table;
 mod words;

@@ -3,10 +3,14 @@
 mod asking;
 
 use crate::failed::Failed;
+use crate::requests::channel;
 use crate::words::number_of;
 use asking::{answered, pending};
 use channel_journal::{ChannelJournal, KeptJournal, UntoldJournal};
 use std::alloc::Global;
+
+/// One server (resolv.conf(5)).
+const RESOLV: &[u8] = b"nameserver 192.0.2.53\n";
 
 /// The requests on a channel over this kind of journal.
 fn run<J: ChannelJournal>(
@@ -14,9 +18,10 @@ fn run<J: ChannelJournal>(
     window: u64,
     replies: Option<u64>,
 ) -> Result<(u64, u64), Failed> {
+    let desk = &mut channel::<J>(alloc, RESOLV)?;
     match replies {
-        Some(replies) => answered::<J>(alloc, window, replies),
-        None => pending::<J>(alloc, window),
+        Some(replies) => answered(desk, alloc, window, replies),
+        None => pending(desk, alloc, window),
     }
 }
 

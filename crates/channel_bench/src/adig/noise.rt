@@ -45,20 +45,33 @@ fn strays(alloc: Global, datagrams: u64) -> Result<Vec<Timed>, Failed>
     Ok(items)
 }
 
-/// A run of so many turns, and not one more. Answers its exit status, and how many calls of the network it made.
-pub fn run_of(alloc: Global, turns: u64) -> Result<(u8, usize), Failed> {
+/// What this task comes to in so many turns: an exit status, and how many calls of the network it made. It is a run of so many
+/// turns, and not one more; or the calls of the network that such a run makes, and nothing else, with status 0.
+pub fn ended(alloc: Global, task: &str, turns: u64) -> Result<(u8, usize), Failed> {
     let mut world = noisy(alloc, turns)?;
-    let mut files = MemFiles::make(BTreeMap::new(alloc), Vec::new(alloc));
-    let mut sink = MemSink::make(Vec::new(alloc));
-    let ended = run(alloc, WORDS, &mut files, &mut world, &mut sink, turns);
-    Ok((ended.status, world.log().calls().len()))
+    let status = status_over(&mut world, alloc, task, turns);
+    Ok((status?, world.log().calls().len()))
 }
 
-/// The calls of the network that such a run makes, and nothing else. Answers 0, and how many calls it made.
-pub fn bare(alloc: Global, turns: u64) -> Result<(u8, usize), Failed> {
-    let mut world = noisy(alloc, turns)?;
-    call_all(&mut world, turns)?;
-    Ok((0, world.log().calls().len()))
+/// The exit status of this task.
+fn status_over(
+    world: &mut ScriptWorld,
+    alloc: Global,
+    task: &str,
+    turns: u64,
+) -> Result<u8, Failed> {
+    if task == "run" {
+        return Ok(status_of_run(world, alloc, turns));
+    }
+    call_all(world, turns)?;
+    Ok(0)
+}
+
+/// That of a run of so many turns.
+fn status_of_run(world: &mut ScriptWorld, alloc: Global, turns: u64) -> u8 {
+    let mut files = MemFiles::make(BTreeMap::new(alloc), Vec::new(alloc));
+    let mut sink = MemSink::make(Vec::new(alloc));
+    run(alloc, WORDS, &mut files, world, &mut sink, turns).status
 }
 
 /// Calls the network as a turn does, so many times, or until a wait fails.

@@ -1,10 +1,10 @@
 //! A lawful journal of requests that are answered one behind the other.
 
 use crate::failed::Failed;
+use crate::requests::options_of;
 use chan_types::{Bytes, Entry, Journal, Script, Spec, What};
 use dns_message::numbers::{CLASS_IN, KIND_A};
 use journal_text::Book;
-use resolv_options::read_resolv;
 use std::alloc::Global;
 
 /// One server (resolv.conf(5)).
@@ -75,18 +75,23 @@ fn add_all(alloc: Global, journal: &mut Vec<Entry>, requests: u64) -> Result<(),
 
 /// Adds the entries in which this request is accepted, begun, answered and taken.
 fn add(alloc: Global, journal: &mut Vec<Entry>, number: u64) -> Result<(), Failed> {
-    journal.push(accept(alloc, number)?)?;
-    journal.push(start(number))?;
-    journal.push(reply(alloc)?)?;
-    journal.push(entry(What::Take { number }))?;
-    Ok(())
+    push(journal, accept(alloc, number)?)?;
+    push(journal, start(number))?;
+    push(journal, reply(alloc)?)?;
+    push(journal, entry(What::Take { number }))
+}
+
+/// Adds an entry.
+fn push(journal: &mut Vec<Entry>, entry: Entry) -> Result<(), Failed> {
+    Ok(journal.push(entry)?)
 }
 
 /// The run of a channel with one server and an empty hosts file, in which so many requests are answered.
 pub fn run_of(alloc: Global, requests: u64) -> Result<Book, Failed> {
+    let journal = answered(alloc, requests)?;
     Ok(Book {
-        options: read_resolv(alloc, RESOLV).map_err(|_| Failed)?,
-        hosts: Bytes::of(alloc, b"")?,
-        journal: Journal::from_vec(answered(alloc, requests)?),
+        options: options_of(alloc, RESOLV)?,
+        hosts: Bytes::new(alloc),
+        journal: Journal::from_vec(journal),
     })
 }

@@ -1,9 +1,9 @@
 //! The same without a runner, by bare calls of the channel and the network in its place.
 
-use super::asking::{asking, by_datagrams, over_links};
 use super::flood::{Flood, LINK};
-use super::messages::{FRAME_LENGTH, replies, stray, unframed};
+use super::messages::{FRAME_LENGTH, unframed};
 use crate::failed::Failed;
+use crate::requests::ask_all;
 use chan_types::Quiet;
 use channel_model::{Begun, Desk};
 use channel_table::Alone;
@@ -11,14 +11,11 @@ use net_world::{Got, World};
 use std::alloc::Global;
 
 /// So many datagrams come to a channel on which nothing is in flight. Answers how many came.
-pub fn datagrams_bare(alloc: Global, times: u64) -> Result<u64, Failed> {
-    let mut desk = asking(alloc, by_datagrams(alloc)?, 0)?;
-    let mut world = Flood::of_datagrams(alloc, stray(alloc)?, times);
-    received(&mut desk, &mut world, times)
-}
-
-/// How many datagrams come in so many calls.
-fn received(desk: &mut Alone<Quiet>, world: &mut Flood, times: u64) -> Result<u64, Failed> {
+pub fn datagrams_bare(
+    desk: &mut Alone<Quiet>,
+    world: &mut Flood,
+    times: u64,
+) -> Result<u64, Failed> {
     let mut seen = 0u64;
     for _ in 0..times {
         seen = seen.wrapping_add(receive(desk, world)?);
@@ -37,12 +34,15 @@ fn receive(desk: &mut Alone<Quiet>, world: &mut Flood) -> Result<u64, Failed> {
 
 /// So many queries go over one link, and their replies come: nothing is framed, and no frame is cut. Answers how many
 /// requests are ready.
-pub fn link_bare(alloc: Global, queries: u64) -> Result<u64, Failed> {
-    let mut desk = asking(alloc, over_links(alloc)?, queries)?;
-    let mut world = Flood::of_link(alloc, Vec::new(alloc));
-    start_all(&mut desk, &mut world, queries)?;
-    let bytes = replies(alloc, queries)?;
-    answered(&mut desk, bytes.as_slice())
+pub fn link_bare(
+    desk: &mut Alone<Quiet>,
+    world: &mut Flood,
+    alloc: Global,
+    queries: u64,
+) -> Result<u64, Failed> {
+    ask_all(desk, alloc, queries)?;
+    start_all(desk, world, queries)?;
+    answered(desk, world.bytes())
 }
 
 /// So many queries go over the link.

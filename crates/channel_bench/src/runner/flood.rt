@@ -48,6 +48,11 @@ impl Flood {
         Flood::of_datagrams(alloc, bytes, 0)
     }
 
+    /// The datagram, or the bytes of the link.
+    pub fn bytes(&self) -> &[u8] {
+        self.bytes.as_slice()
+    }
+
     /// The next piece of the link, or nothing.
     fn piece(&mut self) -> Result<Got, NoMemory>
         ensures { IfOk result (λ got. IsFalse (is_link_failed got) × IsWhole got) }

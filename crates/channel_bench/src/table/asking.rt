@@ -1,19 +1,13 @@
 //! A channel with one owner, whose requests are answered in the order in which they were asked.
 
 use crate::failed::Failed;
-use chan_types::{Quiet, Spec, Status};
+use crate::requests::{ask, ask_all};
+use chan_types::{Quiet, Status};
 use channel_journal::ChannelJournal;
 use channel_model::{Begun, Desk};
 use channel_table::Alone;
-use dns_message::numbers::{CLASS_IN, KIND_A};
-use hosts_file::Hosts;
-use item_list::{Bytes, NoMemory};
-use resolv_options::read_resolv;
 use std::alloc::Global;
 use std::collections::VecDeque;
-
-/// One server (resolv.conf(5)).
-const RESOLV: &[u8] = b"nameserver 192.0.2.53\n";
 
 /// The reply with identifier 0 and the address 192.0.2.1 to a query for example.com (RFC 1035, section 4.1).
 const REPLY: [u8; 45] =
@@ -72,42 +66,6 @@ fn succeeds<J: ChannelJournal>(desk: &mut Alone<Quiet, J>) -> bool {
     }
 }
 
-/// A channel that was asked nothing.
-fn channel<J: ChannelJournal>(alloc: Global) -> Result<Alone<Quiet, J>, Failed> {
-    let options = read_resolv(alloc, RESOLV).map_err(|_| Failed)?;
-    Ok(Alone::make(alloc, options, Hosts::empty(alloc))?)
-}
-
-/// The addresses of example.com.
-fn query(alloc: Global) -> Result<Spec, NoMemory> {
-    Ok(Spec::Query {
-        name: Bytes::of(alloc, b"example.com")?,
-        kind: KIND_A,
-        class: CLASS_IN,
-    })
-}
-
-/// Asks for the addresses of example.com.
-fn ask<J: ChannelJournal>(desk: &mut Alone<Quiet, J>, alloc: Global) -> Result<(), Failed> {
-    let spec = query(alloc)?;
-    match desk.accept(spec, Quiet::new(alloc)) {
-        Ok(_) => Ok(()),
-        Err(_) => Err(Failed),
-    }
-}
-
-/// Asks for them so many times.
-fn ask_all<J: ChannelJournal>(
-    desk: &mut Alone<Quiet, J>,
-    alloc: Global,
-    window: u64,
-) -> Result<(), Failed> {
-    for _ in 0..window {
-        ask(desk, alloc)?;
-    }
-    Ok(())
-}
-
 /// Asks for them so many times, and begins an attempt each time.
 fn begin_all<J: ChannelJournal>(
     desk: &mut Alone<Quiet, J>,
@@ -139,12 +97,7 @@ fn reply_all<J: ChannelJournal>(
 }
 
 /// So many requests are asked for, and nothing comes. Answers how many were answered, and how many wait.
-pub fn pending<J: ChannelJournal>(alloc: Global, window: u64) -> Result<(u64, u64), Failed> {
-    pending_at(&mut channel::<J>(alloc)?, alloc, window)
-}
-
-/// The same of this channel.
-fn pending_at<J: ChannelJournal>(
+pub fn pending<J: ChannelJournal>(
     desk: &mut Alone<Quiet, J>,
     alloc: Global,
     window: u64,
@@ -156,23 +109,23 @@ fn pending_at<J: ChannelJournal>(
 /// So many requests are in flight, and so many replies come, each to the oldest attempt, with a new request behind it.
 /// Answers how many requests were answered, and how many wait.
 pub fn answered<J: ChannelJournal>(
+    desk: &mut Alone<Quiet, J>,
     alloc: Global,
     window: u64,
     replies: u64,
 ) -> Result<(u64, u64), Failed> {
-    let desk = &mut channel::<J>(alloc)?;
-    answered_at(desk, &mut Attempts::new(alloc), alloc, window, replies)
+    let taken = taken_by(desk, &mut Attempts::new(alloc), alloc, window, replies)?;
+    Ok((taken, desk.counts().waiting))
 }
 
-/// The same of this channel.
-fn answered_at<J: ChannelJournal>(
+/// How many requests are answered.
+fn taken_by<J: ChannelJournal>(
     desk: &mut Alone<Quiet, J>,
     attempts: &mut Attempts,
     alloc: Global,
     window: u64,
     replies: u64,
-) -> Result<(u64, u64), Failed> {
+) -> Result<u64, Failed> {
     begin_all(desk, attempts, alloc, window)?;
-    let taken = reply_all(desk, attempts, alloc, replies)?;
-    Ok((taken, desk.counts().waiting))
+    reply_all(desk, attempts, alloc, replies)
 }
