@@ -20,6 +20,7 @@ with "One answer:" names the calls that have no answer but success; "No refusal:
   where nothing is lent to be changed, and "no clause" where the call has none;
 - a row of a call that is lent something doesn't say what the answer leaves, but for an answer that never comes;
 - a section is of no library, or a library with public calls has none, or isn't among the layers;
+- the libraries that the sentence "Each call returns" excepts aren't those to which crates.txt gives calls that may wait;
 - the exit statuses of a program aren't the numbers of its definitions, or name a clause that its run doesn't have.
 
 Usage: python3 bench/contracts.py [-l [CRATE]]       (-l lists the calls with their results and the labels of their clauses)
@@ -43,6 +44,7 @@ PROGRAMS = {
     "areplay": ("areplay_tool", "areplay_tool/specs/Ending.antt"),
 }
 LAYERS, STATUSES = "What the layers promise", "Exit statuses"
+ANSWERS, RETURNS = "Answers, crate by crate", "- Each call returns"
 # what stands in the error place, or in an Option's or a bool's, and the words of which a row has to name one
 BARE = {"NoMemory": {"NoMemory"}, "AllocError": {"AllocError"}, "Option": {"None", "Some"}, "bool": {"false", "true"}}
 TOKEN = re.compile(
@@ -334,6 +336,12 @@ def libraries():
             and not name.endswith(("_runs", "_bench")) and name not in NOT_LIBRARIES]
 
 
+def waiting():
+    """The crates with functions that may wait, which crates.txt counts and a verdict of each crate compares."""
+    with open("crates.txt") as file:
+        return {line.split()[0] for line in file if re.match(r"\w+ [^:#]*\bmay_wait=", line)}
+
+
 def read_crate(name):
     """Reads a crate's sources."""
     crate = Crate()
@@ -507,6 +515,11 @@ def compare(names, calls, enums, told_by, may_refuse):
             lacking = [word for word in names if by_crate[word] and word not in layers]
             faults += [f"{PAGE}: {word} isn't among the layers" for word in lacking]
             faults += [f"{PAGE}: {word} is among the layers, and no library" for word in sorted(layers - set(names))]
+        elif name == ANSWERS:
+            excepted = {word for number, line in lines if line.startswith(RETURNS) for word in CODE.findall(line)} & set(names)
+            may_wait = waiting() & set(names)
+            faults += [f"{PAGE}: {word} may wait, and isn't excepted" for word in sorted(may_wait - excepted)]
+            faults += [f"{PAGE}: {word} is excepted, and doesn't wait" for word in sorted(excepted - may_wait)]
         if " " in name:
             continue
         if name not in by_crate:

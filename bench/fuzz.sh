@@ -84,4 +84,5 @@ if command -v afl-fuzz > /dev/null; then
 else
   echo 'afl-fuzz is not here (Debian: afl++)'
 fi
+echo "$SECONDS s, $failed failures"
 [ $failed -eq 0 ]

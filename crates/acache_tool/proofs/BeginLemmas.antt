@@ -30,12 +30,13 @@ use Rattle.channel_table.specs.Calling.{Owned, known_by_owner}
 use Rattle.event_runner.proofs.Theorems.{runs_begin, told_as, told_by}
 use Rattle.event_runner.specs.Running.{Running}
 use Rattle.query_cache.specs.Cache.{new_cache}
+use Rattle.owner_laws.specs.Sessions.{longest_slice}
 use Rattle.acache_tool.specs.Asked.{options_for, setting_for}
 use Rattle.acache_tool.specs.Leaving.{AsksAll, IsAt, Leaves}
 use Rattle.acache_tool.specs.Naming.{Scene, scene_of}
 use Rattle.acache_tool.specs.Parts.{Open, Part, most_seconds}
 use Rattle.acache_tool.specs.Running.{Begins}
-use Rattle.acache_tool.specs.Told.{AreTold, longest_slice}
+use Rattle.acache_tool.specs.Told.{AreTold}
 use Rattle.acache_tool.specs.declared.asking.Asker.{Asker}
 use Rattle.acache_tool.specs.declared.shown.Shown.{Shown}
 

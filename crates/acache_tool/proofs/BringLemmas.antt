@@ -13,8 +13,8 @@ use Rattle.channel_session.specs.declared.progress.Progress.{Progress}
 use Rattle.channel_session.specs.declared.progress.Progress.TheVariants.{Completed, Stalled as HasStalled, WaitFault as WaitFailed}
 use Rattle.channel_table.specs.Calling.{Owned, known_by_owner}
 use Rattle.event_runner.proofs.Theorems.{ran_at_most, ran_so_far}
+use Rattle.owner_laws.specs.Sessions.{longest_slice}
 use Rattle.acache_tool.specs.Bringing.{Answers, Brings, RanOn}
-use Rattle.acache_tool.specs.Told.{longest_slice}
 use Rattle.acache_tool.specs.declared.asking.Asker.{Asker}
 use Rattle.acache_tool.specs.declared.asking.Brought.{Brought}
 use Rattle.acache_tool.specs.declared.asking.Brought.TheVariants.{Answered, Stalled, WaitFault}

@@ -18,11 +18,12 @@ use Rattle.net_world.specs.Logs.{LogGets}
 use Rattle.event_runner.proofs.Theorems.{ran_at_most, ran_so_far, told_as, told_by, told_trans}
 use Rattle.event_runner.specs.UnderWay.{RanSince}
 use Rattle.tool_line.specs.Words.{Text}
+use Rattle.owner_laws.specs.Sessions.{longest_slice}
 use Rattle.acache_tool.specs.Bringing.{Answers, AnswersNone}
 use Rattle.acache_tool.specs.Leaving.{EndsCut, EndsStalled, EndsUnwaited, IsAt, Leaves, numbers_of}
 use Rattle.acache_tool.specs.Naming.{IsAsked, IsStalled, IsUnanswered, IsUnasked, IsUnread, IsUnwaited, Reads, Scene, with_channel}
 use Rattle.acache_tool.specs.Parts.{Open, Part, requests_of}
-use Rattle.acache_tool.specs.Told.{AreTold, AreToldThen, longest_slice}
+use Rattle.acache_tool.specs.Told.{AreTold, AreToldThen}
 use Rattle.acache_tool.proofs.NameLemmas.{leaves_answered, leaves_asked, leaves_on, may_ask}
 
 -- a run that stands somewhere may have been cut short there, at the latest in so many turns
@@ -33,7 +34,7 @@ stood_cut made most asides began log channel s few here =
     (ran_so_far longest_slice made asides began log (reach_of s.behind_turn) (known_by_owner channel) s.running here.runs)
 
 -- the last of these calls is a wait that failed
-abbrev IsLastWait : List WorldCall → Type 0
+abbrev pub IsLastWait : List WorldCall → Type 0
 IsLastWait calls = (earlier : List WorldCall) × (until : ℕ) × (calls ≡ earlier ++ Wait until Failed ∷ [])
 
 ends_behind : (l m n : Option (List WorldCall)) → LogGrows l m → EndsWithWait m n → EndsWithWait l n

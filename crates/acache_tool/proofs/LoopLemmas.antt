@@ -1,28 +1,20 @@
 -- The names of a run, one behind the other.
-use Rattle.std.proofs.Common.{◌≡◌, ◌∙◌, ℕ, ◌+◌, ◌<◌, ◌≤◌, Bool, true, false, List, [], ◌∷◌, ◌++◌, length, map, take, get_or, suc, zero, refl, ap, sym, subst, arith, ⊎_elim, ltb-false, ltb-true}
-use Rattle.std.specs.Prelude.{Err, None, Ok, Option, Result, Some, is_err, nat_lt, ◌^◌}
+use Rattle.std.proofs.Common.{◌≡◌, ◌∙◌, ℕ, ◌+◌, ◌<◌, ◌≤◌, true, List, [], ◌∷◌, ◌++◌, length, map, take, get_or, suc, zero, refl, ap, sym, subst, ⊎_elim}
+use Rattle.std.specs.Prelude.{Err, None, Ok, Option, Result, Some, is_err}
 use Rattle.std.proofs.lemmas.List.{append-nil, append_assoc, map-append, take_more}
 use mathlib.Core.List.{IsPrefix}
 use Rattle.item_list.specs.declared.no_memory.NoMemory.{NoMemory}
-use Rattle.net_world.specs.Cause.{Rose}
 use Rattle.net_world.specs.declared.log.WorldCall.{WorldCall}
 use Rattle.channel_model.specs.Setting.{Setting}
 use Rattle.run_end.specs.declared.loop_end.LoopEnd.{LoopEnd}
 use Rattle.run_end.specs.declared.loop_end.LoopEnd.TheVariants.{Completed, Stalled, WaitFault}
 use Rattle.tool_line.specs.Words.{Text}
+use Rattle.channel_session.proofs.StepLemmas.{rose_since}
 use Rattle.acache_tool.specs.Leaving.{AsksAll, IsAt}
 use Rattle.acache_tool.specs.Naming.{Scene, Tries}
 use Rattle.acache_tool.specs.Parts.{Part, names_of}
 use Rattle.acache_tool.proofs.EndLemmas.{left_stalled, left_unanswered, left_unasked, left_unread, left_unwaited}
 use Rattle.acache_tool.proofs.SceneLemmas.{at_hit, at_sent, part_hit, part_sent}
-
--- a count that rose later rose since
-rose_since : (a b c : ℕ) → a ≤ b → b ≤ c → Rose b c → Rose a c
-rose_since a b c first then_ rose = λ room. rises (nat_lt (b + 1) (2 ^ 64)) refl room
-  where
-    rises : (fits : Bool) → nat_lt (b + 1) (2 ^ 64) ≡ fits → a + 1 < 2 ^ 64 → a < c
-    rises true fits room = let more : b < c = rose (ltb-true (b + 1) (2 ^ 64) fits) in omega (arith, more, first)
-    rises false full room = omega (arith, ltb-false (b + 1) (2 ^ 64) full, then_, room)
 
 -- from where the run began, these names were brought to their answers
 abbrev pub Brought : List Text → Scene → Scene → Type 0

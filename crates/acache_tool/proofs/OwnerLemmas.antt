@@ -1,7 +1,7 @@
 -- How the channel of a run goes on: by an Accept, and by what a session makes of it.
 use Rattle.std.proofs.Common.{◌≡◌, ◌≢◌, ◌∙◌, ℕ, ◌+◌, ◌≤◌, ◌==◌, ◌&&◌, ◌||◌, Bool, true, false, cond, List, [], ◌∷◌, ◌++◌, length, not, refl, ap, sym, subst, arith, inl, inr}
-use Rattle.std.specs.Prelude.{Err, None, Ok, Option, Some, filter_map, is_some, option_to_list}
-use Rattle.std.specs.List.{cons_option, list_all}
+use Rattle.std.specs.Prelude.{Err, None, Ok, Some, filter_map, is_some, option_to_list}
+use Rattle.std.specs.List.{list_all}
 use Rattle.std.proofs.lemmas.Bool.{and_from, and_parts}
 use Rattle.std.proofs.lemmas.List.{append-nil, append_assoc, append_cancel_left, length-append}
 use Rattle.chan_types.specs.Plans.{Plan, blank}
@@ -28,10 +28,11 @@ use Rattle.event_runner.proofs.Theorems.{MayStand, runs_behind}
 use Rattle.owner_laws.specs.PlainEntries.{is_plain_entry, leaves_running}
 use Rattle.owner_laws.proofs.Owner.{owner_called, owner_went_on}
 use Rattle.tool_line.specs.Words.{Text}
+use Rattle.channel_session.proofs.Theorems.{taken_behind}
+use Rattle.owner_laws.specs.Sessions.{longest_slice}
 use Rattle.acache_tool.specs.Bringing.{AsksFor, StandsStill}
 use Rattle.acache_tool.specs.Growing.{Grows}
 use Rattle.acache_tool.specs.Parts.{asks_for, spec_for}
-use Rattle.acache_tool.specs.Told.{longest_slice}
 use Rattle.owner_laws.proofs.ListLemmas.{no_items, own_seats}
 use Rattle.acache_tool.proofs.RequestLemmas.{fate_later, past_on}
 
@@ -64,17 +65,6 @@ accepted_on past (e ∷ es) all =
     let parts = and_parts (is_of_turn e || is_some (taken_by e.what)) (e.by == 0) this.0 in
     accepted_on (e.what ∷ past) es this.1 ∙ ap (λ found. accepted past ++ option_to_list found) (session_runs e.what parts.0).1 ∙ append-nil (accepted past)
 
--- one item or none, in front of others
-one_or_none : {A : Type 0} (found : Option A) (others : List A) → option_to_list found ++ others ≡ cons_option found others
-one_or_none None others = refl
-one_or_none (Some r) others = refl
-
-taken_on : (past : Past) (es : List Entry) → taken (followed_by past es) ≡ taken past ++ filter_map (λ e. taken_by e.what) es
-taken_on past [] = sym (append-nil (taken past))
-taken_on past (e ∷ es) =
-    taken_on (e.what ∷ past) es ∙ append_assoc (taken past) (option_to_list (taken_by e.what)) (filter_map (λ x. taken_by x.what) es)
-    ∙ ap (λ l. taken past ++ l) (one_or_none (taken_by e.what) (filter_map (λ x. taken_by x.what) es))
-
 -- a session went on with the channel
 pub grows_on : (takes : List ℕ) (a b : Owned) (goes : GoesOn (known_by_owner a) (known_by_owner b)) → AreOfSession 0 goes.since → taken_in 0 goes.since ≡ takes → Grows [] takes a b
 grows_on takes a b goes own took =
@@ -90,7 +80,7 @@ grows_on takes a b goes own took =
       lawful = goes.lawful;
       plain = all_plain goes.since seats of_session;
       accepts_are = ap accepted past ∙ accepted_on (past_of a.seen) goes.since of_session ∙ sym (append-nil (accepted (past_of a.seen)));
-      takes_are = ap taken past ∙ taken_on (past_of a.seen) goes.since
+      takes_are = ap taken past ∙ taken_behind (past_of a.seen) goes.since
           ∙ ap (λ l. taken (past_of a.seen) ++ l) (ap (filter_map (λ e. taken_by e.what)) (sym all) ∙ took);
     }
 

@@ -6,9 +6,7 @@ use mathlib.Core.List.{IsPrefix}
 use Rattle.chan_types.specs.declared.answer.Answer.{Answer}
 use Rattle.item_list.specs.declared.no_memory.NoMemory.{NoMemory}
 use Rattle.net_world.specs.Logs.{LogGets}
-use Rattle.net_world.specs.declared.answers.Waited.TheVariants.{Failed as NotWaited}
 use Rattle.net_world.specs.declared.log.WorldCall.{WorldCall}
-use Rattle.net_world.specs.declared.log.WorldCall.TheVariants.{Wait}
 use Rattle.channel_model.proofs.Theorems.{course_agrees}
 use Rattle.channel_model.specs.Completion.{pending, ready, requests, taken}
 use Rattle.channel_model.specs.Course.{IsCourse, IsCourseSoFar, serves_from}
@@ -28,6 +26,7 @@ use Rattle.tool_line.specs.Put.{IsPut}
 use Rattle.tool_line.specs.declared.ending.Exit.{Exit}
 use Rattle.tool_line.specs.declared.ending.Exit.TheVariants.{Failure, OutOfMemory, Stalled as HasStalled, Success, WaitFault as FailedWait}
 use Rattle.run_end.specs.Ends.{IsPageEnd}
+use Rattle.owner_laws.specs.Sessions.{longest_slice}
 use Rattle.acache_tool.specs.Asked.{Asked, setting_for}
 use Rattle.acache_tool.specs.Closing.{Closes, closing, end_by}
 use Rattle.acache_tool.specs.Completing.{IsComplete, IsGivenTime}
@@ -40,12 +39,13 @@ use Rattle.acache_tool.specs.Promise.{IsClosed, IsTraffic, Promise}
 use Rattle.net_world.specs.Cause.{Rose}
 use Rattle.net_addr.specs.declared.addr.Addr.{Addr}
 use Rattle.acache_tool.specs.Running.{IsRun}
-use Rattle.acache_tool.specs.Told.{AreTold, AreToldThen, longest_slice}
+use Rattle.acache_tool.specs.Told.{AreTold, AreToldThen}
 use Rattle.acache_tool.proofs.ClosedLemmas.{IsDone, is_done}
 use Rattle.acache_tool.proofs.FateLemmas.{all_fates}
 use Rattle.acache_tool.proofs.RequestLemmas.{none_left}
 use Rattle.acache_tool.proofs.SceneLemmas.{owner_alone}
 use Rattle.acache_tool.proofs.TimeLemmas.{not_last, not_stalled, page_complete}
+use Rattle.acache_tool.proofs.EndLemmas.{IsLastWait}
 
 abbrev pub outside_of : Option (List WorldCall) → ℕ → OutputTold → Outside
 outside_of log faults output = record { network = record { log = log; wait_faults = faults }; output = output }
@@ -94,10 +94,6 @@ module _ (room : ℕ) (setting : Setting) (turns : ℕ) (parts : List Part) (las
     finished = finished;
     stalled = stalled;
   }
-
--- the last of these calls is a wait that failed
-abbrev IsLastWait : List WorldCall → Type 0
-IsLastWait calls = (earlier : List WorldCall) × (until : ℕ) × (calls ≡ earlier ++ Wait until NotWaited ∷ [])
 
 -- ends that aren't another
 not_page_wait : IsPageEnd FailedWait → ⊥

@@ -24,12 +24,13 @@ use Rattle.query_cache.proofs.StandLemmas.{answers_given}
 use Rattle.query_cache.specs.Cache.{given}
 use Rattle.query_cache.specs.Recency.{LeadTo}
 use Rattle.tool_line.specs.Words.{Text}
+use Rattle.owner_laws.specs.Sessions.{longest_slice}
 use Rattle.acache_tool.specs.Growing.{AreCalled}
 use Rattle.acache_tool.specs.Leaving.{AreGoodParts, IsAt, Leaves, numbers_of}
 use Rattle.acache_tool.specs.Naming.{IsHit, IsSent, Reads, Scene}
 use Rattle.acache_tool.specs.Parts.{GivesAnswer, MayAsk, Open, Part, answers_of, asks_for, cache_calls, calls_for, journal_of, most_seconds, open_requests, question_of, requests_of, text_shown}
 use Rattle.acache_tool.specs.Shown.{IsGood, cache_with}
-use Rattle.acache_tool.specs.Told.{AreTold, IsLastReading, longest_slice}
+use Rattle.acache_tool.specs.Told.{AreTold, IsLastReading}
 use Rattle.acache_tool.proofs.NameLemmas.{leaves_answered, leaves_asked, may_ask}
 use Rattle.owner_laws.specs.PlainEntries.{is_plain_entry}
 

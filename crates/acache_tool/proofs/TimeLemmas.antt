@@ -29,12 +29,12 @@ use Rattle.tool_line.specs.Words.{Text}
 use Rattle.tool_line.specs.declared.ending.Exit.{Exit}
 use Rattle.tool_line.specs.declared.ending.Exit.TheVariants.{Failure, Success}
 use Rattle.run_end.specs.Ends.{IsPageEnd}
+use Rattle.owner_laws.specs.Sessions.{longest_slice}
 use Rattle.acache_tool.specs.Asked.{setting_for}
 use Rattle.acache_tool.specs.Completing.{IsComplete, IsGivenTime}
 use Rattle.owner_laws.specs.PlainEntries.{is_plain_entry}
 use Rattle.acache_tool.specs.Output.{text_at}
 use Rattle.acache_tool.specs.Parts.{Open, Part, names_of, open_requests, page, request_for, requests_of, unless_hit}
-use Rattle.acache_tool.specs.Told.{longest_slice}
 
 -- no wait failed where the last call isn't a failed wait
 pub not_last : (calls : List WorldCall) (setting : Setting) (turns names : ℕ) (journal : List Entry) → (earlier : List WorldCall) × (until : ℕ) × (calls ≡ earlier ++ Wait until NotWaited ∷ []) → IsGivenTime setting turns names journal calls → ⊥

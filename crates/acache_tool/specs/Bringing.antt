@@ -13,9 +13,9 @@ use Rattle.channel_session.specs.Sitting.{Sitting, StandsBehind, moment_of}
 use Rattle.channel_table.specs.Calling.{Owned, known_by_owner}
 use Rattle.event_runner.specs.UnderWay.{RanSince, RunsSince, rested}
 use Rattle.tool_line.specs.Words.{Text}
+use Rattle.owner_laws.specs.Sessions.{longest_slice}
 use Rattle.acache_tool.specs.Growing.{Grows, IsFate}
 use Rattle.acache_tool.specs.Parts.{asks_for, request_for}
-use Rattle.acache_tool.specs.Told.{longest_slice}
 use Rattle.acache_tool.specs.declared.asking.Asker.{Asker}
 use Rattle.acache_tool.specs.declared.asking.Brought.{Brought}
 use Rattle.acache_tool.specs.declared.asking.Brought.TheVariants.{Answered, Stalled, WaitFault}

@@ -21,10 +21,11 @@ use Rattle.query_cache.specs.Recency.{LeadTo}
 use Rattle.run_end.specs.declared.loop_end.LoopEnd.{LoopEnd}
 use Rattle.run_end.specs.declared.loop_end.LoopEnd.TheVariants.{Completed, Stalled, WaitFault}
 use Rattle.tool_line.specs.Words.{Text}
+use Rattle.owner_laws.specs.Sessions.{longest_slice}
 use Rattle.acache_tool.specs.Growing.{AreCalled}
 use Rattle.acache_tool.specs.Naming.{Scene}
 use Rattle.acache_tool.specs.Parts.{AreRight, MayAsk, Open, Part, answers_of, cache_calls, journal_of, most_seconds, names_of, open_names, open_requests, page, requests_of}
-use Rattle.acache_tool.specs.Told.{AreTold, AreToldThen, longest_slice}
+use Rattle.acache_tool.specs.Told.{AreTold, AreToldThen}
 use Rattle.owner_laws.specs.PlainEntries.{is_plain_entry}
 
 -- the numbers of these requests

@@ -21,6 +21,7 @@ use Rattle.tool_line.specs.Put.{IsPut}
 use Rattle.tool_line.specs.declared.ending.Exit.{Exit}
 use Rattle.tool_line.specs.declared.ending.Exit.TheVariants.{Failure, OutOfMemory, Stalled, Success, WaitFault}
 use Rattle.run_end.specs.Ends.{IsPageEnd, IsRunEnd}
+use Rattle.owner_laws.specs.Sessions.{longest_slice}
 use Rattle.acache_tool.specs.Asked.{Asked, setting_for}
 use Rattle.acache_tool.specs.Closing.{closing, take_entry}
 use Rattle.acache_tool.specs.Completing.{IsComplete, IsGivenTime}
@@ -29,7 +30,7 @@ use Rattle.owner_laws.specs.PlainEntries.{is_plain_entry}
 use Rattle.acache_tool.specs.Leaving.{AreGoodParts}
 use Rattle.acache_tool.specs.Output.{text_at}
 use Rattle.acache_tool.specs.Parts.{AreRight, MayAsk, Open, Part, answers_of, cache_calls, journal_of, names_of, open_names, open_requests, page, requests_of}
-use Rattle.acache_tool.specs.Told.{AreTold, AreToldThen, longest_slice}
+use Rattle.acache_tool.specs.Told.{AreTold, AreToldThen}
 
 -- the journal was closed by one Destroy, which no callback commanded: before it stand the entries of the run, and behind it at most one Take
 pub record IsClosed (setting : Setting) (end : Exit) (parts : List Part) (journal : List Entry) : Type 0 where

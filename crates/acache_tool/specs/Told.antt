@@ -1,16 +1,13 @@
 -- What the network's calls tell of the names, where it tells them: each name's begin with the reading of the clock for it.
-use Rattle.std.specs.Prelude.{Bool, List, [], false, map, true, ℕ, ⊤, ◌++◌, ◌-◌, ◌^◌, ◌∷◌, ◌≡◌}
+use Rattle.std.specs.Prelude.{Bool, List, [], false, map, true, ℕ, ⊤, ◌++◌, ◌∷◌, ◌≡◌}
 use Rattle.chan_types.specs.declared.journal.Entry.{Entry}
 use Rattle.net_world.specs.declared.log.WorldCall.{WorldCall}
 use Rattle.net_world.specs.declared.log.WorldCall.TheVariants.{Now}
 use Rattle.resolv_options.specs.Lasts.{last_or}
 use Rattle.channel_model.specs.Course.{IsCourse, serves_from}
 use Rattle.channel_model.specs.Setting.{Setting}
+use Rattle.owner_laws.specs.Sessions.{longest_slice}
 use Rattle.acache_tool.specs.Parts.{Open, Part, journal_of}
-
--- a wait between two turns may last as long as nothing is due
-abbrev pub longest_slice : ℕ
-longest_slice = 2 ^ 64 - 1
 
 -- the moment is the reading of the last turn of the run so far, and 0 where none was made
 pub record IsLastReading (setting : Setting) (journal : List Entry) (calls : List WorldCall) (moment : ℕ) : Type 0 where
