@@ -112,17 +112,17 @@ module _ (turns asides : ℕ) (known : Known) (running : Running) (calls : List 
       let first = way.course.first in
       let first_asides = way.course.first_asides in
       by_last (λ rounds. Facts known.setting known.seat longest_pause turns asides turned known.seen running calls first first_asides rounds → IsUnderWay longest_pause turns (asides + 1) turned known running (calls ++ Now reading ∷ []))
-      (λ f. way_of longest_pause turns (asides + 1) turned known running (calls ++ Now reading ∷ []) first (first_asides ++ reading ∷ []) [] owner (facts_first known.setting known.seat longest_pause turns asides first first_asides known.seen running calls reading turned f))
-      (λ before round f. way_of longest_pause turns (asides + 1) turned known running (calls ++ Now reading ∷ []) first first_asides (before ++ read_behind reading round ∷ []) owner
+      (λ f. way_of owner (facts_first known.setting known.seat longest_pause turns asides first first_asides known.seen running calls reading turned f))
+      (λ before round f. way_of owner
       (facts_last known.setting known.seat longest_pause turns asides first first_asides known.seen running calls reading before round f))
-      way.course.rounds (facts_of longest_pause turns asides turned known running calls way)
+      way.course.rounds (facts_of way)
   way_read false count owner way =
       let first = way.course.first in
       let first_asides = way.course.first_asides in
       by_last (λ rounds. Facts known.setting known.seat longest_pause turns asides rested known.seen running calls first first_asides rounds → IsUnderWay longest_pause turns (asides + 1) rested known running (calls ++ Now reading ∷ []))
-      (λ f. way_of longest_pause turns (asides + 1) rested known running (calls ++ Now reading ∷ []) first (first_asides ++ reading ∷ []) [] owner (facts_first known.setting known.seat longest_pause turns asides first first_asides known.seen running calls reading rested f))
+      (λ f. way_of owner (facts_first known.setting known.seat longest_pause turns asides first first_asides known.seen running calls reading rested f))
       (λ before round f. absurd (omega (arith, count, f.plain.count, length-append before (round ∷ []))))
-      way.course.rounds (facts_of longest_pause turns asides rested known running calls way)
+      way.course.rounds (facts_of way)
 
 -- the clock was read
 pub reads_clock : (result : Result ℕ NoMemory) (sitting : Sitting) (old new : Option (List WorldCall)) → Logs old new result (λ reading. Now reading) → ReadsClock result sitting old new

@@ -272,7 +272,7 @@ module _ (old new : Known) (running after : Running) (read : ℕ) (broken : Bool
       runs = subst (λ l. RunsSince longest_pause turns asides turned new after began l) (sym no_call)
           (subst (λ r. RunsSince longest_pause turns asides turned new r began log) (sym kept)
           (told_as (λ calls. IsTurnOwner new → IsUnderWay longest_pause turns asides turned new running calls) (λ calls. IsTurnOwner new → IsUnderWay longest_pause turns asides turned new (record running { broken = broken }) calls)
-          (λ calls way owner. way_broken longest_pause turns asides turned new running broken calls (way owner)) began log
+          (λ calls way owner. way_broken broken (way owner)) began log
           (runs_behind longest_pause turns asides began log turned old new running looked.goes_on (ap has_no_turn (looked_own old new looked)) (looked_stands turns turned old new looked) here.runs)));
       begun = subst (λ l. BegunSince longest_pause turns new began l) (sym no_call) (begun_behind longest_pause turns old new looked.goes_on began log here.begun);
     });

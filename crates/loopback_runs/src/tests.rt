@@ -1,70 +1,20 @@
-//! `adig` asks the nameserver of `tns`, each over its real network.
+//! `adig` asks the nameserver of `tns`, each over its real network; and so does `ahost` with workers (`workers`).
+
+mod serving;
+mod workers;
 
 use adig_tool::run as ask;
-use item_list::Bytes;
-use net_world::{MemFiles, MemSink, Sent, World};
+use net_world::{MemFiles, MemSink, World};
+use serving::serving;
 use sock_engine::SockWorld;
-use sock_listener::{Bound, RealListener};
 use std::alloc::Global;
 use std::collections::BTreeMap;
-use std::net::{Ipv4Addr, Net, SocketAddr, UdpSocket};
 use std::test::Fail;
-use std::thread;
-use std::thread::{JoinHandle, Threads};
+use std::thread::Threads;
 use stored_run::{page_status, replayed};
-use test_nameserver::{Listener, run as serve};
 
 /// The zone: an address, and an alias of it.
 const ZONE: &[u8] = b"a.test. 60 A 192.0.2.1\nb.test. 60 CNAME a.test.\n";
-
-/// A port that was free just now.
-fn free_port<R: Net>(rt: &R) -> Result<u16, Fail> {
-    let any = SocketAddr::from((Ipv4Addr::LOCALHOST, 0));
-    Ok(UdpSocket::bind(rt, any)?.local_addr()?.port())
-}
-
-/// Files of which `z` is the zone.
-fn zone_files(alloc: Global) -> Result<MemFiles, Fail> {
-    let path = String::from_str(alloc, "z")?;
-    let bytes = Bytes::of(alloc, ZONE)?;
-    let mut files = BTreeMap::new(alloc);
-    files.insert(path, bytes)?;
-    Ok(MemFiles::make(files, Vec::new(alloc)))
-}
-
-/// Serves the zone of these files until one message has come. Answers the nameserver's exit status.
-fn served<L: Listener>(alloc: Global, port: &str, files: &mut MemFiles, listener: &mut L) -> u8 {
-    let words = ["--port", port, "--zone", "z", "--count", "1"];
-    let mut sink = MemSink::make(Vec::new(alloc));
-    serve(alloc, words.as_slice(), files, &mut sink, listener)
-}
-
-/// A listener on a port that was free just now, and the port.
-fn listening(rt: HostRuntime) -> Result<(Bound<RealListener<HostRuntime>>, u16), Fail> {
-    let port = free_port(&rt)?;
-    let mut inner = RealListener::make(rt);
-    match Listener::listen(&mut inner, port)? {
-        Sent::Sent => Ok((Bound { inner }, port)),
-        Sent::Failed => Err("the port is taken")?,
-    }
-}
-
-/// The digits of a port.
-fn digits_of(alloc: Global, port: u16) -> Result<String, Fail> {
-    Ok(format!(in alloc; "{port}")?)
-}
-
-/// A thread in which the nameserver serves until one message has come, and its port.
-fn serving<R: Threads>(threads: &R, rt: HostRuntime) -> Result<(JoinHandle<u8>, u16), Fail> {
-    let alloc = rt.alloc();
-    let (mut listener, number) = listening(rt)?;
-    let mut files = zone_files(alloc)?;
-    let port = digits_of(alloc, number)?;
-    let child = thread::spawn(threads, move || {
-        served(alloc, port.as_str(), &mut files, &mut listener)
-    })?;
-    Ok((child, number))
-}
 
 /// The words that ask the nameserver of 127.0.0.1 for its page, or for the book of the run.
 const PAGE: &str = "--server 127.0.0.1 --port";
@@ -103,6 +53,13 @@ struct Outcome {
     put: Vec<u8>,
 }
 
+impl Outcome {
+    /// Whether a run came to this.
+    fn is(&self, status: u8, put: &[u8]) -> bool {
+        self.status == status && self.put.as_slice() == put
+    }
+}
+
 /// What `adig` comes to with these words, over this network.
 fn asked<W: World>(alloc: Global, words: &[&str], world: &mut W) -> Result<Outcome, Fail> {
     let mut sink = MemSink::make(Vec::new(alloc));
@@ -119,7 +76,7 @@ fn asked_at<W: World>(
     line: &str,
     world: &mut W,
 ) -> Result<Outcome, Fail> {
-    let port = digits_of(alloc, port)?;
+    let port = format!(in alloc; "{port}")?;
     let words = words_for(alloc, front, port.as_str(), line)?;
     asked(alloc, words.as_slice(), world)
 }
@@ -132,7 +89,7 @@ fn outcome_of<R: Threads, W: World>(
     line: &str,
     world: &mut W,
 ) -> Result<Outcome, Fail> {
-    let (child, port) = serving(threads, rt)?;
+    let (child, port) = serving(threads, rt, ZONE, "1")?;
     let outcome = asked_at(rt.alloc(), front, port, line, world)?;
     if child.join(threads) == 0 {
         Ok(outcome)
