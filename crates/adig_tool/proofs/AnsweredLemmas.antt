@@ -43,7 +43,7 @@ use Rattle.channel_model.proofs.Theorems.{followed_by-append, spec_of-later, sta
 use Rattle.net_world.specs.Logs.{LogGets}
 use Rattle.tool_line.specs.declared.ending.Exit.TheVariants.{OutOfMemory}
 use Rattle.adig_tool.specs.Answered.{AreAnswered, IsAnswered, IsMeantBy, IsQuestionOf, WasExchanged, opens_no_link, status_meant}
-use Rattle.adig_tool.specs.Entries.{is_own, is_steady}
+use Rattle.adig_tool.specs.Entries.{first_request, is_own, is_steady}
 use Rattle.tool_line.specs.Outside.{Outside}
 use Rattle.adig_tool.specs.Running.{Comes, setting_with}
 use Rattle.resolv_options.specs.Values.{OptionValues}
@@ -51,13 +51,12 @@ use Rattle.tool_line.specs.declared.files.FileFault.{FileFault as FaultOfFile}
 use Rattle.adig_tool.specs.Output.{book_of, page_for, text_at}
 use Rattle.tool_line.specs.Put.{PutsText}
 use Rattle.adig_tool.specs.Promise.{IsTraffic, Promise}
-use Rattle.adig_tool.specs.Session.{first_request}
 use Rattle.owner_laws.specs.Sessions.{longest_slice}
 use Rattle.run_end.specs.declared.ended.Ended.{Ended}
 use Rattle.owner_laws.proofs.ListLemmas.{heads, tails}
+use Rattle.event_runner.proofs.Theorems.{told_as}
 use Rattle.adig_tool.proofs.ExchangeLemmas.{exchanged}
 use Rattle.adig_tool.proofs.ListLemmas.{both_hold, item_passes, one_at_most, three_hold, two_pass}
-use Rattle.adig_tool.proofs.PromiseLemmas.{log_then}
 use Rattle.adig_tool.proofs.ReplyLemmas.{ToldStatus, replied, search_tells, searched}
 use Rattle.adig_tool.proofs.SentLemmas.{no_fault}
 
@@ -414,7 +413,7 @@ each_answered P Q follows (a ∷ calls) all = (follows a all.0, each_answered P 
 -- a run that keeps its promise has answers of this kind
 pub answered_of : (spec : Spec) (as_book : Bool) (setting : Setting) (turns : ℕ) (ended : Ended) (before after : Outside) → Promise spec as_book setting turns ended before after → LogGets (AreAnswered setting spec ended.status ended.calls) before.network.log after.network.log
 answered_of spec as_book setting turns ended before after p =
-    log_then (IsTraffic setting turns p.end ended.journal) (AreAnswered setting spec ended.status ended.calls)
+    told_as (IsTraffic setting turns p.end ended.journal) (AreAnswered setting spec ended.status ended.calls)
     (λ calls traffic served opens.
     each_answered (λ a. (n : ℕ) × (fate setting n (past_of ended.journal) ≡ Some a)) (λ a. a.message ≢ [] → IsAnswered setting spec calls a)
     (λ a known some. one_answer spec setting traffic.made ended.journal calls (traffic.course (apart served)) opens p.lawful.allowed p.own p.asked_at_most known.0 a known.1 some)

@@ -1,12 +1,6 @@
 pub mod ListLemmas
-pub mod FateLemmas
-pub mod WorkLemmas
-pub mod LoopLemmas
-pub mod OneSessionLemmas
-pub mod ClosingLemmas
-pub mod WholeLemmas
-pub mod CalledLemmas
 pub mod ObeyedLemmas
+pub mod OneLemmas
 pub mod PromiseLemmas
 pub mod PuttingLemmas
 pub mod ReplyLemmas

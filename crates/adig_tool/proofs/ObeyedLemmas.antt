@@ -15,8 +15,7 @@ use Rattle.channel_model.specs.Commands.{ArePerformed, IsPerformed, ObeysOrders,
 use Rattle.channel_model.specs.Completion.{fate, taken}
 use Rattle.channel_model.specs.Journal.{Accepted, accepted, past_of}
 use Rattle.channel_model.specs.Setting.{Setting}
-use Rattle.adig_tool.specs.Entries.{is_own, is_steady}
-use Rattle.adig_tool.specs.Session.{first_request}
+use Rattle.adig_tool.specs.Entries.{first_request, is_own, is_steady}
 use Rattle.adig_tool.proofs.ListLemmas.{all_pass, first_passes, one_at_most, three_hold}
 
 -- nobody commanded a command of this request

@@ -1,17 +1,20 @@
--- The entries of a channel with one owner, and its orders.
+-- The entries of a channel with one owner, its one request, and its orders.
 use Rattle.std.specs.Prelude.{Bool, false, true, ◌&&◌, ◌==◌}
 use Rattle.chan_types.specs.declared.journal.Entry.{Entry}
 use Rattle.chan_types.specs.declared.journal.What.{What}
 use Rattle.chan_types.specs.declared.journal.What.TheVariants.{Accept, Arrive, Cancel, Destroy, Expire, Fault, Servers, Start, Take}
 use Rattle.chan_types.specs.declared.orders.Orders.{Orders}
+use Rattle.chan_types.specs.declared.spec.Spec.{Spec}
+use Rattle.chan_types.specs.Plans.{blank}
+use Rattle.channel_model.specs.Journal.{Accepted}
 
 -- nothing is ordered
 abbrev pub no_orders : Orders
 no_orders = record { follow = false; first = false; quit = false }
 
--- the entry that ends the channel
-abbrev pub closing : Entry
-closing = record { seat = 0; by = 0; what = Destroy }
+-- the request as it is accepted: it is the channel's first, and its callback commands nothing
+abbrev pub first_request : Spec → Accepted
+first_request spec = record { number = 1; spec = spec; script = blank 0 }
 
 -- the event neither cancels what is pending, nor sets other servers
 abbrev pub is_steady : What → Bool

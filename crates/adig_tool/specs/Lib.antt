@@ -1,11 +1,7 @@
 pub mod Entries
 pub mod Output
-pub mod Session
-pub mod SessionParts
-pub mod Closing
 pub mod Promise
 pub mod Running
-pub mod Ends
 pub mod Answered
 pub mod Cookies
 pub mod Loan

@@ -23,12 +23,12 @@ use Rattle.tool_line.specs.declared.ending.Exit.{Exit}
 use Rattle.tool_line.specs.declared.ending.Exit.TheVariants.{Failure, OutOfMemory, Stalled, Success, WaitFault}
 use Rattle.net_world.specs.Logs.{LogGets}
 use Rattle.run_end.specs.Left.{IsOver}
-use Rattle.adig_tool.specs.Entries.{closing, is_own, no_orders}
+use Rattle.adig_tool.specs.Entries.{first_request, is_own, no_orders}
+use Rattle.owner_session.specs.Closing.{closing}
 use Rattle.tool_line.specs.Outside.{GrowsBy, Outside, OutputTold}
 use Rattle.adig_tool.specs.Output.{book_of, page_for, text_at}
 use Rattle.tool_line.specs.Put.{IsPut}
 use Rattle.tool_line.specs.Words.{Text}
-use Rattle.adig_tool.specs.Session.{first_request}
 use Rattle.owner_laws.specs.Sessions.{BeginsCut, BeginsPending, EndsWithFailedWait, longest_slice}
 use Rattle.run_end.specs.Ends.{AreGood, IsPageEnd, IsRunEnd}
 use Rattle.run_end.specs.declared.ended.Ended.{Ended}

@@ -2,14 +2,12 @@
 #![tactic(auto)]
 
 mod asking;
-mod closing;
 mod cookies;
 mod ended;
 mod lent;
 mod putting;
 mod resolving;
 mod running;
-mod session;
 
 pub use ended::Ended;
 pub use running::run;

@@ -1,22 +1,22 @@
-//! The part of a run that asks: the channel is made, its one request is brought to its end, and the text is put.
+//! The part of a run that asks: its one request is brought to its end, and the text is put.
 
-ghost use Rattle.std.specs.Prelude.{◌≡◌, ◌≤◌, IfOk, length};
-ghost use Rattle.adig_tool.specs.Ends.{fresh};
+ghost use Rattle.std.specs.Prelude.{◌≡◌, ◌∷◌, IfOk, None, []};
+ghost use Rattle.chan_types.specs.Plans.{blank};
 ghost use Rattle.tool_line.specs.Outside.{outside};
+ghost use Rattle.adig_tool.specs.Entries.{no_orders};
 ghost use Rattle.adig_tool.specs.Promise.{Promise};
 ghost use Rattle.adig_tool.specs.Running.{setting_with};
 
-use crate::closing::close;
 use crate::putting::tell;
-use crate::session::session;
-use chan_types::{Calls, Quiet, Spec};
-use channel_table::Alone;
+use chan_types::{Orders, Script, Spec};
+use completion_ticket::Scripted;
 use hosts_file::Hosts;
 use item_list::{Bytes, NoMemory};
 use journal_text::Book;
 use net_world::{Sink, World};
+use owner_session::{Requests, SessionEnd, bring_to_end};
 use resolv_options::Options;
-use run_end::{Ended, end_of};
+use run_end::Ended;
 use std::alloc::Global;
 use tool_line::Exit;
 
@@ -36,33 +36,55 @@ pub fn resolve<W: World, K: Sink>(
         (outside (W.log world.new) (W.wait_faults world.new) (K.bytes sink.new) (K.faults sink.new) (K.puts sink.new)) }
     ensures origin { W.origin world.new ≡ W.origin world.old }
 {
-    let Ok((told, mut alone)) = channel_with(alloc, options) else {
+    let Ok(requests) = one_request(alloc, spec) else {
         return Ended::early(alloc, Exit::OutOfMemory.number());
     };
-    let mut calls = Calls::new();
-    let loop_end = session(alloc, &told, spec, &mut alone, &mut calls, world, turns);
-    close(&mut alone, &mut calls);
-    let end = end_of(loop_end, &calls);
-    // The book owns the journal while it is printed, so that no copy is made.
-    let book = Book {
-        options: told,
-        hosts: Bytes::new(alloc),
-        journal: alone.close().into_journal(),
-    };
-    let status = tell(alloc, spec, as_book, &book, &calls, end, sink);
-    Ended {
-        status,
-        journal: book.journal,
-        calls,
+    match bring_to_end(alloc, requests, options, Hosts::empty(alloc), world, turns) {
+        Ok(ended) => {
+            let SessionEnd {
+                options,
+                end,
+                journal,
+                calls,
+                bodies: _,
+            } = ended;
+            // The book owns the journal while it is printed, so that no copy is made.
+            let book = Book {
+                options,
+                hosts: Bytes::new(alloc),
+                journal,
+            };
+            let status = tell(alloc, spec, as_book, &book, &calls, end, sink);
+            Ended {
+                status,
+                journal: book.journal,
+                calls,
+            }
+        }
+        Err(_) => Ended::early(alloc, Exit::OutOfMemory.number()),
     }
 }
 
-/// A channel with these options, and the options once more: they have a server, which is asked once at least.
-fn channel_with(alloc: Global, options: Options) -> Result<(Options, Alone<Quiet>), NoMemory>
-    ensures made { IfOk result (λ made. (made.0 ≡ options) × (made.1 ≡ fresh options)) }
-    ensures limits { IfOk result (λ made. (1 ≤ length options.servers) × (1 ≤ options.tries)) }
+/// The one request of a run, with a callback that commands nothing.
+fn one_request(alloc: Global, spec: &Spec) -> Result<Requests<Scripted>, NoMemory>
+    ensures specs { IfOk result (λ requests. requests.specs.items ≡ spec.now ∷ []) }
+    ensures bodies { IfOk result (λ requests. requests.bodies.items
+        ≡ record { plan = blank 0; told = None; refusal = None } ∷ []) }
+    ensures orders { IfOk result (λ requests. requests.orders ≡ no_orders) }
+    ensures later { IfOk result (λ requests. requests.later ≡ None) }
 {
-    let told = options.copy(alloc)?;
-    let alone = Alone::make(alloc, options, Hosts::empty(alloc))?;
-    Ok((told, alone))
+    let mut specs = Vec::new(alloc);
+    specs.push(spec.copy(alloc)?)?;
+    let mut bodies = Vec::new(alloc);
+    bodies.push(Scripted::new(Script::blank(alloc, 0)))?;
+    Ok(Requests {
+        specs,
+        bodies,
+        orders: Orders {
+            follow: false,
+            first: false,
+            quit: false,
+        },
+        later: None,
+    })
 }

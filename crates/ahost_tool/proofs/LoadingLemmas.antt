@@ -32,7 +32,8 @@ use Rattle.run_end.specs.Ends.{IsRunEnd}
 use Rattle.ahost_tool.specs.Asked.{asked_of}
 use Rattle.ahost_tool.specs.Loading.{IsLoadRun, IsWithinLimits, asked_by_load, host_spec, host_specs, load_setting, no_orders, over_calls}
 use Rattle.ahost_tool.specs.Page.{text_at}
-use Rattle.ahost_tool.specs.Promise.{IsComplete, IsGivenTime, IsTraffic, Promise}
+use Rattle.ahost_tool.specs.Promise.{IsComplete, Promise}
+use Rattle.owner_session.specs.Promise.{IsGivenTime, IsTraffic}
 use Rattle.run_end.specs.declared.ended.Ended.{Ended}
 use Rattle.ahost_tool.specs.declared.reporting.Report.TheVariants.{Summary}
 use Rattle.ahost_tool.proofs.NetworkLemmas.{none_failed, wakes}

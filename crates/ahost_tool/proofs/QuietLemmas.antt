@@ -19,7 +19,7 @@ use Rattle.net_world.specs.declared.answers.Got.TheVariants.{Datagram, Ended, Fa
 use Rattle.net_world.specs.declared.answers.Waited.TheVariants.{Failed as NotWaited, Woken}
 use Rattle.net_world.specs.declared.log.WorldCall.{WorldCall}
 use Rattle.net_world.specs.declared.log.WorldCall.TheVariants.{Close, Connect, Now, Receive, Send, Serve, Wait, Word, Write}
-use Rattle.ahost_tool.proofs.ListLemmas.{each_of}
+use Rattle.owner_session.proofs.Theorems.{each_of}
 use Rattle.ahost_tool.proofs.NetworkLemmas.{is_quiet, waits_quietly}
 
 -- ---- calls that don't wait

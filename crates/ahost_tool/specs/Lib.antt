@@ -1,15 +1,8 @@
-pub mod Kinds
 pub mod Asked
-pub mod Places
-pub mod Delivering
-pub mod Closing
-pub mod Session
-pub mod Returning
 pub mod Summary
 pub mod Page
 pub mod Told
 pub mod Promise
-pub mod Ends
 pub mod Setting
 pub mod Loading
 pub mod Running

@@ -1,79 +1,28 @@
 -- What a run promises: one journal orders what happened in its channel, and what it asked, sent, called and put follows from that journal.
 use Rattle.std.specs.List.{AllByRecursion, list_all}
-use Rattle.std.specs.Prelude.{IsFalse, IsTrue, List, Option, Some, [], count_by, length, map, ℕ, ◌*◌, ◌+◌, ◌<◌, ◌≡◌, ◌≢◌, ◌≤◌, ◌⊎◌}
+use Rattle.std.specs.Prelude.{IsTrue, Some, [], count_by, map, ℕ, ◌≡◌, ◌≢◌, ◌⊎◌}
 use mathlib.Core.List.{IsPrefix}
-use Rattle.chan_types.specs.declared.journal.Entry.{Entry}
 use Rattle.net_world.specs.Cause.{Rose}
-use Rattle.net_world.specs.declared.log.WorldCall.{WorldCall}
 use Rattle.channel_model.specs.Commands.{ObeysOrders, accepted_for, closing_position, past_at}
 use Rattle.channel_model.specs.Completion.{fate, occurrences, pending, requests}
-use Rattle.channel_model.specs.Course.{IsCourse, IsCourseSoFar}
-use Rattle.channel_model.specs.CutShort.{NearlyAgrees}
-use Rattle.channel_model.specs.Endings.{turns_in}
 use Rattle.channel_model.specs.Journal.{is_destroy, past_of}
 use Rattle.channel_model.specs.Lawful.{IsLawful}
 use Rattle.channel_model.specs.Setting.{Setting}
-use Rattle.channel_model.specs.Stretch.{beginning}
-use Rattle.channel_model.specs.Traffic.{TrafficAgrees}
-use Rattle.channel_model.specs.Turn.{received_in}
-use Rattle.channel_progress.specs.Allowed.{attempts_allowed}
-use Rattle.channel_progress.specs.Waking.{NoWaitFailed, WakesInTime}
 use Rattle.net_world.specs.Logs.{LogGets}
-use Rattle.net_addr.specs.declared.addr.ServerAddr.{ServerAddr}
 use Rattle.resolv_options.specs.Values.{OptionValues}
 use Rattle.tool_line.specs.Outside.{GrowsBy, Outside, OutputTold}
 use Rattle.tool_line.specs.Put.{IsPut}
 use Rattle.tool_line.specs.declared.ending.Exit.{Exit}
-use Rattle.tool_line.specs.declared.ending.Exit.TheVariants.{Failure, FileFault, OutOfMemory, SinkFault, Stalled, Success, Usage, WaitFault}
+use Rattle.tool_line.specs.declared.ending.Exit.TheVariants.{Failure, OutOfMemory, Stalled, Success, WaitFault}
 use Rattle.run_end.specs.Left.{IsOver}
 use Rattle.ahost_tool.specs.Asked.{Asked}
 use Rattle.run_end.specs.Ends.{AreGood, IsPageEnd, IsRunEnd}
-use Rattle.ahost_tool.specs.Kinds.{has_servers, is_ruled}
+use Rattle.owner_session.specs.Kinds.{is_ruled}
 use Rattle.ahost_tool.specs.Page.{report_of, text_at}
-use Rattle.ahost_tool.specs.Session.{AsksFirst, SetsAtMost, SetsBehindFirst}
-use Rattle.owner_laws.specs.Sessions.{BeginsCut, BeginsPending, EndsWithFailedWait, longest_slice}
+use Rattle.owner_session.specs.Promise.{IsGivenTime, IsTraffic, last_at}
+use Rattle.owner_session.specs.Session.{AsksFirst, SetsAtMost}
 use Rattle.run_end.specs.declared.ended.Ended.{Ended}
 use Rattle.ahost_tool.specs.declared.reporting.Report.{Report}
-
--- the last position at which a command may be performed: where the text is the report, that of the closing Destroy, if a callback hasn't destroyed the channel; else the journal's end
-abbrev pub last_at : Exit → List Entry → ℕ
-last_at Success journal = closing_position journal
-last_at Failure journal = closing_position journal
-last_at Usage journal = length journal
-last_at FileFault journal = length journal
-last_at SinkFault journal = length journal
-last_at OutOfMemory journal = length journal
-last_at WaitFault journal = length journal
-last_at Stalled journal = length journal
-
--- what a run that came to this end called of the network
-pub record IsTraffic (setting : Setting) (later : Option (List ServerAddr)) (turns : ℕ) (end : Exit) (journal : List Entry) (calls : List WorldCall) : Type 0 where
-  -- It made so many turns, which are not more than it may make, and in each it read the clock once.
-  pub made : ℕ
-  pub few : made ≤ turns
-  pub readings : turns_in calls ≡ made
-  -- Journal and calls fall into these turns: the servers of the setting are told before the first, nothing waits before it, and between two there is one wait, up to the first deadline, where there is nothing to do, or none where there is something. Want of memory alone cuts this short.
-  pub course : end ≢ OutOfMemory → IsCourse setting 0 longest_slice journal calls made 0
-  -- The later servers, if there are some, are set behind the first turn and before the second, unless the channel was destroyed before that; or memory was wanting, no second turn was made, and none were set.
-  pub sets_behind : SetsBehindFirst setting later made journal calls ⊎ ((end ≡ OutOfMemory) × (made ≤ 1) × IsFalse (has_servers journal))
-  pub course_so_far : IsCourseSoFar setting 0 longest_slice journal calls made 0
-  -- A first turn is made only where a request is pending, and nothing is ready; where memory was wanting it may be the only one, and cut short.
-  pub begins : 1 ≤ made → BeginsPending setting journal calls ⊎ ((end ≡ OutOfMemory) × BeginsCut setting journal calls)
-  -- So what the journal notes of messages, queries, links and faults is what these calls tell; where memory was wanting, but for one call.
-  pub agrees : end ≢ OutOfMemory → TrafficAgrees setting 0 journal calls
-  pub nearly_agrees : NearlyAgrees setting 0 beginning journal calls
-  -- No call is made behind a wait that failed, and one failed only where the run ended for it, or where memory was wanting.
-  pub waits : NoWaitFailed calls ⊎ EndsWithFailedWait calls
-  pub last_wait : end ≡ WaitFault → EndsWithFailedWait calls
-  pub none_failed : end ≢ WaitFault → end ≢ OutOfMemory → NoWaitFailed calls
-  -- A run ends as stalled only where all turns were made.
-  pub all_turns : end ≡ Stalled → made ≡ turns
-
--- a run is given more turns than two for each attempt that its requests may spend and one for each item that was received, over a network that wakes in time and whose waits don't fail
-pub record IsGivenTime (setting : Setting) (turns : ℕ) (journal : List Entry) (calls : List WorldCall) : Type 0 where
-  pub enough : 2 * attempts_allowed setting journal + received_in calls < turns
-  pub wakes : WakesInTime calls
-  pub waited : NoWaitFailed calls
 
 -- the whole report of a channel of these options was put, with exit status 0 or 1; or memory was wanting, with 5
 abbrev pub IsComplete : Report → OptionValues → Ended → OutputTold → OutputTold → Type 0

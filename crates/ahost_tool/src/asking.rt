@@ -3,7 +3,7 @@
 ghost use Rattle.std.specs.Prelude.{◌≡◌, ◌≤◌, All, IfSome, List, None, Option, length, map, ℕ};
 ghost use Rattle.net_world.specs.declared.log.WorldCall.{WorldCall};
 ghost use Rattle.tool_line.specs.Outside.{files_told, outside};
-ghost use Rattle.ahost_tool.specs.Returning.{AreBack, numbers_asked};
+ghost use Rattle.owner_session.specs.Returning.{AreBack, numbers_asked};
 ghost use Rattle.ahost_tool.specs.Running.{EndsEarly, IsRunFor};
 
 use crate::putting::put_line;
@@ -13,6 +13,7 @@ use crate::setting::read_setting;
 use crate::task::Task;
 use completion_ticket::Done;
 use net_world::{Files, Sink, World};
+use owner_session::Requests;
 use run_end::Ended;
 use std::alloc::Global;
 use tool_line::{AhostAsk, Exit, FileFault};
@@ -52,11 +53,14 @@ pub(crate) fn ask<B: Done + Drop, W: World, F: Files, K: Sink>(
     } = asked;
     match read_setting(alloc, resolv.as_str(), hosts.as_str(), settings, files) {
         Ok((options, hosts, bytes)) => {
-            let task = Task {
-                specs,
+            let requests = Requests {
+                specs: specs.into_vec(),
                 bodies,
                 orders,
                 later,
+            };
+            let task = Task {
+                requests,
                 report: report_for(journal, bytes),
             };
             resolve(alloc, task, options, hosts, world, sink, turns)

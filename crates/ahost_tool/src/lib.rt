@@ -3,18 +3,13 @@
 #![tactic(auto)]
 
 mod asking;
-mod caller;
-mod closing;
-mod delivering;
 mod loading;
 mod outcome;
 mod page;
-mod places;
 mod putting;
 mod reporting;
 mod resolving;
 mod running;
-mod session;
 mod setting;
 mod summary;
 mod task;
@@ -24,7 +19,6 @@ pub use loading::prepare;
 pub use outcome::Outcome;
 pub use putting::tell;
 pub use reporting::{Report, report_for};
-pub use resolving::ending_of;
 pub use run_end::Ended;
 pub use running::{count_names, run, run_boxed, run_returning_bodies};
 pub use setting::read_setting;

@@ -5,7 +5,7 @@ ghost use Rattle.resolv_options.specs.Defaults.{plain_values};
 ghost use Rattle.test_nameserver.specs.Load.{load_zone};
 ghost use Rattle.test_nameserver.specs.Peer.{at_start};
 ghost use Rattle.ahost_tool.specs.Loading.{IsLoadRun, IsWithinLimits, host_specs, host_text};
-ghost use Rattle.ahost_tool.specs.Returning.{AreBack, numbers_asked};
+ghost use Rattle.owner_session.specs.Returning.{AreBack, numbers_asked};
 
 use crate::reporting::Report;
 use crate::resolving::resolve;
@@ -15,6 +15,7 @@ use completion_ticket::Done;
 use hosts_file::Hosts;
 use net_addr::Family;
 use net_world::Sink;
+use owner_session::Requests;
 use resolv_options::Options;
 use run_end::Ended;
 use std::alloc::Global;
@@ -40,8 +41,8 @@ pub(crate) fn load<B: Done + Drop, K: Sink>(
     let Ok((options, specs, mut world)) = prepare(alloc, load) else {
         return (Ended::early(alloc, Exit::OutOfMemory.number()), bodies);
     };
-    let task = Task {
-        specs,
+    let requests = Requests {
+        specs: specs.into_vec(),
         bodies,
         orders: Orders {
             follow: false,
@@ -49,6 +50,9 @@ pub(crate) fn load<B: Done + Drop, K: Sink>(
             quit: false,
         },
         later: None,
+    };
+    let task = Task {
+        requests,
         report: Report::Summary(load),
     };
     let run = resolve(

@@ -4,7 +4,7 @@ ghost use Rattle.std.specs.Prelude.{◌≡◌, ◌≤◌, All, IfSome, IsTrue, N
 ghost use Rattle.tool_line.specs.Outside.{files_told, outside};
 ghost use Rattle.tool_line.specs.declared.ending.Exit.TheVariants.{Usage};
 ghost use Rattle.ahost_tool.specs.Loading.{IsLoadRun, IsWithinLimits};
-ghost use Rattle.ahost_tool.specs.Returning.{AreBack, numbers_asked};
+ghost use Rattle.owner_session.specs.Returning.{AreBack, numbers_asked};
 ghost use Rattle.ahost_tool.specs.Running.{AreRefused, EndsEarly, ForWords, IsRunFor, IsServed, count_names};
 
 use crate::asking::{ask, leave};

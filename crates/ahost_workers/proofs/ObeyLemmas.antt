@@ -5,7 +5,7 @@ use Rattle.chan_types.specs.declared.orders.Orders.{Orders}
 use Rattle.channel_model.specs.Commands.{ArePerformed, ObeysOrders, Outcome, Performance, closing_from, closing_position, position_of}
 use Rattle.channel_model.specs.Journal.{is_destroy}
 use Rattle.channel_model.specs.Setting.{Setting}
-use Rattle.ahost_tool.proofs.Theorems.{all_pass}
+use Rattle.owner_session.proofs.Theorems.{all_pass}
 
 -- the closing Destroy stands in the journal, or it would stand at its end
 closing_within : (journal : List Entry) (position : ℕ) → closing_from position journal ≤ position + length journal

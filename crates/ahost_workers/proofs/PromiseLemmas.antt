@@ -35,9 +35,10 @@ use Rattle.worker_session.specs.Turning.{longest_pause}
 use Rattle.worker_session.specs.declared.coming.Coming.TheVariants.{OutOfMemory as WantedMemory, WaitFault as WaitFailed}
 use Rattle.ahost_tool.specs.Asked.{Asked}
 use Rattle.ahost_tool.specs.Page.{text_at}
-use Rattle.ahost_tool.specs.Promise.{last_at}
+use Rattle.owner_session.specs.Promise.{last_at}
 use Rattle.ahost_tool.specs.declared.reporting.Report.{Report}
-use Rattle.ahost_tool.proofs.Theorems.{Came, bad_of, came, complete_of, end_known, good_of, last_other, last_page, page_of_end, paged, served_ok, unlost, wait_of}
+use Rattle.ahost_tool.proofs.Theorems.{complete_of}
+use Rattle.owner_session.proofs.Theorems.{Came, bad_of, came, end_known, good_of, last_other, last_page, page_of_end, paged, served_ok, unlost, wait_of}
 use Rattle.run_end.specs.Ends.{IsPageEnd}
 use Rattle.run_end.specs.Left.{IsOver}
 use Rattle.ahost_workers.specs.Ends.{ComesAs, IsTurnsEnd}

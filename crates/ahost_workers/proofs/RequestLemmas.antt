@@ -5,7 +5,7 @@ use Rattle.chan_types.specs.Plans.{Plan}
 use Rattle.chan_types.specs.declared.spec.Spec.{Spec}
 use Rattle.channel_model.specs.Commands.{Asking}
 use Rattle.completion_ticket.specs.States.{CallbackState}
-use Rattle.ahost_tool.specs.Asked.{askings}
+use Rattle.owner_session.specs.Asked.{askings}
 use Rattle.ahost_workers.specs.Asked.{callback_of, requests_of}
 use Rattle.shared_session.specs.Asking.{askings as asked_of}
 

@@ -22,7 +22,8 @@ use Rattle.turner_laws.specs.Traffic.{IsTrafficBeside}
 use Rattle.worker_session.specs.declared.coming.Coming.{Coming}
 use Rattle.ahost_tool.specs.Asked.{Asked}
 use Rattle.ahost_tool.specs.Page.{text_at}
-use Rattle.ahost_tool.specs.Promise.{IsComplete, last_at}
+use Rattle.ahost_tool.specs.Promise.{IsComplete}
+use Rattle.owner_session.specs.Promise.{last_at}
 use Rattle.ahost_tool.specs.declared.reporting.Report.{Report}
 use Rattle.run_end.specs.Left.{IsOver}
 use Rattle.ahost_workers.specs.Ends.{ComesAs}

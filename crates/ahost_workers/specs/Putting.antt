@@ -10,7 +10,7 @@ use Rattle.shared_session.specs.declared.task.SessionEnd.{SessionEnd}
 use Rattle.tool_line.specs.Outside.{OutputTold}
 use Rattle.tool_line.specs.Put.{IsPut}
 use Rattle.tool_line.specs.declared.ending.Exit.{Exit}
-use Rattle.ahost_tool.specs.Ends.{IsEndOf}
+use Rattle.owner_session.specs.Ends.{IsEndOf}
 use Rattle.ahost_tool.specs.Page.{text_at}
 use Rattle.ahost_tool.specs.declared.reporting.Report.{Report}
 use Rattle.ahost_workers.specs.Ends.{IsTurnsEnd}

@@ -1,21 +1,16 @@
-use Rattle.std.proofs.Common.{ap, ◌∙◌}
-use Rattle.adig_tool.proofs.PromiseLemmas.{promise_early, promise_of, session_open}
+use Rattle.adig_tool.proofs.PromiseLemmas.{promise_early, promise_of}
 use Rattle.adig_tool.proofs.resolving.resolve.Goals as goal
 
-pub close-requires : goal.close-requires
-close-requires g c = record {
-  undestroyed = session_open c.session-loop_end.new.alone.seen c.session-loop_end.ensures.session.plain;
-  voice = c.session-loop_end.ensures.session.voice ∙ ap (λ alone. alone.voice) c.in-Ok.ensures.made.1;
-}
-
 -- the channel was made
-pub returns-clause-promise : goal.returns-clause-promise
-returns-clause-promise g c =
-    rw (c.into_journal.ensures ∙ c.close-2.ensures)
-    (promise_of _ _ _ _ _ _ _ _ _ _ _ _ (ap (λ alone. alone.setting) c.in-Ok.ensures.made.1) c.session-loop_end.ensures.session c.close.ensures
-    c.in-Ok.ensures.limits.0 c.in-Ok.ensures.limits.1 _ _ _ _ _ _
-    c.end_of-end.ensures c.session-loop_end.ensures.wait_fault _ _ _ c.in-Ok.ensures.made.0 c.new.ensures (c.into_journal.ensures ∙ c.close-2.ensures) c.tell-status.ensures)
+pub returns-in-Ok-bring_to_end-clause-promise : goal.returns-in-Ok-bring_to_end-clause-promise
+returns-in-Ok-bring_to_end-clause-promise g c =
+    promise_of _ _ _ _ c.in-Ok-bring_to_end.ended _ _
+    (rw (c.in-Ok.ensures.specs, c.in-Ok.ensures.bodies, c.in-Ok.ensures.orders, c.in-Ok.ensures.later, c.empty.ensures) at c.in-Ok-bring_to_end.ensures.promise)
+    _ _ _ c.in-Ok-bring_to_end.ensures.options c.new.ensures c.tell-status.ensures
 
 -- memory was wanting for it
+pub returns-clause-promise : goal.returns-clause-promise
+returns-clause-promise g c = rw (c.early-in-Err.ensures, c.number-in-Err.ensures, c.in-Err.ensures.unmade.1) (promise_early _ _ _ _ _)
+
 pub returns-in_default-clause-promise : goal.returns-in_default-clause-promise
 returns-in_default-clause-promise g c = rw (c.early.ensures, c.number.ensures) (promise_early _ _ _ _ _)

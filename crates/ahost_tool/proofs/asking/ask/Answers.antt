@@ -1,6 +1,6 @@
 use Rattle.std.proofs.Common.{None, ap}
 use Rattle.tool_line.proofs.FileLemmas.{failed_apart, large_apart}
-use Rattle.ahost_tool.proofs.PlaceLemmas.{none_back}
+use Rattle.owner_session.proofs.Theorems.{none_back}
 use Rattle.ahost_tool.proofs.RunningLemmas.{fault_run, good_run, wanting_run}
 use Rattle.ahost_tool.proofs.asking.ask.Goals as goal
 
@@ -8,7 +8,7 @@ use Rattle.ahost_tool.proofs.asking.ask.Goals as goal
 pub returns-in-Ok-clause-promise : goal.returns-in-Ok-clause-promise
 returns-in-Ok-clause-promise g c =
     good_run c.args.asked _ c.args.turns _ _ _ _ c.as_str.ensures.value c.as_str-2.ensures.value _ _ _ c.in-Ok.options c.in-Ok.hosts c.in-Ok.bytes c.in-Ok.ensures.reads
-    (rw c.report_for.ensures at c.resolve.ensures.promise)
+    (rw (c.report_for.ensures, c.into_vec.ensures) at c.resolve.ensures.promise)
 
 -- ---- a file that can't be read
 

@@ -1,12 +1,12 @@
 use Rattle.std.proofs.Common.{ap, subst}
 use Rattle.test_nameserver.specs.PeerLog.{IsLogOf}
 use Rattle.ahost_tool.proofs.LoadingLemmas.{early_load, load_run}
-use Rattle.ahost_tool.proofs.PlaceLemmas.{none_back}
+use Rattle.owner_session.proofs.Theorems.{none_back}
 use Rattle.ahost_tool.proofs.loading.load.Goals as goal
 
 -- the network was made
 pub returns-clause-load : goal.returns-clause-load
-returns-clause-load g c = load_run c.args.load _ c.args.turns _ _ _ _ _ c.resolve-run.new.world _ _ c.in-Ok.ensures.0 c.in-Ok.ensures.1 c.in-Ok.ensures.2 c.empty.ensures c.resolve-run.ensures.promise c.resolve-run.ensures.origin
+returns-clause-load g c = load_run c.args.load _ c.args.turns _ _ _ _ _ c.resolve-run.new.world _ _ c.in-Ok.ensures.0 c.in-Ok.ensures.1 c.in-Ok.ensures.2 c.empty.ensures (rw c.into_vec.ensures at c.resolve-run.ensures.promise) c.resolve-run.ensures.origin
     (subst (IsLogOf c.resolve-run.new.world.zone c.resolve-run.new.world.seed) c.log.ensures.told c.log.ensures.made)
 
 -- memory was wanting for it

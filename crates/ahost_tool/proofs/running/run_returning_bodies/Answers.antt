@@ -1,7 +1,7 @@
 use Rattle.std.proofs.Common.{Err, None, ◌∙◌, ap, refl}
 use Rattle.ahost_tool.proofs.LaterLemmas.{asked_few}
 use Rattle.ahost_tool.proofs.LoadingLemmas.{asked_within, early_load, of_each}
-use Rattle.ahost_tool.proofs.PlaceLemmas.{none_back}
+use Rattle.owner_session.proofs.Theorems.{none_back}
 use Rattle.ahost_tool.proofs.RunningLemmas.{early_run, same_load, same_none, same_run, served_so, unserved}
 use Rattle.ahost_tool.proofs.running.run_returning_bodies.Goals as goal
 

@@ -1,5 +1,5 @@
 use Rattle.std.proofs.Common.{◌≡◌, ◌∙◌, All, None, ap, arith, length, subst, sym}
-use Rattle.ahost_tool.proofs.AcceptLemmas.{each_behind}
+use Rattle.owner_session.proofs.Theorems.{each_behind}
 use Rattle.ahost_workers.proofs.RequestLemmas.{first_fresh, no_body, no_spec, none_left, one_more, whole_left}
 use Rattle.ahost_workers.proofs.requests.with_callbacks.Goals as goal
 

@@ -1,0 +1,9 @@
+pub mod Kinds
+pub mod Asked
+pub mod Places
+pub mod Delivering
+pub mod Closing
+pub mod Session
+pub mod Returning
+pub mod Ends
+pub mod Promise
