@@ -1,7 +1,10 @@
 #!/usr/bin/env bash
-# adig, ahost, ahost --load and tns with little memory: `ulimit -v` from 8 MB to 200 MB in 40 steps, and the tools also in 40 steps of
-# 25 KB from what their loader wants. Each run has to end with its page and status, as without a limit, or with status 5 (want of
-# memory), what it put being the front of its page then; never by a signal. Nothing leaves a loopback of its own.
+# adig, ahost, ahost --load, ahost --workers and tns with little memory: `ulimit -v` from 8 MB to 200 MB in 40 steps, and the tools also
+# in 40 steps of 25 KB from what their loader wants. Each run has to end with its page and status, as without a limit, or with status 5
+# (want of memory), what it put being the front of its page then; never by a signal. Nothing leaves a loopback of its own.
+#
+# A thread wants its stack, which is 8 MB by default: so with workers the limits are tried as they are, and once more with stacks of
+# 128 KB, where threads are started at each of them. A run that doesn't end within a minute counts as one that ended otherwise.
 # Build first: (cd crates/adig && rt run), and so ahost and tns. Usage: bench/limits.sh [ADIG [AHOST [TNS]]]
 set -euo pipefail
 cd "$(dirname "$0")/.."
@@ -21,13 +24,17 @@ done > "$work/zone"
 asked=(--resolv /dev/null --server 127.0.0.1 --port "$port")
 mapfile -t names < <(seq -f 'h%.0f.test' 0 199)
 found=0
+# how large the stack of a thread is, and whether the limits near what the loader wants are tried too
+stack=8388608
+near=yes
 
-# limited KB PROGRAM WORDS: runs the program with so many KB of memory, and puts its page in a file; its status is the program's
+# limited KB PROGRAM WORDS: runs the program with so many KB of memory, and puts its page in a file; its status is the program's, or 124
+# where it doesn't end
 limited() {
   local memory=$1
   shift
   [ "$memory" = unlimited ] || memory=$((memory * 1000))
-  timeout 60 prlimit --core=0 --as="$memory" "$@" > "$work/page" 2> "$work/page.error"
+  timeout 60 prlimit --core=0 --stack="$stack" --as="$memory" "$@" > "$work/page" 2> "$work/page.error"
 }
 
 # limits: the 40 of them, in KB
@@ -81,7 +88,7 @@ try() {
   if [ "$wanted" -ge 2 ]; then
     fails "$what" unlimited
   fi
-  for memory in $(narrow "$1") $(limits); do
+  for memory in $([ -z "$near" ] || narrow "$1") $(limits); do
     status=0
     limited "$memory" "$@" || status=$?
     told "$work/page" > "$work/told"
@@ -134,6 +141,14 @@ try adig "$adig" "${asked[@]}" h7.test
 try 'adig, over TCP' "$adig" "${asked[@]}" --tcp h7.test
 try ahost "$ahost" "${asked[@]}" --hosts /dev/null --family 4 --no-sort "${names[@]}"
 try 'ahost --load 4096' "$ahost" --load 4096
+stack=131072
+try 'ahost --workers 2, small stacks' "$ahost" "${asked[@]}" --hosts /dev/null --family 4 --no-sort --workers 2 "${names[@]}"
+try 'ahost --load 4096 --workers 2, small stacks' "$ahost" --load 4096 --workers 2
+try 'ahost --load 12 --workers 4, small stacks' "$ahost" --load 12 --workers 4
+stack=8388608
+near=
+try 'ahost --workers 2' "$ahost" "${asked[@]}" --hosts /dev/null --family 4 --no-sort --workers 2 "${names[@]}"
+try 'ahost --load 4096 --workers 2' "$ahost" --load 4096 --workers 2
 try_tns
 echo "$found runs ended otherwise"
 [ "$found" -eq 0 ]

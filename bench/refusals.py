@@ -5,13 +5,17 @@ In channel_runs a call of the channel that is refused has to leave its counts as
 (crates/channel_runs/src/tests/making.rt), so that the test passes with the same answers and the same journal. In adig_faults and
 ahost_faults the tests of `wanting` are whole runs of the tools: a refused run has to end with status 5 and an empty page, and to have
 called each request that it had accepted once, which it tells by an error of its own name. What is refused to a test itself ends it
-with an error of that name, which says nothing. The tools themselves are run against tns on loopback, in a network of its own: each run
-ends with status 5 and puts nothing, or it is whole, with its page and its status. Anything else is a finding, and the status is then 1.
+with an error of that name, which says nothing.
+
+The tools themselves are run against tns on loopback, in a network of its own: each run ends with status 5 and puts nothing, or it is
+whole, with its page and its status. Of a whole run with --journal areplay has to tell what it tells of the run to which nothing was
+refused, and each request that was accepted was taken once. Anything else is a finding, as is a run that doesn't end within a minute,
+and the status is then 1. With workers two runs needn't make the same allocations: as many are tried as the longest of five runs made.
 
 Left out are `queries_are_spelled`, which calls the channel itself and makes nothing once more, and tests of very many allocations.
 
-Build first, by `rt test` in crates/channel_runs, adig_faults and ahost_faults, and `rt run` in crates/adig, ahost and tns; or name a
-folder that has the six programs. What isn't there is passed over, and said. It wants a C compiler and unshare.
+Build first, by `rt test` in crates/channel_runs, adig_faults and ahost_faults, and `rt run` in crates/adig, ahost, areplay and tns; or
+name a folder that has the seven programs. What isn't there is passed over, and said. It wants a C compiler and unshare.
 Usage: bench/refusals.py [FOLDER]
 """
 import os, re, subprocess, sys, tempfile, time
@@ -24,6 +28,8 @@ OWN_WANT = ("error: NoMemory", "error: AllocError", "error: AllocFailed", "error
 RUN_WANT = "error: RunWantedMemory"
 # the crates with tests that are tried, and how the names of these tests begin
 TESTS = (("channel_runs", "tests::"), ("adig_faults", "tests::wanting::"), ("ahost_faults", "tests::wanting::"))
+TOOLS = ("adig", "ahost", "areplay", "tns")
+ZONE = "www.example. 300 A 192.0.2.1\nwww.example. 300 AAAA 2001:db8::1\nalias.example. 300 CNAME www.example.\n"
 
 
 def program_of(name):
@@ -39,15 +45,20 @@ def is_there(name):
 
 
 def run(words, folder, number):
+    """A run to which the allocation of this number is refused, or none for 0."""
     env = dict(os.environ, LD_PRELOAD=f"{folder}/refuse.so", REFUSE=str(number))
-    return subprocess.run(words, env=env, stdin=subprocess.DEVNULL, capture_output=True, timeout=60)
+    try:
+        return subprocess.run(words, env=env, stdin=subprocess.DEVNULL, capture_output=True, timeout=60)
+    except subprocess.TimeoutExpired:
+        return subprocess.CompletedProcess(words, "no end", b"", b"")
 
 
-def allocations(words, folder):
-    """How many allocations a run makes to which nothing is refused."""
+def allocations(words, folder, runs=1):
+    """How many allocations a run makes to which nothing is refused, at most."""
     env = dict(os.environ, LD_PRELOAD=f"{folder}/refuse.so", REFUSE_TELLS="1")
     words = ["sh", "-c", 'exec "$0" "$@" 3>&1 >/dev/null 2>/dev/null', *words]
-    return int(subprocess.run(words, env=env, stdin=subprocess.DEVNULL, capture_output=True, text=True).stdout)
+    made = [subprocess.run(words, env=env, stdin=subprocess.DEVNULL, capture_output=True, text=True) for _ in range(runs)]
+    return max(int(one.stdout) for one in made)
 
 
 def try_tests(crate, front, folder):
@@ -79,28 +90,49 @@ def try_tests(crate, front, folder):
     return found, passed + ended
 
 
+def runs_of(what):
+    """How often the allocations of what has threads are counted."""
+    return 5 if "workers" in what else 1
+
+
 def told(page):
     """A page without its identifier, which is drawn by chance."""
     return re.sub(rb"^;; id \d+ ", b";; id ", page, flags=re.M)
 
 
+def replayed(journal, folder):
+    """What areplay tells of a journal's requests, and whether each that was accepted was taken once. Its first line has how many entries
+    there are, which is by chance."""
+    with open(f"{folder}/journal", "wb") as file:
+        file.write(journal)
+    ran = subprocess.run([program_of("areplay"), f"{folder}/journal"], stdin=subprocess.DEVNULL, capture_output=True)
+    entries = [line.split() for line in journal.splitlines()]
+    numbers = [sorted(entry[3] for entry in entries if entry[2:3] == [word]) for word in (b"accept", b"take")]
+    return ran.returncode, ran.stdout.split(b"\n", 1)[1:], numbers[0] == numbers[1], len(numbers[0])
+
+
 def try_tool(words, folder):
     """How many findings there are in the runs of a tool, and how many runs there were."""
     line = " ".join([os.path.basename(words[0]), *words[1:]])
+    reads = (lambda put: replayed(put, folder)) if "--journal" in words else told
     plain = run(words, folder, 0)
-    wants = allocations(words, folder)
+    page = reads(plain.stdout)
+    if plain.returncode not in (0, 1, 2) or ("--journal" in words and (page[0] != 0 or not page[2] or not page[3])):
+        print(f"{line}: {plain.returncode} {page} with nothing refused")
+        return 1, 0
+    wants = allocations(words, folder, runs_of(line))
     whole = short = found = 0
     if wants > MOST:
         print(f"{line}: {wants} allocations, of which the first {MOST} are tried")
     for number in range(1, min(wants, MOST) + 1):
         tried = run(words, folder, number)
-        if tried.returncode == plain.returncode and told(tried.stdout) == told(plain.stdout):
-            whole += 1
-        elif tried.returncode == 5 and tried.stdout == b"":
+        if tried.returncode == 5 and tried.stdout == b"":
             short += 1
+        elif tried.returncode == plain.returncode and reads(tried.stdout) == page:
+            whole += 1
         else:
             found += 1
-            print(f"{line}, allocation {number}: {tried.returncode} {tried.stdout[:200]!r} {tried.stderr[:200]!r}")
+            print(f"{line}, allocation {number}: {tried.returncode} {tried.stdout[:200]!r} {tried.stderr[:200]!r}", flush=True)
     print(f"{line}: {wants} allocations; {short} runs ended with 5, {whole} were whole with {plain.returncode}, {found} findings", flush=True)
     return found, whole + short
 
@@ -116,20 +148,29 @@ def await_answer(words):
 def try_tools(folder):
     """The same of the tools."""
     with open(f"{folder}/zone", "w") as zone:
-        zone.write("www.example. 300 A 192.0.2.1\nwww.example. 300 AAAA 2001:db8::1\nalias.example. 300 CNAME www.example.\n")
+        zone.write(ZONE)
     words = [program_of("tns"), "--port", PORT, "--zone", f"{folder}/zone", "--count", "65535"]
     server = subprocess.Popen(words, stdout=subprocess.DEVNULL, stderr=subprocess.DEVNULL)
     asked = ["--resolv", "/dev/null", "--server", "127.0.0.1", "--port", PORT]
+    hosts = ["--hosts", "/dev/null"]
     adig, ahost = program_of("adig"), program_of("ahost")
     tried = [
         [adig, *asked, "www.example"],
         [adig, *asked, "--tcp", "alias.example"],
         [adig, "--no-such-option"],
-        [ahost, *asked, "--hosts", "/dev/null", "www.example", "192.0.2.9"],
+        [ahost, *asked, *hosts, "www.example", "192.0.2.9"],
+        [ahost, *asked, *hosts, "--journal", "--follow", "www.example", "192.0.2.9"],
         [ahost, "--load", "12"],
+        [ahost, *asked, *hosts, "--workers", "2", "www.example", "192.0.2.9"],
+        [ahost, *asked, *hosts, "--workers", "2", "--journal", "--follow", "www.example", "192.0.2.9"],
+        [ahost, "--load", "12", "--workers", "2"],
+        [ahost, "--load", "12", "--workers", "4"],
+        [program_of("areplay"), f"{folder}/run"],
     ]
     try:
         await_answer(tried[0])
+        with open(f"{folder}/run", "wb") as file:
+            file.write(run(tried[4], folder, 0).stdout)
         return [try_tool(words, folder) for words in tried]
     finally:
         server.kill()
@@ -146,7 +187,7 @@ def main():
         for crate, front in TESTS:
             if is_there(f"{crate}_tests"):
                 all_tried.append(try_tests(crate, front, folder))
-        if all([is_there(name) for name in ("adig", "ahost", "tns")]):
+        if all([is_there(name) for name in TOOLS]):
             all_tried += try_tools(folder)
     found = sum(found for found, _ in all_tried)
     print(f"{found} findings")

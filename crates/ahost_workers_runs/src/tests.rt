@@ -10,6 +10,7 @@ mod playing;
 mod reentry;
 mod statuses;
 mod still;
+mod wanting;
 
 /// How many workers each run is tried with.
 const WORKERS: [u64; 3] = [1, 2, 4];

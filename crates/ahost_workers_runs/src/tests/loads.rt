@@ -9,14 +9,14 @@ use ahost_workers::run_boxed_with_workers;
 use chan_types::Script;
 use completion_ticket::{Done, Scripted};
 use net_world::MemSink;
-use scenario::words_of;
+use scenario::{is_called_once, words_of};
 use std::alloc::Global;
 use std::sync::Wait;
 use std::test::*;
 use std::thread::Threads;
 
 /// The summary of twelve names: every fourth isn't there, and one first query in three is lost.
-const TWELVE: &str = "load 12 seed 0
+pub const TWELVE: &str = "load 12 seed 0
 accepted 12
 called 12
 good 9
@@ -47,7 +47,7 @@ expires 1
 
 /// What a load leaves with so many workers, and with so many bodies that command nothing. A read of a file would be refused:
 /// there is none.
-fn loaded<R: Threads + Wait + Sync>(
+pub fn loaded<R: Threads + Wait + Sync>(
     rt: &R,
     alloc: Global,
     line: &str,
@@ -97,6 +97,7 @@ fn loaded_boxed<R: Threads + Wait + Sync>(
     Ok(Played {
         status: ended.status,
         put: sink.bytes().to_vec(alloc)?,
+        called: is_called_once(ended.journal.entries(), &ended.calls),
     })
 }
 

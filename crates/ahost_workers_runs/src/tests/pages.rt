@@ -11,13 +11,13 @@ use std::thread::Threads;
 
 /// A run with these bodies, over a network on which time stands still or over that of its scenario, and what it has to leave.
 #[derive(Clone, Copy)]
-struct Row {
+pub struct Row {
     shows: &'static str,
     run: Scenario<'static>,
     deeds: &'static [&'static [Deed]],
     still: bool,
-    status: u8,
-    put: &'static str,
+    pub status: u8,
+    pub put: &'static str,
 }
 
 /// A hosts file and a resolv.conf as systems write them.
@@ -37,6 +37,41 @@ const SIX: &[u8] =
 /// A reply to `1.2.0.192.in-addr.arpa.` PTR: `host.test.`, for 60 seconds (RFC 1035, section 3.3.12).
 const POINTER: &[u8] =
     b"\x12\x34\x81\x80\0\x01\0\x01\0\0\0\0\x011\x012\x010\x03192\x07in-addr\x04arpa\0\0\x0c\0\x01\xc0\x0c\0\x0c\0\x01\0\0\0\x3c\0\x0b\x04host\x04test\0";
+
+/// An address completes at once, and its callback asks for its names.
+pub const FOLLOWED: Row = Row {
+    shows: "names of an address are followed",
+    run: Scenario {
+        line: "--server 192.0.2.53 --no-edns --follow 192.0.2.1",
+        replies: &[POINTER],
+        ..RUN
+    },
+    deeds: &[&[Deed::Follow]],
+    still: false,
+    status: 0,
+    put: "192.0.2.1 0 SUCCESS
+  192.0.2.1
+  192.0.2.1 0 SUCCESS
+    1.2.0.192.in-addr.arpa. 60 IN PTR host.test.
+",
+};
+
+/// The callback of the first name destroys the channel and asks again.
+pub const DESTROYED: Row = Row {
+    shows: "a destroyed channel refuses, and the others end with it",
+    run: Scenario {
+        line: "--server 192.0.2.53 --no-edns --family 4 x.test. y.test. z.test.",
+        ..RUN
+    },
+    deeds: &[&[Deed::Destroy, Deed::Ask], &[], &[]],
+    still: true,
+    status: 1,
+    put: "x.test. 0 SUCCESS
+  192.0.2.1
+y.test. 16 EDESTRUCTION
+z.test. 16 EDESTRUCTION
+",
+};
 
 const ROWS: &[Row] = &[
     Row {
@@ -88,22 +123,7 @@ const ROWS: &[Row] = &[
         status: 0,
         put: "www.example.test. 0 SUCCESS\n  192.0.2.1\n",
     },
-    Row {
-        shows: "names of an address are followed",
-        run: Scenario {
-            line: "--server 192.0.2.53 --no-edns --follow 192.0.2.1",
-            replies: &[POINTER],
-            ..RUN
-        },
-        deeds: &[&[Deed::Follow]],
-        still: false,
-        status: 0,
-        put: "192.0.2.1 0 SUCCESS
-  192.0.2.1
-  192.0.2.1 0 SUCCESS
-    1.2.0.192.in-addr.arpa. 60 IN PTR host.test.
-",
-    },
+    FOLLOWED,
     Row {
         shows: "what is asked behind a cancel isn't cancelled",
         run: Scenario {
@@ -122,25 +142,11 @@ z.test. 24 ECANCELLED
   192.0.2.1
 ",
     },
-    Row {
-        shows: "a destroyed channel refuses, and the others end with it",
-        run: Scenario {
-            line: "--server 192.0.2.53 --no-edns --family 4 x.test. y.test. z.test.",
-            ..RUN
-        },
-        deeds: &[&[Deed::Destroy, Deed::Ask], &[], &[]],
-        still: true,
-        status: 1,
-        put: "x.test. 0 SUCCESS
-  192.0.2.1
-y.test. 16 EDESTRUCTION
-z.test. 16 EDESTRUCTION
-",
-    },
+    DESTROYED,
 ];
 
 /// What a row leaves with so many workers, and with these options before its words.
-fn play_row<R: Threads + Wait + Sync>(
+pub fn play_row<R: Threads + Wait + Sync>(
     rt: &R,
     alloc: Global,
     row: &Row,

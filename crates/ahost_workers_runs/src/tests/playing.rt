@@ -6,7 +6,7 @@ use ahost_workers::run_with_workers;
 use completion_ticket::Done;
 use item_list::Bytes;
 use net_world::{MemFiles, MemSink, ScriptWorld, World};
-use scenario::{Coming, items_of, words_of};
+use scenario::{Coming, is_called_once, items_of, words_of};
 use std::alloc::Global;
 use std::collections::BTreeMap;
 use std::sync::Wait;
@@ -44,17 +44,18 @@ pub const RUN: Scenario<'static> = Scenario {
     turns: 1_000_000,
 };
 
-/// What a run leaves: its exit status, and what it put.
+/// What a run leaves: its exit status, what it put, and whether each request that it had accepted was called once.
 #[derive(Drop)]
 pub struct Played {
     pub status: u8,
     pub put: Vec<u8>,
+    pub called: bool,
 }
 
 impl Played {
-    /// Whether a run left this.
+    /// Whether a run left this, and called each request that it had accepted once.
     pub fn is(&self, status: u8, put: &str) -> bool {
-        self.status == status && self.put.as_slice() == put.as_bytes()
+        self.called && self.status == status && self.put.as_slice() == put.as_bytes()
     }
 }
 
@@ -101,6 +102,7 @@ pub fn ended<B: Done + Drop + Send, W: World + Drop + Send, R: Threads + Wait + 
     Ok(Played {
         status: ended.status,
         put: sink.bytes().to_vec(alloc)?,
+        called: is_called_once(ended.journal.entries(), &ended.calls),
     })
 }
 
