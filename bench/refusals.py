@@ -2,10 +2,10 @@
 """Refuses memory once in each of many runs: at the run's first allocation, at its second, and so on.
 
 In channel_runs a call of the channel that is refused has to leave its counts as they were, and to succeed when it is made once more
-(crates/channel_runs/src/tests/making.rt), so that the test passes with the same answers and the same journal. In adig_faults and
-ahost_faults the tests of `wanting` are whole runs of the tools: a refused run has to end with status 5 and an empty page, and to have
-called each request that it had accepted once, which it tells by an error of its own name. What is refused to a test itself ends it
-with an error of that name, which says nothing.
+(crates/channel_runs/src/tests/making.rt), so that the test passes with the same answers and the same journal. In adig_faults,
+ahost_faults and ahost_workers_runs the tests of `wanting` are whole runs of the tools: a refused run has to end with status 5 and an
+empty page, and to have called each request that it had accepted once, which it tells by an error of its own name. What is refused to a
+test itself ends it with an error of that name, which says nothing.
 
 The tools themselves are run against tns on loopback, in a network of its own: each run ends with status 5 and puts nothing, or it is
 whole, with its page and its status. Of a whole run with --journal areplay has to tell what it tells of the run to which nothing was
@@ -14,9 +14,9 @@ and the status is then 1. With workers two runs needn't make the same allocation
 
 Left out are `queries_are_spelled`, which calls the channel itself and makes nothing once more, and tests of very many allocations.
 
-Build first, by `rt test` in crates/channel_runs, adig_faults and ahost_faults, and `rt run` in crates/adig, ahost, areplay and tns; or
-name a folder that has the seven programs. What isn't there is passed over, and said. It wants a C compiler and unshare.
-Usage: bench/refusals.py [FOLDER]
+Build first, by `rt test` in crates/channel_runs, adig_faults, ahost_faults and ahost_workers_runs, and `rt run` in crates/adig, ahost,
+areplay and tns; or name a folder that has the eight programs. What isn't there is passed over, and said. It wants a C compiler and
+unshare. Usage: bench/refusals.py [FOLDER]
 """
 import os, re, subprocess, sys, tempfile, time
 
@@ -27,7 +27,12 @@ BY_ITSELF = ("tests::asking::queries_are_spelled",)
 OWN_WANT = ("error: NoMemory", "error: AllocError", "error: AllocFailed", "error: Error")
 RUN_WANT = "error: RunWantedMemory"
 # the crates with tests that are tried, and how the names of these tests begin
-TESTS = (("channel_runs", "tests::"), ("adig_faults", "tests::wanting::"), ("ahost_faults", "tests::wanting::"))
+TESTS = (
+    ("channel_runs", "tests::"),
+    ("adig_faults", "tests::wanting::"),
+    ("ahost_faults", "tests::wanting::"),
+    ("ahost_workers_runs", "tests::wanting::"),
+)
 TOOLS = ("adig", "ahost", "areplay", "tns")
 ZONE = "www.example. 300 A 192.0.2.1\nwww.example. 300 AAAA 2001:db8::1\nalias.example. 300 CNAME www.example.\n"
 
@@ -69,7 +74,7 @@ def try_tests(crate, front, folder):
     tests = [test for test in tests if test.startswith(front) and test not in BY_ITSELF]
     passed = ended = own = found = 0
     for test in tests:
-        wants = allocations([program, test], folder)
+        wants = allocations([program, test], folder, runs_of(crate))
         if wants > MOST:
             print(f"{crate} {test}: {wants} allocations, left out")
             continue
