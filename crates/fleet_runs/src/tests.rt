@@ -1,6 +1,8 @@
-//! A fleet that is made, used and ended.
+//! A fleet that is made, used, served and ended.
 
 mod calls;
+mod network;
 mod routes;
+mod serves;
 mod steers;
 mod uses;
