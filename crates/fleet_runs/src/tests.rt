@@ -1,8 +1,6 @@
-//! A fleet that is made, used, served and ended.
+//! A fleet that is made, used and ended.
 
 mod calls;
-mod network;
 mod routes;
-mod serves;
 mod steers;
 mod uses;

@@ -1,7 +1,6 @@
 //! Calls of a fleet, as rows with what each has to answer.
 
 ghost use Rattle.std.specs.Prelude.{◌≡◌, ◌<◌, length};
-ghost use Rattle.channel_fleet.specs.Fronts.{UsesEach};
 ghost use Rattle.channel_fleet.specs.Staying.{BerthsStay};
 ghost use Rattle.channel_fleet.specs.Views.{IsAtFleet};
 
@@ -37,7 +36,7 @@ fn look_up(alloc: Global, host: &[u8]) -> Result<Spec, NoMemory> {
 }
 
 /// Looks up a host.
-#[tactic(auto, using(channel_fleet::proofs::Theorems::uses_ask, channel_fleet::proofs::Theorems::uses_none))]
+#[tactic(auto, using(channel_fleet::proofs::Theorems::stays_ask, channel_fleet::proofs::Theorems::berths_stay_none))]
 fn looked<R: Wait>(
     rt: &R,
     alloc: Global,
@@ -46,7 +45,7 @@ fn looked<R: Wait>(
     host: &[u8],
 ) -> Answer
     requires { IsAtFleet fleet.now pass.old }
-    ensures { UsesEach pass.old pass.new }
+    ensures { BerthsStay pass.old pass.new }
 {
     let Ok(spec) = look_up(alloc, host) else {
         return None;
@@ -58,28 +57,28 @@ fn looked<R: Wait>(
 }
 
 /// Cancels.
-#[tactic(auto, using(channel_fleet::proofs::Theorems::uses_cancels))]
+#[tactic(auto, using(channel_fleet::proofs::Theorems::stays_cancels))]
 fn cancelled<R: Wait>(rt: &R, fleet: &Fleet<Scripted>, pass: &mut FleetPass<Scripted>) -> Answer
     requires { IsAtFleet fleet.now pass.old }
-    ensures { UsesEach pass.old pass.new }
+    ensures { BerthsStay pass.old pass.new }
 {
     Some((fleet.cancel(rt, pass), 0))
 }
 
 /// Destroys.
-#[tactic(auto, using(channel_fleet::proofs::Theorems::uses_destroys))]
+#[tactic(auto, using(channel_fleet::proofs::Theorems::stays_destroys))]
 fn destroyed<R: Wait>(rt: &R, fleet: &Fleet<Scripted>, pass: &mut FleetPass<Scripted>) -> Answer
     requires { IsAtFleet fleet.now pass.old }
-    ensures { UsesEach pass.old pass.new }
+    ensures { BerthsStay pass.old pass.new }
 {
     Some((fleet.destroy(rt, pass), 0))
 }
 
 /// Reads the counts of a channel, if the fleet has it.
-#[tactic(auto, using(channel_fleet::proofs::Theorems::uses_show, channel_fleet::proofs::Theorems::uses_none))]
-pub fn shown(fleet: &Fleet<Scripted>, pass: &mut FleetPass<Scripted>, channel: u64) -> Answer
+#[tactic(auto, using(channel_fleet::proofs::Theorems::stays_show, channel_fleet::proofs::Theorems::berths_stay_none))]
+fn shown(fleet: &Fleet<Scripted>, pass: &mut FleetPass<Scripted>, channel: u64) -> Answer
     requires { IsAtFleet fleet.now pass.old }
-    ensures { UsesEach pass.old pass.new }
+    ensures { BerthsStay pass.old pass.new }
 {
     if channel >= fleet.channels() {
         return None;
@@ -97,7 +96,7 @@ fn done<R: Wait>(
     deed: Deed,
 ) -> Answer
     requires { IsAtFleet fleet.now pass.old }
-    ensures { UsesEach pass.old pass.new }
+    ensures { BerthsStay pass.old pass.new }
 {
     match deed {
         Deed::Look(host) => looked(rt, alloc, fleet, pass, host),
@@ -116,7 +115,6 @@ pub fn all_as_said<R: Wait>(
     rows: &[(Deed, Answer)],
 ) -> bool
     requires { IsAtFleet fleet.now pass.old }
-    ensures uses { UsesEach pass.old pass.new }
     ensures stay { BerthsStay pass.old pass.new }
     ensures at { IsAtFleet fleet.now pass.new }
 {

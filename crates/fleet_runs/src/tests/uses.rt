@@ -57,7 +57,7 @@ pub fn plain_setup(alloc: Global) -> Result<Setup, NoMemory> {
 }
 
 /// Two channels with the default options and without hosts.
-pub fn setups(alloc: Global) -> Result<Vec<Setup>, NoMemory>
+fn setups(alloc: Global) -> Result<Vec<Setup>, NoMemory>
     ensures { IfOk result (λ setups. vec_len setups ≡ 2) }
 {
     let mut setups = Vec::new(alloc);
